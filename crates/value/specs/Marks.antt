@@ -1,0 +1,32 @@
+-- The marks of expressions: document 01, "Values and expressions", the table of marks.
+use Prim.Native.Nat.{ℕ}
+use mathlib.Core.List.{List, [], _∷_}
+use Rattle.value.specs.Values.{One, not, neg, Two, add, sub, mul, less, equal, and}
+
+-- "10, 11, 12: add, subtract, multiply; 13 less; 14 equal; 15 and"
+abbrev pub mark₂ : Two → ℕ
+mark₂ add = 0x10
+mark₂ sub = 0x11
+mark₂ mul = 0x12
+mark₂ less = 0x13
+mark₂ equal = 0x14
+mark₂ and = 0x15
+
+-- "16, 17: not, negate"
+abbrev pub mark₁ : One → ℕ
+mark₁ not = 0x16
+mark₁ neg = 0x17
+
+-- what a mark byte begins
+pub data Mark : Type 0 where
+  wholeMark locationMark noMark yesMark localMark : Mark
+  oneMark : One → Mark
+  twoMark : Two → Mark
+  noExpr : Mark
+
+-- by the byte, 00 to 17
+abbrev pub marks : List Mark
+marks =
+    noExpr ∷ wholeMark ∷ locationMark ∷ noMark ∷ yesMark ∷ localMark ∷ noExpr ∷ noExpr ∷
+    noExpr ∷ noExpr ∷ noExpr ∷ noExpr ∷ noExpr ∷ noExpr ∷ noExpr ∷ noExpr ∷
+    twoMark add ∷ twoMark sub ∷ twoMark mul ∷ twoMark less ∷ twoMark equal ∷ twoMark and ∷ oneMark not ∷ oneMark neg ∷ []
