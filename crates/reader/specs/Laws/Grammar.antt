@@ -51,7 +51,7 @@ shift {t} {bs = bs} {j} s e = subst (λ i. Stands t i bs j) e s
 -- ---- expressions, by their marks
 
 -- an expression has a byte
-expr-long : (e : Expr) → 1 ≤ length (E.expr e)
+pub expr-long : (e : Expr) → 1 ≤ length (E.expr e)
 expr-long (constant (Whole z)) = omega arith
 expr-long (constant (Location l)) = omega arith
 expr-long (constant (Truth true)) = omega arith
@@ -61,11 +61,11 @@ expr-long (one o a) = omega arith
 expr-long (two o a b) = omega arith
 
 -- so has an instruction
-instr-long : {A : Type 0} (s : Instr A) → 1 ≤ length (E.instr s)
+pub instr-long : {A : Type 0} (s : Instr A) → 1 ≤ length (E.instr s)
 instr-long s = let start : (m : ℕ) × (ops : List ℕ) × (E.instr s ≡ suc m ∷ ops) = begins s in rw (start .2) (omega arith)
 
 -- and a block
-block-long : {A : Type 0} (b : Block A) → 1 ≤ length (E.block b)
+pub block-long : {A : Type 0} (b : Block A) → 1 ≤ length (E.block b)
 block-long end = omega arith
 block-long (step a s b) = omega (arith, length-append (E.instr s) (E.block b), instr-long s)
 
