@@ -16,10 +16,9 @@ use Rattle.reader.specs.Syntax.{Expr, constant, local, one, two, Instr, 
 abbrev pub twoAt : List ℕ → ℕ → ℕ
 twoAt t i = getD t i 0 + 256 * getD t (i + 1) 0
 
--- the token whose mark stands at i
-unfoldable pub tokenAt : List ℕ → ℕ → Token
-tokenAt t i =
-    let m : ℕ = getD t i 0 in
+-- the token at i, by its mark
+abbrev pub tokenOf : ℕ → List ℕ → ℕ → Token
+tokenOf m t i =
     pick (eqb m 0x00) T.Stop
     (pick (eqb m 0x02) (T.Location (twoAt t (i + 1)))
     (pick (eqb m 0x05) (T.Local (getD t (i + 1) 0))
@@ -33,13 +32,21 @@ tokenAt t i =
     (pick (eqb m 0x27) (T.Select (twoAt t (i + 1)) (twoAt t (i + 3)))
     T.Plain))))))))))
 
+-- and by the byte there
+unfoldable pub tokenAt : List ℕ → ℕ → Token
+tokenAt t i = tokenOf (getD t i 0) t i
+
 -- how many bytes a token has, by its mark 00 to 27
 abbrev pub sizes : List ℕ
 sizes = 1 ∷ 5 ∷ 3 ∷ 1 ∷ 1 ∷ 2 ∷ replicate 26 1 ++ (2 ∷ 2 ∷ 3 ∷ 1 ∷ 1 ∷ 4 ∷ 1 ∷ 5 ∷ [])
 
--- of the token whose mark stands at i
+-- by any mark
+abbrev pub sizeOf : ℕ → ℕ
+sizeOf m = pick (ltb m 0x28) (getD sizes m 0) 1
+
+-- and by the byte at i
 unfoldable pub sizeAt : List ℕ → ℕ → ℕ
-sizeAt t i = pick (ltb (getD t i 0) 0x28) (getD sizes (getD t i 0) 0) 1
+sizeAt t i = sizeOf (getD t i 0)
 
 -- ---- of programs
 
