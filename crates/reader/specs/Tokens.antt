@@ -16,6 +16,10 @@ use Rattle.reader.specs.Syntax.{Expr, constant, local, one, two, Instr, 
 abbrev pub twoAt : List ℕ → ℕ → ℕ
 twoAt t i = getD t i 0 + 256 * getD t (i + 1) 0
 
+-- of four
+abbrev pub fourAt : List ℕ → ℕ → ℕ
+fourAt t i = twoAt t i + 65536 * twoAt t (i + 2)
+
 -- the token at i, by its mark
 abbrev pub tokenOf : ℕ → List ℕ → ℕ → Token
 tokenOf m t i =

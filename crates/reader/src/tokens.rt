@@ -1,8 +1,9 @@
 // The code part of a table as a flat row of tokens: each mark with the numbers that follow it.
 ghost use mathlib.Core.Path.{_≡_};
-ghost use Prim.Native.Nat.{_+_, _<_, _≤_};
+ghost use Prim.Native.Nat.{_+_, _*_, _<_, _≤_};
 ghost use lib.ListN.{length, getD};
-ghost use Rattle.reader.specs.Tokens.{twoAt, tokenAt, sizeAt};
+ghost use Rattle.reader.specs.Tokens.{twoAt, fourAt, tokenAt, sizeAt};
+ghost use Rattle.reader.specs.Laws.Laid.{Room, BodyEnds};
 
 // What a mark begins. A truth value, a whole number or an operator names nothing: it is plain.
 pub enum Token {
@@ -134,4 +135,28 @@ pub fn token_end(t: &[u8], i: usize) -> usize
         return i + (TOKEN_BYTES[m as usize] as usize);
     }
     i + 1
+}
+
+// Where the body of procedure m begins.
+pub fn body_start(t: &[u8], records: usize, m: usize) -> usize
+    requires { ⌜ records + 6 * m ≤ length (now t) ⌝ }
+    ensures { λ r. ⌜ r ≡ fourAt (now (t .entry)) (records + 6 * m + 2) ⌝ }
+{
+    let at = records + 6 * m + 2;
+    two_at(t, at) + 65536 * two_at(t, at + 2)
+}
+
+// Where it ends: where the next one begins, or the records.
+pub fn body_end(t: &[u8], procedures: usize, records: usize, m: usize) -> usize
+    requires { ⌜ Room (now t) procedures records × (m < procedures) ⌝ }
+    ensures { λ r. ⌜ BodyEnds (now (t .entry)) procedures records m r ⌝ }
+{
+    if m + 1 < procedures {
+        let end = body_start(t, records, m + 1);
+        if end < records {
+            return end;
+        }
+        return records;
+    }
+    records
 }

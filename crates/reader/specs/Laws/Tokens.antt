@@ -1,17 +1,18 @@
 -- Tokens: the ways through the reader of one, and the row of tokens that a block is.
-use Prim.Native.Nat.{ℕ, suc, _+_, _*_, _≤_, _<_}
+use Prim.Native.Nat.{ℕ, suc, _+_, _*_, _-_, _≤_, _<_}
 use native.Mathlib.Omega.{arith}
 use mathlib.Core.Path.{_≡_, refl, sym, ap, ap₂, subst, _∙_}
 use mathlib.Core.List.{List, [], _∷_, _++_}
 use mathlib.Core.Bool.{Bool, true, false}
 use lib.ListN.{length, getD}
-use lib.Dec.{eqb, ltb}
-use borrow.Author.Tests.{ne-eqb, ltb-true, lt-ltb, le-ltb}
+use lib.Dec.{eqb, ltb, leb}
+use borrow.Author.Tests.{ne-eqb, ltb-true, leb-true, lt-ltb, le-ltb}
+use Rattle.value.specs.Laws.Tests.{by-test}
 use Rattle.reader.specs.Laws.Tables.{looked-up}
 use Rattle.reader.specs.declared.tokens.Token.{Token}
 use Rattle.reader.specs.declared.tokens.Token.the-variants as T
 use Rattle.value.specs.Values.{bytes, word, One, not, neg, Two, add, sub, mul, less, equal, and}
-use Rattle.value.specs.Laws.Lists.{Each}
+use Rattle.value.specs.Laws.Lists.{Each, each-at, at-getD, all-passed}
 use Rattle.value.specs.Marks.{mark₁, mark₂}
 use Rattle.value.specs.declared.Value.the-variants.{Whole, Location, Truth}
 use Rattle.reader.specs.Syntax.{Expr, constant, local, one, two, Instr, assign, write, read, while, if, call, atomic, select, Block, end, step}
@@ -119,12 +120,30 @@ module _ (t : List ℕ) (i : ℕ) where
   unfolding sizeAt
   size-other h = rw (le-ltb _ _ h)
 
+-- each token has a byte
+size-pos : (t : List ℕ) (i : ℕ) → 0 < sizeAt t i
+unfolding sizeAt
+size-pos t i =
+    let m : ℕ = getD t i 0 in
+    by-test (ltb m 0x28)
+    (λ e. rw e (leb-true _ _ (each-at (λ k. leb 1 k ≡ true) sizes m (all-passed (leb 1) sizes refl) (at-getD sizes m 0 (ltb-true m 0x28 e)))))
+    (λ e. rw e (omega arith))
+
+-- so a loop over tokens ends
+pub token-falls : (t : List ℕ) (i e : ℕ) {n : ℕ} → i < e → n ≡ i + sizeAt t i → e - n < e - i
+token-falls t i e l z = omega (arith, size-pos t i)
+
 -- ---- rows of tokens
 
 -- the tokens from i up to j
 pub data Row (t : List ℕ) : ℕ → List Token → ℕ → Type 0 where
   done : {i : ℕ} → Row t i [] i
   more : {i n j : ℕ} {k : Token} {ks : List Token} → i < n → tokenAt t i ≡ k → i + sizeAt t i ≡ n → Row t n ks j → Row t i (k ∷ ks) j
+
+-- a row does not end before it begins
+pub row-le : {t : List ℕ} {i j : ℕ} {ks : List Token} → Row t i ks j → i ≤ j
+row-le done = omega arith
+row-le (more l e z r) = omega (arith, row-le r)
 
 -- one row after another
 pub row-append : {t : List ℕ} {i k j : ℕ} {ks ls : List Token} → Row t i ks k → Row t k ls j → Row t i (ks ++ ls) j
@@ -154,7 +173,7 @@ module _ {t : List ℕ} {i j : ℕ} {k : Token} (m : ℕ) (bs : List ℕ) (size 
       more past same long done
 
 -- the same position, written in another way
-shift : {t : List ℕ} {i k : ℕ} {bs : List ℕ} {j : ℕ} → Stands t i bs j → i ≡ k → Stands t k bs j
+pub shift : {t : List ℕ} {i k : ℕ} {bs : List ℕ} {j : ℕ} → Stands t i bs j → i ≡ k → Stands t k bs j
 shift {t} {bs = bs} {j} s e = subst (λ i. Stands t i bs j) e s
 
 -- an operator is plain, and one byte
