@@ -1,5 +1,5 @@
 -- Sets of locals as the bits of a number.
-use Prim.Native.Nat.{ℕ, zero, suc, _/_, _%_, _^_}
+use Prim.Native.Nat.{ℕ, zero, suc, _-_, _/_, _%_, _^_}
 use mathlib.Core.Bool.{Bool}
 use lib.Bits.{bitOr}
 use lib.Dec.{eqb, ltb}
@@ -17,3 +17,7 @@ bits n = λ x. bit n x
 -- the set with x, where x is below 64
 unfoldable pub insert : ℕ → ℕ → ℕ
 insert n x = pick (ltb x 64) (bitOr n (2 ^ x)) n
+
+-- the numbers below n, where n is below 64
+unfoldable pub below : ℕ → ℕ
+below n = pick (ltb n 64) (2 ^ n - 1) 0

@@ -1,12 +1,26 @@
 // Rule 8: "a local may be read before it is set". A set of locals is the bits of a number.
 use super::Ends;
-use super::block::{ASSIGN, ATOMIC, CALL, END, IF, READ, SELECT, WHILE, WRITE};
+use super::block::ASSIGN;
+use super::block::ATOMIC;
+use super::block::CALL;
+use super::block::END;
+use super::block::IF;
+use super::block::READ;
+use super::block::SELECT;
+use super::block::WHILE;
+use super::block::WRITE;
+use super::tokens::body_start;
 use super::tokens::byte_at;
 ghost use mathlib.Core.Path.{_≡_};
 ghost use Prim.Native.Nat.{_<_};
 ghost use lib.ListN.{length, getD};
-ghost use Rattle.reader.specs.BitSets.{bits, insert};
-ghost use Rattle.reader.specs.Laws.SetScans.{leafKnown, Knows, settled, SetsPlain, SetsInstr, SetsBlock};
+ghost use Rattle.reader.specs.Rules.{setFirst};
+ghost use Rattle.reader.specs.BitSets.{bits, insert, below};
+ghost use Rattle.reader.specs.Laws.Laid.{Room, Judges, Named};
+ghost use Rattle.reader.specs.Laws.SetScans.{leafKnown, Knows, settled, SetsPlain, SetsInstr, SetsBlock, procSet};
+
+// Blocks nest at most 16 deep.
+const DEPTH: u8 = 16;
 
 // The mark of a local in an expression.
 const LOCAL: u8 = 0x05;
@@ -91,7 +105,10 @@ fn set_plain(t: &[u8], at: usize, set: u64) -> After
 {
     let mark = t[at];
     if mark == ASSIGN {
-        return then_set(known_exprs(t, at + 2, 1, set), with(set, byte_at(t, at + 1)));
+        return then_set(
+            known_exprs(t, at + 2, 1, set),
+            with(set, byte_at(t, at + 1)),
+        );
     }
     if mark == WRITE {
         if has(set, byte_at(t, at + 1)) {
@@ -101,7 +118,10 @@ fn set_plain(t: &[u8], at: usize, set: u64) -> After
     }
     if mark == READ {
         if has(set, byte_at(t, at + 2)) {
-            return then_set(known_exprs(t, at + 3, 1, set), with(set, byte_at(t, at + 1)));
+            return then_set(
+                known_exprs(t, at + 3, 1, set),
+                with(set, byte_at(t, at + 1)),
+            );
         }
         return After::Unset;
     }
@@ -167,4 +187,42 @@ fn set_block(t: &[u8], at: usize, depth: u8, set: u64) -> After
         known = more;
     }
     After::Unset
+}
+
+// The numbers below n.
+fn firsts(n: usize) -> u64
+    ensures { λ r. ⌜ r ≡ below n ⌝ }
+{
+    if n < 64 {
+        return (1 << n) - 1;
+    }
+    0
+}
+
+// Procedure m: "parameters are set at entry".
+fn body_set(t: &[u8], m: usize, procedures: usize, records: usize) -> bool
+    requires { ⌜ Room (now t) procedures records × (m < procedures) ⌝ }
+    ensures { λ r. ⌜ Judges (Named (now (t .entry)) procedures records) (procSet m) r ⌝ }
+{
+    let parameters = firsts(byte_at(t, records + 6 * m));
+    let at = body_start(t, records, m);
+    let After::Set(_, _) = set_block(t, at, DEPTH, parameters) else {
+        return false;
+    };
+    true
+}
+
+// All procedures of a table that rules 1 to 5 let through.
+pub fn set_before_read(t: &[u8], procedures: usize, records: usize) -> bool
+    requires { ⌜ Room (now t) procedures records ⌝ }
+    ensures { λ r. ⌜ Judges (Named (now (t .entry)) procedures records) setFirst r ⌝ }
+{
+    let mut m = 0;
+    while m < procedures {
+        if !body_set(t, m, procedures, records) {
+            return false;
+        }
+        m += 1;
+    }
+    true
 }

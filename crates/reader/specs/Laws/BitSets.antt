@@ -11,7 +11,7 @@ use borrow.Author.Tests.{eqb-true, eqb-false, lt-ltb, le-ltb}
 use Rattle.value.specs.Maybe.{both, either, pick}
 use Rattle.value.specs.Laws.Tests.{by-test}
 use Rattle.reader.specs.Rules.{Known, with}
-use Rattle.reader.specs.BitSets.{bit, bits, insert}
+use Rattle.reader.specs.BitSets.{bit, bits, insert, below}
 
 -- a bit is 0 or 1
 half : (n : ℕ) {G : Type 0} → (n % 2 ≡ 0 → G) → (n % 2 ≡ 1 → G) → G
@@ -108,6 +108,25 @@ pub far-bit : (n x : ℕ) → 64 ≤ x → n ≡ insert n x
 unfolding insert
 far-bit n x l = rw (le-ltb x 64 l)
 
+-- the numbers below n
+pub low-bits : (n : ℕ) → n < 64 → 1 * 2 ^ n % 18446744073709551616 - 1 ≡ below n
+unfolding below
+low-bits n l =
+    let small : 2 ^ n < 2 ^ 64 = pow-lt {i = n} {j = 64} l in
+    let one : 1 * 2 ^ n % 18446744073709551616 ≡ 2 ^ n = omega arith in
+    rw (one, lt-ltb n 64 l)
+
+-- there are no others
+pub no-bits : (n : ℕ) → 64 ≤ n → 0 ≡ below n
+unfolding below
+no-bits n l = rw (le-ltb n 64 l)
+
+-- a shifted 1 is not 0
+pub some-bit : (n : ℕ) → n < 64 → 1 ≤ 1 * 2 ^ n % 18446744073709551616
+some-bit n l =
+    let small : 2 ^ n < 2 ^ 64 = pow-lt {i = n} {j = 64} l in
+    omega (arith, pow-pos n)
+
 -- ---- as sets
 
 -- a set with x
@@ -115,7 +134,7 @@ pub bits-insert : (n x : ℕ) → x < 64 → bits (insert n x) ≡ with (bits n)
 unfolding bits insert
 bits-insert n x l =
     let at : (y : ℕ) → bit (pick (ltb x 64) (bitOr n (2 ^ x)) n) y ≡ either (eqb x y) (bit n y) =
-        λ y. rw (lt-ltb x 64 l, bit-or n (2 ^ x) y, bit-pow x y)
+    λ y. rw (lt-ltb x 64 l, bit-or n (2 ^ x) y, bit-pow x y)
     in
     λ i y. at y i
 
@@ -125,6 +144,8 @@ unfolding bits
 bits-both a b = λ i x. bit-and a b x i
 
 -- the numbers below n
-pub bits-below : (n : ℕ) → bits (2 ^ n - 1) ≡ (λ x. ltb x n)
-unfolding bits
-bits-below n = λ i x. bit-below n x i
+pub bits-below : (n : ℕ) → n < 64 → bits (below n) ≡ (λ x. ltb x n)
+unfolding bits below
+bits-below n l =
+    let at : (x : ℕ) → bit (pick (ltb n 64) (2 ^ n - 1) 0) x ≡ ltb x n = λ x. rw (lt-ltb n 64 l) (bit-below n x) in
+    λ i x. at x i

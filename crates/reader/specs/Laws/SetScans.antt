@@ -6,10 +6,10 @@ use mathlib.Core.List.{List, [], _∷_, _++_, append-assoc, append-nil}
 use mathlib.Core.Bool.{Bool, true, false}
 use mathlib.Core.Bool as B
 use lib.ListN.{length, getD}
-use lib.Dec.{eqb, leb}
+use lib.Dec.{eqb, leb, ltb}
 use lib.Bits.{bitAnd}
 use borrow.Author.Tests.{not-true, not-false, eq-eqb, ne-eqb, eqb-true, leb-true}
-use Rattle.value.specs.Maybe.{Maybe, is, nothing, _>>=_, when, pick, both, either}
+use Rattle.value.specs.Maybe.{Maybe, is, nothing, _>>=_, when, there, pick, both, either}
 use Rattle.value.specs.Lists.{all}
 use Rattle.value.specs.Values.{One, not, neg, Two, add, sub, mul, less, equal, and, bytes, word}
 use Rattle.value.specs.Laws.Lists.{Each}
@@ -22,12 +22,15 @@ use Rattle.reader.specs.declared.Ends.{Ends}
 use Rattle.reader.specs.declared.Ends.the-variants.{At, Nothing}
 use Rattle.reader.specs.declared.set.After.{After}
 use Rattle.reader.specs.declared.set.After.the-variants.{Set, Unset}
-use Rattle.reader.specs.Syntax.{Expr, constant, local, one, two, Instr, assign, write, read, while, if, call, atomic, select, Block, end, step, Plain, Program}
+use Rattle.reader.specs.Syntax.{Expr, constant, local, one, two, Instr, assign, write, read, while, if, call, atomic, select, Block, end, step, Plain, Proc, Program}
 use Rattle.reader.specs.Encode.{each}
 use Rattle.reader.specs.Encode as E
-use Rattle.reader.specs.Rules.{Known, with, known, afterI, after}
-use Rattle.reader.specs.BitSets.{bits, insert}
-use Rattle.reader.specs.Laws.BitSets.{has-bit, no-bit, set-bit, far-bit, bits-insert, bits-both}
+use Rattle.reader.specs.Rules.{Known, with, known, afterI, after, setFirst}
+use Rattle.reader.specs.BitSets.{bits, insert, below}
+use Rattle.reader.specs.Laws.BitSets.{has-bit, no-bit, set-bit, far-bit, low-bits, no-bits, some-bit, bits-insert, bits-both, bits-below}
+use Rattle.reader.specs.Tokens.{fourAt}
+use Rattle.reader.specs.Laws.TablePlaces.{bodyAt}
+use Rattle.reader.specs.Laws.Laid.{Laid, Named, ProcNamed, proc-named, Judges, procOf, params-at, start-at, body-here, Passed, none-passed, one-passed, passed-all, failed-one}
 use Rattle.reader.specs.Laws.Names.{Names, NamesI}
 use Rattle.reader.specs.Laws.Fits.{NumbersFit, ExprFits}
 use Rattle.reader.specs.Laws.Stands.{Stands, first, others, front, back, join}
@@ -120,7 +123,7 @@ module _ {t : List ℕ} {i j : ℕ} where
       record {
         rest = a ∷ b ∷ es;
         after = behind n (mark₂ o) [] (a ∷ b ∷ es) (op .payload) (omega (arith, h .count, op .operands))
-          ((omega arith, h .fits .0 .1 .0), ((omega arith, h .fits .0 .1 .1), h .fits .1)) whole;
+            ((omega arith, h .fits .0 .1 .0), ((omega arith, h .fits .0 .1 .1), h .fits .1)) whole;
         same = rw (first (h .stands), op .name) (both-both (known s a) (known s b) (all (known s) es));
         few = rw (first (h .stands), op .operands) (omega arith);
       }
@@ -510,9 +513,12 @@ module _ (t : List ℕ) (i d s : ℕ) where
 
   -- "26 block"
   pub sets-atomic : {r : After} → getD t i 0 ≡ 0x26 → SetsBlock t (i + 1) d s r → SetsInstr t i d s r
-  sets-atomic {r} m G = record { ahead = λ j u e. omega (arith, G .ahead j u e); gives = λ p X l a j h names.
-      let here : AtomicAt t i d a j = atomic-here h m in
-      G .gives p X l (here .b) j (here .body) (rw (here .is) at names) ∙ ap (λ a. reached (afterI (bits s) a) j) (sym (here .is)) }
+  sets-atomic {r} m G = record {
+    ahead = λ j u e. omega (arith, G .ahead j u e);
+    gives = λ p X l a j h names.
+        let here : AtomicAt t i d a j = atomic-here h m in
+        G .gives p X l (here .b) j (here .body) (rw (here .is) at names) ∙ ap (λ a. reached (afterI (bits s) a) j) (sym (here .is));
+  }
 
   -- the others
   pub sets-plain : {r : After} → (getD t i 0 ≡ 0x23 → ⊥) → (getD t i 0 ≡ 0x24 → ⊥) → (getD t i 0 ≡ 0x26 → ⊥) → SetsPlain t i s r → SetsInstr t i d s r
@@ -536,17 +542,23 @@ module _ (t : List ℕ) (i d s : ℕ) where
 
   -- the byte 00
   pub block-end : {k u : ℕ} → SetsFrom t i d s k u → getD t k 0 ≡ 0x00 → SetsBlock t i d s (Set (k + 1) u)
-  block-end {k} {u} f m = f .back (Set (k + 1) u) (record { ahead = λ j v e. omega (arith, set-inj e); gives = λ p X l b j h names.
-      let ends : (b ≡ end) × (j ≡ k + 1) = end-here h m in
-      rw (ends .0, ends .1) })
+  block-end {k} {u} f m = f .back (Set (k + 1) u) (record {
+    ahead = λ j v e. omega (arith, set-inj e);
+    gives = λ p X l b j h names.
+        let ends : (b ≡ end) × (j ≡ k + 1) = end-here h m in
+        rw (ends .0, ends .1);
+  })
 
   -- an instruction that mentions a variable which is not set
   pub block-cut : {k u : ℕ} {f : After} → SetsFrom t i d s k u → (getD t k 0 ≡ 0x00 → ⊥) → SetsInstr t k (d - 1) u f → f ≡ Unset → SetsBlock t i d s Unset
-  block-cut {k} {u} from m F w = from .back Unset (record { ahead = λ j v e. unset e; gives = λ p X l b j h names.
-      let here : StepAt t k d b j = step-here h m in
-      let meant : Names p X (step (here .tag) (here .s) (here .rest)) = rw (here .is) at names in
-      let none : afterI (bits u) (here .s) ≡ nothing = reached-not _ (here .k) (ap outcome (sym w) ∙ F .gives p X l (here .s) (here .k) (here .here) (meant .0)) in
-      sym (ap (λ b. reached (after (bits u) b) j) (here .is) ∙ rw none) })
+  block-cut {k} {u} from m F w = from .back Unset (record {
+    ahead = λ j v e. unset e;
+    gives = λ p X l b j h names.
+        let here : StepAt t k d b j = step-here h m in
+        let meant : Names p X (step (here .tag) (here .s) (here .rest)) = rw (here .is) at names in
+        let none : afterI (bits u) (here .s) ≡ nothing = reached-not _ (here .k) (ap outcome (sym w) ∙ F .gives p X l (here .s) (here .k) (here .here) (meant .0)) in
+        sym (ap (λ b. reached (after (bits u) b) j) (here .is) ∙ rw none);
+  })
 
   -- any other
   pub block-next : {k u : ℕ} {f : After} {n v : ℕ} → SetsFrom t i d s k u → (getD t k 0 ≡ 0x00 → ⊥) → SetsInstr t k (d - 1) u f → f ≡ Set n v → SetsFrom t i d s n v
@@ -561,7 +573,7 @@ module _ (t : List ℕ) (i d s : ℕ) where
           let here : StepAt t k d b j = step-here at m in
           let meant : Names p X (step (here .tag) (here .s) (here .rest)) = rw (here .is) at names in
           let some : (afterI (bits u) (here .s) ≡ is (bits v)) × (n ≡ here .k) =
-              reached-is _ (here .k) (ap outcome (sym w) ∙ F .gives p X l (here .s) (here .k) (here .here) (meant .0))
+          reached-is _ (here .k) (ap outcome (sym w) ∙ F .gives p X l (here .s) (here .k) (here .here) (meant .0))
           in
           let rest : BlockAt t n d (here .rest) j = rw (some .1) (here .after) in
           h .gives p X l (here .rest) j rest (meant .1) ∙ sym (ap (λ b. reached (after (bits u) b) j) (here .is) ∙ rw (some .0))
@@ -573,6 +585,71 @@ module _ (t : List ℕ) (i d s : ℕ) where
 -- so the loop over a block ends
 pub instr-falls : {f : After} (t : List ℕ) (d s i n u : ℕ) → i < length t → f ≡ Set n u → SetsInstr t i d s f → length t - n < length t - i
 instr-falls t d s i n u l e F = omega (arith, F .ahead n u e)
+
+-- ---- procedures
+
+-- rule 8, of procedure m
+unfoldable pub procSet : ℕ → Program Plain → Bool
+procSet m p = there (after (λ x. ltb x (procOf p m .params)) (procOf p m .body))
+
+module _ (t : List ℕ) (P R m : ℕ) where
+  -- procedure m is walked
+  walked : {a x v : ℕ} {f : After} → m < P → x ≡ getD t (R + 6 * m) 0 → v ≡ below x → a ≡ fourAt t (R + 6 * m + 2) → SetsBlock t a 16 v f
+      → (p : Program Plain) → Named t P R p
+      → outcome f ≡ reached (after (λ x. ltb x (procOf p m .params)) (procOf p m .body)) (bodyAt (p .procs) (m + 1))
+  walked {a} {x} {v} {f} l ex ev ea F p named =
+      let laid : Laid t P R p = named .laid in
+      let right : ProcNamed p m = proc-named named l in
+      let params : x ≡ procOf p m .params = ex ∙ params-at laid l in
+      let entry : bits v ≡ (λ y. ltb y (procOf p m .params)) = rw (ev, params) (bits-below (procOf p m .params) (omega (arith, right .params, right .locals))) in
+      let body : BlockAt t a 16 (procOf p m .body) (bodyAt (p .procs) (m + 1)) = rw (ea, start-at laid l) (body-here laid l) in
+      F .gives p (procOf p m .locals) (omega (arith, right .locals)) (procOf p m .body) (bodyAt (p .procs) (m + 1)) body (right .names)
+      ∙ ap (λ s. reached (after s (procOf p m .body)) (bodyAt (p .procs) (m + 1))) entry
+
+  -- and is right
+  pub body-sets : {a x v : ℕ} {f : After} {n u : ℕ} → m < P → x ≡ getD t (R + 6 * m) 0 → v ≡ below x → a ≡ fourAt t (R + 6 * m + 2) → SetsBlock t a 16 v f
+      → f ≡ Set n u → Judges (Named t P R) (procSet m) true
+  unfolding procSet
+  body-sets l ex ev ea F e = record {
+    gives = λ p named.
+        let w = reached-is (after (λ x. ltb x (procOf p m .params)) (procOf p m .body)) (bodyAt (p .procs) (m + 1)) (ap outcome (sym e) ∙ walked l ex ev ea F p named) in
+        sym (ap there (w .0));
+  }
+
+  -- or not
+  pub body-unset : {a x v : ℕ} {f : After} → m < P → x ≡ getD t (R + 6 * m) 0 → v ≡ below x → a ≡ fourAt t (R + 6 * m + 2) → SetsBlock t a 16 v f
+      → f ≡ Unset → Judges (Named t P R) (procSet m) false
+  unfolding procSet
+  body-unset l ex ev ea F e = record {
+    gives = λ p named.
+        sym (ap there (reached-not (after (λ x. ltb x (procOf p m .params)) (procOf p m .body)) (bodyAt (p .procs) (m + 1)) (ap outcome (sym e) ∙ walked l ex ev ea F p named)));
+  }
+
+module _ (t : List ℕ) (P R : ℕ) where
+  -- the procedures before m
+  abbrev pub Before : ℕ → Type 0
+  Before m = Passed (Named t P R) procSet m
+
+  -- none yet
+  pub procs-start : Before 0
+  procs-start = none-passed (Named t P R) procSet
+
+  -- one more
+  pub procs-next : {m : ℕ} {r : Bool} → Before m → Judges (Named t P R) (procSet m) r → B.not r ≡ false → Before (m + 1)
+  procs-next {r = r} s j e = one-passed s j (not-false r e)
+
+  abbrev test : Program Plain → Proc Plain → Bool
+  test p q = there (after (λ x. ltb x (q .params)) (q .body))
+
+  -- one fails
+  pub procs-bad : {m : ℕ} {r : Bool} → m < P → Judges (Named t P R) (procSet m) r → B.not r ≡ true → Judges (Named t P R) setFirst false
+  unfolding procSet
+  procs-bad {r = r} l j e = failed-one test (λ p g. g .laid .procs) j l (not-true r e)
+
+  -- all pass
+  pub procs-done : {m : ℕ} → Before m → P ≤ m → Judges (Named t P R) setFirst true
+  unfolding procSet
+  procs-done s l = passed-all test (λ p g. g .laid .procs) s l
 
 -- one law for each way through the walks
 pub ruleset ways = (
@@ -614,4 +691,13 @@ pub ruleset ways = (
   block-next,
   block-past,
   instr-falls,
+  low-bits,
+  no-bits,
+  some-bit,
+  body-sets,
+  body-unset,
+  procs-start,
+  procs-next,
+  procs-bad,
+  procs-done,
 )
