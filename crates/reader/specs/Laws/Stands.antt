@@ -7,7 +7,7 @@ use mathlib.Core.List.{List, [], _∷_, _++_, append-assoc, append-nil}
 use lib.ListN.{length, getD, take, drop, length-append, length-drop, length-take, take-append-drop}
 use lib.Seq.{drop-drop, drop-cons, drop-append-seam, drop-append-le, drop-length, getD-drop, take-at, take-append-seam, length-take-le}
 use Rattle.value.specs.Values.{bytes}
-use Rattle.reader.specs.Decode.{unbytes}
+use Rattle.value.specs.Values.{unbytes}
 use Rattle.reader.specs.Laws.Bytes.{Bytes, length-bytes, unbytes-bytes, bytes-unbytes, bytes-take, bytes-drop}
 
 -- the bytes `bs` stand in t from i up to j
