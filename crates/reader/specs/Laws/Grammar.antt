@@ -13,7 +13,8 @@ use Rattle.value.specs.Laws.Lists.{Each}
 use Rattle.reader.specs.Syntax.{Expr, constant, local, one, two, Instr, assign, write, read, while, if, call, atomic, select, Block, end, step}
 use Rattle.reader.specs.Encode.{each}
 use Rattle.reader.specs.Encode as E
-use Rattle.reader.specs.Decode.{unbytes, unword, Form, assignForm, writeForm, readForm, whileForm, ifForm, callForm, atomicForm, selectForm, noForm, forms}
+use Rattle.value.specs.Values.{unbytes, unword}
+use Rattle.reader.specs.Decode.{Form, assignForm, writeForm, readForm, whileForm, ifForm, callForm, atomicForm, selectForm, noForm, forms}
 use Rattle.reader.specs.Laws.Bytes.{unword-word}
 use Rattle.reader.specs.Laws.Depths.{depth}
 use Rattle.reader.specs.Laws.Fits.{ExprFits, InstrFits, BlockFits}
