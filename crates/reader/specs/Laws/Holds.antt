@@ -14,7 +14,7 @@ use Rattle.reader.specs.Encode.{each, Middle, Trailer, heads, bodiesOf, 
 use Rattle.reader.specs.Encode as E
 use Rattle.reader.specs.Decode.{but, last}
 use Rattle.reader.specs.Rules.{limits, starts, placed, bind, allAllowed, program, setFirst, rightRecords, Verdict, accepted, refused, demand, require, verdict}
-use Rattle.reader.specs.Laws.Bytes.{Bytes}
+use Rattle.value.specs.Laws.Bytes.{Bytes}
 use Rattle.reader.specs.Laws.Reading.{If, so, none, chain, tested}
 use Rattle.reader.specs.Laws.Names.{AllNames, all-names?}
 use Rattle.reader.specs.Laws.Fits.{BlockFits}

@@ -17,7 +17,7 @@ use Rattle.reader.specs.Decode.{finish, but, last}
 use Rattle.reader.specs.Decode as D
 use Rattle.reader.specs.Rules.{rightCounts, rightRecords, program, allNamed, fewLabels, noCycle, setFirst}
 use Rattle.reader.specs.Rules.{Verdict, accepted, refused, demand, require, verdict}
-use Rattle.reader.specs.Laws.Bytes.{Bytes}
+use Rattle.value.specs.Laws.Bytes.{Bytes}
 use Rattle.reader.specs.Laws.Sound.{Within}
 use Rattle.reader.specs.Laws.Formed.{RightTrailer, Formed, judged, Upto, upto0, upto1, upto2, upto3, upto4, upto5, upto6, upto7, upto8}
 use Rattle.reader.specs.Laws.Places.{middleAt, middle-there}
