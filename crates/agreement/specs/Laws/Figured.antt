@@ -1,9 +1,8 @@
 -- Demand 3 told of the run program's figures.
 use Prim.Native.Nat.{ℕ, _+_, _<_}
 use native.Mathlib.Omega.{arith}
-use mathlib.Core.Path.{_≡_, refl, sym, ap, subst, _∙_}
+use mathlib.Core.Path.{_≡_, refl, sym, ap}
 use mathlib.Core.List.{List}
-use mathlib.Core.Bool.{true}
 use lib.ListN.{length}
 use lib.Dec.{ltb, leb}
 use borrow.Author.Tests.{leb-true, ltb-false}
@@ -35,7 +34,7 @@ Steps copy head P.spent = ⊥
 -- what the figures say of the program p of the table t
 pub record Figured (t ts : List ℕ) (f : Figures) (p : Program Plain) : Type 0 where
   pub reads : verdict concurrent t ≡ accepted p
-  pub agree : Agree p ts budget
+  pub agree : Agree t p ts budget
   -- the line tells the program's run
   pub told : f ≡ figures (programRun p ts) (copyRun budget p ts)
   -- the copy ends the same way, and so never at its budget
@@ -61,7 +60,7 @@ closing-events p ts r c P.blocked h n = absurd (n refl)
 closing-events p ts r c P.spent h n = absurd h
 
 -- the figures of a program that agrees with its copy
-figured : (t ts : List ℕ) (p : Program Plain) → verdict concurrent t ≡ accepted p → Agree p ts budget
+figured : (t ts : List ℕ) (p : Program Plain) → verdict concurrent t ≡ accepted p → Agree t p ts budget
     → Figured t ts (figures (programRun p ts) (copyRun budget p ts)) p
 figured t ts p reads agree =
     let r : P.Ran = programRun p ts in
@@ -71,7 +70,7 @@ figured t ts p reads agree =
       agree = agree;
       told = refl;
       end = ap endNumber (sym (agree .how));
-      never = λ e. subst (Closing p ts r c) (sym (agree .how) ∙ e) (agree .closing);
+      never = agree .never;
       events = closing-events p ts r c (r .how) (agree .closing);
       steps = closing-steps p ts r c (r .how) (agree .closing);
     }
@@ -85,7 +84,7 @@ through t ts p bytes reads zero =
     by-test (scheduled concurrent p ts)
     (λ b.
     let two = both-passed (leb (length ts) maxEntries) (all (λ t. ltb t (length (p .mains))) ts) b in
-    let agree : Agree p ts budget
+    let agree : Agree t p ts budget
     = demand3 t p ts budget bytes reads (ltb-false _ _ a) (leb-true _ _ (two .0)) (all? (λ t. lt? t (length (p .mains))) ts .so (two .1)) (omega arith) in
     rw (a, b, figuresOf) (figured t ts p reads agree))
     (λ b. let z : _≡_ {A = ℕ} 11 0 = rw (a, b, figuresOf) at zero in absurd (omega arith))
