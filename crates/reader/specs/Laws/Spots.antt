@@ -222,19 +222,31 @@ module _ {A : Type 0} {P : Block A → Type 0} {Q : Instr A → Type 0} (h : Inh
 -- expressions that are right
 pub exprs-inherited : {A : Type 0} → Inherited {A = A} ExprsRight ExprsRightI
 exprs-inherited = record {
-  first = λ a j b h. h .0; rest = λ a j b h. h .1; loop = λ e b h. h .1; yes = λ e b f h. h .1; no = λ e b f h. h .2;
+  first = λ a j b h. h .0;
+  rest = λ a j b h. h .1;
+  loop = λ e b h. h .1;
+  yes = λ e b f h. h .1;
+  no = λ e b f h. h .2;
 }
 
 -- at most n deep
 pub deep-inherited : {A : Type 0} (n : ℕ) → Inherited {A = A} (λ b. nesting b ≤ n) (λ j. nestingI j ≤ n)
 deep-inherited n = record {
-  first = λ a j b h. omega arith; rest = λ a j b h. omega arith; loop = λ e b h. h; yes = λ e b f h. omega arith; no = λ e b f h. omega arith;
+  first = λ a j b h. omega arith;
+  rest = λ a j b h. omega arith;
+  loop = λ e b h. h;
+  yes = λ e b f h. omega arith;
+  no = λ e b f h. omega arith;
 }
 
 -- names that mean something
 pub names-inherited : (p : Program Plain) (X : ℕ) → Inherited (Names p X) (NamesI p X)
 names-inherited p X = record {
-  first = λ a j b h. h .0; rest = λ a j b h. h .1; loop = λ e b h. h .1; yes = λ e b f h. h .1 .0; no = λ e b f h. h .1 .1;
+  first = λ a j b h. h .0;
+  rest = λ a j b h. h .1;
+  loop = λ e b h. h .1;
+  yes = λ e b f h. h .1 .0;
+  no = λ e b f h. h .1 .1;
 }
 
 -- instructions that are allowed
@@ -307,8 +319,8 @@ module _ {A : Type 0} where
       by-test (ltb m m′)
       (λ h. absurd (omega (arith, body-before ps 0 m m′ (ltb-true m m′ h) (c .found), block-some d)))
       (λ h. by-test (ltb m′ m)
-        (λ j. absurd (omega (arith, body-before ps 0 m′ m (ltb-true m′ m j) (e .found), block-some d′)))
-        (λ j. omega (arith, ltb-false m m′ h, ltb-false m′ m j)))
+      (λ j. absurd (omega (arith, body-before ps 0 m′ m (ltb-true m′ m j) (e .found), block-some d′)))
+      (λ j. omega (arith, ltb-false m m′ h, ltb-false m′ m j)))
 
   -- and determines the code that remains
   pub code-one : {ps : List (Proc A)} {m k : ℕ} {d r d′ r′ : Block A} → CodeAt ps m k d r → CodeAt ps m k d′ r′ → Same d r d′ r′
