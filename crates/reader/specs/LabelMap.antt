@@ -78,21 +78,3 @@ other k (step l (select x y) c) = 0
 abbrev pub words : (ℕ → ℕ) → List Node → List ℕ
 words ends [] = []
 words ends (n ∷ ns) = n .place ∷ n .proc ∷ next (ends (n .proc)) (n .code) ∷ other (ends (n .proc)) (n .code) ∷ words ends ns
-
--- the end label of each procedure
-abbrev pub endsOf : {A : Type 0} → Program A → ℕ → ℕ
-endsOf p = endOf 1 (p .procs)
-
--- the body of procedure m
-abbrev pub bodyOf : {A : Type 0} → List (Proc A) → ℕ → Block A
-bodyOf [] m = end
-bodyOf (p ∷ ps) zero = p .body
-bodyOf (p ∷ ps) (suc m) = bodyOf ps m
-
--- "An empty body begins at its end label"
-abbrev pub beginOf : List (Proc ℕ) → (ℕ → ℕ) → ℕ → ℕ
-beginOf ps ends m = first (ends m) (bodyOf ps m)
-
--- where each procedure begins
-abbrev pub begins : {A : Type 0} → Program A → ℕ → ℕ
-begins p = beginOf (labelled p .procs) (endsOf p)
