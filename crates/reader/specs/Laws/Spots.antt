@@ -142,34 +142,40 @@ module _ {A : Type 0} {k : ℕ} {d r d′ r′ : Block A} where
     inner-one (elses p) (thens q) = absurd (omega (arith, spot-inside p, spot-inside q, block-some d′))
     inner-one (elses p) (elses q) = spot-one p q
 
--- ---- how an end goes on
+-- ---- where code goes on
 
--- at the end of a block inside, r remains: it is the whole block's end, or r goes on at another spot
-pub data Goes {A : Type 0} (k : ℕ) (r : Block A) (i : ℕ) (b c : Block A) : Type 0 where
-  last : k + 1 ≡ i + length (block b) → r ≡ c → Goes k r i b c
-  goes : (k′ : ℕ) (d′ r′ : Block A) → Spot k′ d′ r′ i b c → r ≡ d′ ⊕ r′ → Goes k r i b c
+-- code that remains in a block is what follows the block, or an instruction of it is the first of the code
+pub data Goes {A : Type 0} (x : Block A) (i : ℕ) (b c : Block A) : Type 0 where
+  out : x ≡ c → Goes x i b c
+  goes : (k : ℕ) (a : A) (j : Instr A) (d r : Block A) → Spot k (step a j d) r i b c → x ≡ step a j (d ⊕ r) → Goes x i b c
 
-module _ {A : Type 0} {k : ℕ} {r : Block A} where
+-- a block and what follows it: its first instruction is the first of the code, if it has one
+joined-goes : {A : Type 0} (i : ℕ) (b c : Block A) → Goes (b ⊕ c) i b c
+joined-goes i end c = out refl
+joined-goes i (step a j b) c = goes i a j b c itself refl
+
+module _ {A : Type 0} where
   -- what goes on inside goes on
-  goes-in : {i i′ : ℕ} {b b′ c c′ : Block A} → ((k′ : ℕ) (d′ r′ : Block A) → Spot k′ d′ r′ i b c → Spot k′ d′ r′ i′ b′ c′)
-      → (k + 1 ≡ i + length (block b) → r ≡ c → Goes k r i′ b′ c′) → Goes k r i b c → Goes k r i′ b′ c′
-  goes-in f g (last h e) = g h e
-  goes-in f g (goes k′ d′ r′ p e) = goes k′ d′ r′ (f k′ d′ r′ p) e
+  goes-in : {i i′ : ℕ} {x b b′ c c′ : Block A} → ((k : ℕ) (d r : Block A) → Spot k d r i b c → Spot k d r i′ b′ c′)
+      → (x ≡ c → Goes x i′ b′ c′) → Goes x i b c → Goes x i′ b′ c′
+  goes-in f g (out e) = g e
+  goes-in f g (goes k a j d r p e) = goes k a j d r (f k (step a j d) r p) e
 
   mutual
-    -- an end goes on
-    pub end-goes : {i : ℕ} {b c : Block A} → Spot k end r i b c → Goes k r i b c
-    end-goes (here e f g) = last (rw (e, f) refl) (sym g)
-    end-goes (later {j = j} {b = b} p) =
-        goes-in (λ k′ d′ r′. later) (λ h e. last (omega (arith, length-append (instr j) (block b))) e) (end-goes p)
-    end-goes (inner {b = b} {c = c} p) = inner-goes b c p refl
+    -- what remains at a spot goes on: "After the last instruction of a while body comes the while; after the last of a branch, .."
+    pub spot-goes : {k i : ℕ} {d r b c : Block A} → Spot k d r i b c → Goes (d ⊕ r) i b c
+    spot-goes {k} {d = d} {r} (here e f g) = rw (e, f, g) (joined-goes k d r)
+    spot-goes (later p) = goes-in (λ k d r. later) out (spot-goes p)
+    spot-goes (inner {b = b} {c = c} p) = inner-goes b c p refl
 
     -- from inside an instruction to what follows it
-    inner-goes : {i : ℕ} {a : A} {j : Instr A} {x : Block A} (b c : Block A) → Inner k end r i a j x → x ≡ b ⊕ c → Goes k r i (step a j b) c
-    inner-goes {i} {a} b c (body {e = e} {b = w} p) f =
-        goes-in (λ k′ d′ r′ q. inner (body (rw f at q))) (λ h o. goes i (step a (while e w) b) c itself (o ∙ rw f)) (end-goes p)
-    inner-goes b c (thens p) f = goes-in (λ k′ d′ r′ q. inner (thens (rw f at q))) (λ h o. goes _ b c (later itself) (o ∙ f)) (end-goes p)
-    inner-goes b c (elses p) f = goes-in (λ k′ d′ r′ q. inner (elses (rw f at q))) (λ h o. goes _ b c (later itself) (o ∙ f)) (end-goes p)
+    inner-goes : {k i : ℕ} {a : A} {j : Instr A} {d r x : Block A} (b c : Block A) → Inner k d r i a j x → x ≡ b ⊕ c → Goes (d ⊕ r) i (step a j b) c
+    inner-goes {i = i} {a} b c (body {e = e} {b = w} p) f =
+        goes-in (λ k d r q. inner (body (rw f at q))) (λ o. goes i a (while e w) b c itself (o ∙ rw f)) (spot-goes p)
+    inner-goes {i = i} b c (thens {e = e} {b = y} {f = n} p) f =
+        goes-in (λ k d r q. inner (thens (rw f at q))) (λ o. rw (o ∙ f) (goes-in (λ k d r. later) out (joined-goes (i + length (instr (if e y n))) b c))) (spot-goes p)
+    inner-goes {i = i} b c (elses {e = e} {b = y} {f = n} p) f =
+        goes-in (λ k d r q. inner (elses (rw f at q))) (λ o. rw (o ∙ f) (goes-in (λ k d r. later) out (joined-goes (i + length (instr (if e y n))) b c))) (spot-goes p)
 
 -- ---- end or instruction, by the byte
 
@@ -327,3 +333,44 @@ module _ {A : Type 0} where
   code-one {ps} {m} {k} {d′ = d′} {r′ = r′} c e =
       let same : c .proc ≡ e .proc = is-inj (sym (c .found) ∙ e .found) in
       spot-one (c .spot) (subst (λ (q : Proc A). Spot k d′ r′ (bodyAt 0 ps m) (q .body) end) (sym same) (e .spot))
+
+-- ---- the code that a frame of procedure m can hold
+
+-- the end of the body, or an instruction with what follows it
+pub data Remains {A : Type 0} (ps : List (Proc A)) (m : ℕ) : Block A → Type 0 where
+  none : (q : Proc A) → at ps m ≡ is q → Remains ps m end
+  some : (k : ℕ) (a : A) (j : Instr A) (d r : Block A) → CodeAt ps m k (step a j d) r → Remains ps m (step a j (d ⊕ r))
+
+-- nothing after a block
+pub join-end : {A : Type 0} (b : Block A) → b ⊕ end ≡ b
+join-end end = refl
+join-end (step a j b) = rw (join-end b)
+
+module _ {A : Type 0} {ps : List (Proc A)} {m : ℕ} where
+  -- what stands at a position, with what follows it
+  pub remains-at : {k : ℕ} {d r : Block A} → CodeAt ps m k d r → Remains ps m (d ⊕ r)
+  remains-at c = cases (spot-goes (c .spot))
+    where
+      cases : {x : Block A} → Goes x (bodyAt 0 ps m) (c .proc .body) end → Remains ps m x
+      cases (out e) = rw e (none (c .proc) (c .found))
+      cases (goes k a j d r p e) = rw e (some k a j d r (record { proc = c .proc; found = c .found; spot = p }))
+
+  -- a procedure's body
+  pub remains-body : {q : Proc A} → at ps m ≡ is q → Remains ps m (q .body)
+  remains-body {q} e = rw join-end at (remains-at {d = q .body} {r = end} (record { proc = q; found = e; spot = itself }))
+
+  -- an instruction is left
+  pub remains-after : {a : A} {j : Instr A} {c : Block A} → Remains ps m (step a j c) → Remains ps m c
+  remains-after (some k a j d r c) = remains-at (record { proc = c .proc; found = c .found; spot = spot-after (c .spot) })
+
+  -- a loop is entered
+  pub remains-loop : {a : A} {e : Expr} {b c : Block A} → Remains ps m (step a (while e b) c) → Remains ps m (b ⊕ step a (while e b) c)
+  remains-loop (some k a j d r c) = remains-at (record { proc = c .proc; found = c .found; spot = spot-body (c .spot) })
+
+  -- the first branch
+  pub remains-then : {a : A} {e : Expr} {b f c : Block A} → Remains ps m (step a (if e b f) c) → Remains ps m (b ⊕ c)
+  remains-then (some k a j d r c) = remains-at (record { proc = c .proc; found = c .found; spot = spot-then (c .spot) })
+
+  -- the second
+  pub remains-else : {a : A} {e : Expr} {b f c : Block A} → Remains ps m (step a (if e b f) c) → Remains ps m (f ⊕ c)
+  remains-else (some k a j d r c) = remains-at (record { proc = c .proc; found = c .found; spot = spot-else (c .spot) })
