@@ -11,7 +11,7 @@ use Rattle.value.specs.Laws.Maybes.{is-inj, missing}
 use Rattle.value.specs.Laws.Lists.{at-below}
 use Rattle.reader.specs.Syntax.{Block, Proc, Program, Kind}
 use Rattle.reader.specs.Encode.{each, Head, head, heads, middle, middleOf, bodiesOf, block, front, Trailer, trailer, trailerOf, table, distance}
-use Rattle.reader.specs.Laws.Bytes.{length-bytes}
+use Rattle.value.specs.Laws.Bytes.{length-bytes}
 use Rattle.reader.specs.Laws.Sections.{length-each, length-middle}
 use Rattle.reader.specs.Laws.Heads.{length-heads}
 use Rattle.reader.specs.Laws.Stands.{Stands, first, others, whole, front as left, back as right, part}
