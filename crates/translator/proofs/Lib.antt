@@ -1,0 +1,2 @@
+-- one law for each way through the writer
+pub mod Puts
