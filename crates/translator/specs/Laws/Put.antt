@@ -4,8 +4,8 @@ use mathlib.Core.Path.{_≡_}
 use mathlib.Core.List.{List}
 use lib.ListN.{length}
 use lib.Seq.{sets}
-use Rattle.reader.specs.Syntax.{Block, Plain}
-use Rattle.reader.specs.Encode.{block}
+use Rattle.reader.specs.Syntax.{Expr, Instr, Block, Plain}
+use Rattle.reader.specs.Encode.{expr, instr, block}
 
 -- The buffer o becomes o′, with the bytes bs from p on as far as they fit, and the next place is r. Counting stops at 65,537, the first
 -- length that is refused: from there on only that is known.
@@ -14,6 +14,18 @@ pub record Put (o : List ℕ) (p : ℕ) (bs : List ℕ) (o′ : List ℕ) (r : �
   pub next : p + length bs ≤ 65537 → r ≡ p + length bs
   pub far : 65537 ≤ p + length bs → 65537 ≤ r
   pub kept : length o′ ≡ length o
+
+-- an expression
+pub record PutExpr (o : List ℕ) (p : ℕ) (e : Expr) (o′ : List ℕ) (r : ℕ) : Type 0 where
+  pub puts : Put o p (expr e) o′ r
+
+-- an instruction
+pub record PutInstr (o : List ℕ) (p : ℕ) (i : Instr Plain) (o′ : List ℕ) (r : ℕ) : Type 0 where
+  pub puts : Put o p (instr i) o′ r
+
+-- a block
+pub record PutBlock (o : List ℕ) (p : ℕ) (b : Block Plain) (o′ : List ℕ) (r : ℕ) : Type 0 where
+  pub puts : Put o p (block b) o′ r
 
 -- Of the bytes `all` from p on in o, only `rest` remains to be written, from q on in o′.
 pub record Onto (o : List ℕ) (p : ℕ) (all : List ℕ) (o′ : List ℕ) (q : ℕ) (rest : List ℕ) : Type 0 where
