@@ -1,0 +1,11 @@
+//! Zarukohen's second implementation, written from the paper: tables are read into trees, and the
+//! rules, the translation and both machines walk these trees.
+
+pub mod bodies;
+pub mod expression;
+pub mod head;
+pub mod labels;
+pub mod program;
+pub mod rules;
+pub mod value;
+pub mod verdict;
