@@ -7,5 +7,7 @@ pub mod head;
 pub mod labels;
 pub mod program;
 pub mod rules;
+pub mod translate;
 pub mod value;
 pub mod verdict;
+pub mod write;
