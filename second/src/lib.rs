@@ -2,11 +2,16 @@
 //! rules, the translation and both machines walk these trees.
 
 pub mod bodies;
+pub mod concurrent;
 pub mod expression;
 pub mod head;
 pub mod labels;
+pub mod machine;
+pub mod price;
 pub mod program;
+pub mod record;
 pub mod rules;
+pub mod sequential;
 pub mod translate;
 pub mod value;
 pub mod verdict;
