@@ -2,10 +2,12 @@
 //! rules, the translation and both machines walk these trees.
 
 pub mod bodies;
+pub mod calls;
 pub mod concurrent;
 pub mod expression;
 pub mod head;
 pub mod labels;
+pub mod line;
 pub mod machine;
 pub mod price;
 pub mod program;
