@@ -2,6 +2,7 @@
 //! rules, the translation and both machines walk these trees.
 
 pub mod bodies;
+pub mod builder;
 pub mod calls;
 pub mod concurrent;
 pub mod expression;
@@ -11,6 +12,7 @@ pub mod line;
 pub mod machine;
 pub mod price;
 pub mod program;
+pub mod random;
 pub mod record;
 pub mod rules;
 pub mod sequential;
