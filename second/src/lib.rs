@@ -15,6 +15,7 @@ pub mod program;
 pub mod random;
 pub mod record;
 pub mod rules;
+pub mod run_samples;
 pub mod samples;
 pub mod sequential;
 pub mod translate;
