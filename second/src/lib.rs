@@ -1,6 +1,7 @@
 //! Zarukohen's second implementation, written from the paper: tables are read into trees, and the
 //! rules, the translation and both machines walk these trees.
 
+pub mod batch;
 pub mod bodies;
 pub mod builder;
 pub mod calls;
