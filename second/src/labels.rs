@@ -78,3 +78,58 @@ fn find_inside(instruction: &Instruction, label: usize, wanted: &Instruction) ->
         _ => None,
     }
 }
+
+#[cfg(test)]
+mod tests {
+    use super::*;
+    use crate::builder::*;
+
+    fn blocks(instruction: &Instruction) -> (&Block, &Block) {
+        match instruction {
+            Instruction::If {
+                then, otherwise, ..
+            } => (then, otherwise),
+            Instruction::While { body, .. } | Instruction::Atomic { body } => (body, body),
+            _ => panic!("no block"),
+        }
+    }
+
+    #[test]
+    fn labels_by_hand() {
+        let some = || assign(0, number(1));
+        let test = || truth(true);
+        let first = vec![
+            some(),                                                      // 1
+            while_do(test(), vec![some(), while_do(test(), vec![])]),    // 2: 3, 4
+            atomic(vec![some(), if_else(test(), vec![some()], vec![])]), // 5
+            if_else(test(), vec![some()], vec![some(), some()]),         // 6: 7; 8, 9
+            if_else(test(), vec![], vec![]),                             // 10
+        ]; // 11
+        let third = vec![call(1, vec![])]; // 13, 14
+        let program = program(
+            vec![
+                procedure(0, 1, first),
+                procedure(0, 0, vec![]), // 12
+                procedure(0, 0, third),
+            ],
+            &[],
+            &[0],
+        );
+        assert_eq!(of_program(&program), 14);
+        let begins: Vec<usize> = (0..3).map(|p| begin(&program, p)).collect();
+        let ends: Vec<usize> = (0..3).map(|p| end(&program, p)).collect();
+        assert_eq!((begins, ends), (vec![1, 12, 13], vec![11, 12, 14]));
+
+        let body = &program.procedures[0].body;
+        let found: Vec<_> = body.iter().map(|i| find(&program, i)).collect();
+        assert_eq!(found, [Some(1), Some(2), Some(5), Some(6), Some(10)]);
+        let (inner, _) = blocks(&body[1]);
+        assert_eq!(find(&program, &inner[1]), Some(4));
+        let (inside_atomic, _) = blocks(&body[2]);
+        assert_eq!(find(&program, &inside_atomic[0]), None);
+        let (then, otherwise) = blocks(&body[3]);
+        assert_eq!(find(&program, &then[0]), Some(7));
+        assert_eq!(find(&program, &otherwise[1]), Some(9));
+        assert_eq!(find(&program, &program.procedures[2].body[0]), Some(13));
+    }
+}

@@ -17,7 +17,7 @@ impl Random {
         Random { state: seed }
     }
 
-    pub fn next(&mut self) -> u64 {
+    pub fn draw(&mut self) -> u64 {
         self.state = self.state.wrapping_add(0x9E37_79B9_7F4A_7C15);
         let mut z = self.state;
         z = (z ^ (z >> 30)).wrapping_mul(0xBF58_476D_1CE4_E5B9);
@@ -27,7 +27,7 @@ impl Random {
 
     /// A number below `bound`, which is not 0.
     pub fn below(&mut self, bound: usize) -> usize {
-        (self.next() % bound as u64) as usize
+        (self.draw() % bound as u64) as usize
     }
 
     /// A number from `low` to `high`, both included.
@@ -44,7 +44,7 @@ impl Random {
     }
 
     pub fn byte(&mut self) -> u8 {
-        self.next() as u8
+        self.draw() as u8
     }
 }
 
@@ -63,14 +63,23 @@ struct Signature {
     sorts: Vec<Sort>,
 }
 
+/// How large random programs are made.
+#[derive(Clone, Copy, PartialEq, Eq, Debug)]
+pub enum Scale {
+    Small,
+    /// Up to the paper's limits of procedures, locals, locations and threads.
+    Large,
+}
+
 /// A random program of the kind. Most are accepted; a few break rule 5 or 8.
-pub fn program_of(kind: Kind, random: &mut Random) -> Program {
-    let sizes = random_sizes(kind, random);
-    let signatures = random_signatures(!sizes.is_empty(), random);
-    let careless = random.percent(3);
+pub fn program_of(kind: Kind, scale: Scale, random: &mut Random) -> Program {
+    let sizes = random_sizes(kind, scale, random);
+    let signatures = random_signatures(kind, scale, !sizes.is_empty(), random);
+    let careless = scale == Scale::Small && random.percent(3);
     let mut maker = Maker {
         random,
         kind,
+        scale,
         sizes: &sizes,
         signatures: &signatures,
         careless,
@@ -90,28 +99,52 @@ pub fn program_of(kind: Kind, random: &mut Random) -> Program {
     }
 }
 
-fn random_sizes(kind: Kind, random: &mut Random) -> Vec<u16> {
+fn random_sizes(kind: Kind, scale: Scale, random: &mut Random) -> Vec<u16> {
+    if scale == Scale::Large {
+        let (count, most) = match kind {
+            Kind::Concurrent => (random.between(20, 64), 32),
+            Kind::Sequential => (random.between(100, 512), 16),
+        };
+        return (0..count).map(|_| random.between(1, most) as u16).collect();
+    }
     let fewest = match kind {
         Kind::Concurrent => usize::from(!random.percent(5)),
         Kind::Sequential => 2,
     };
-    let count = random.between(fewest, 4.max(fewest));
     let size = |random: &mut Random| match random.below(12) {
         0 => random.between(1, 20) as u16,
         _ => random.between(1, 4) as u16,
     };
-    (0..count).map(|_| size(random)).collect()
+    (0..random.between(fewest, 4))
+        .map(|_| size(random))
+        .collect()
 }
 
-/// Procedure 0 has no parameters; the others may have up to three.
-fn random_signatures(has_locations: bool, random: &mut Random) -> Vec<Signature> {
-    let count = random.pick(&[1, 1, 2, 2, 3, 4]);
+/// Procedure 0 has no parameters; the others may have some.
+fn random_signatures(
+    kind: Kind,
+    scale: Scale,
+    has_locations: bool,
+    random: &mut Random,
+) -> Vec<Signature> {
+    let count = match scale {
+        Scale::Small => random.pick(&[1, 1, 2, 2, 3, 4]),
+        Scale::Large => random.between(8, 16),
+    };
+    let most_locals = match kind {
+        Kind::Concurrent => 16,
+        Kind::Sequential => 32,
+    };
     let signature = |number: usize, random: &mut Random| {
-        let most = if number == 0 { 0 } else { 3 };
+        let most = match (number, scale) {
+            (0, _) => 0,
+            (_, Scale::Small) => 3,
+            (_, Scale::Large) => 6,
+        };
         let parameters = random.between(0, most);
-        let locals = match random.below(30) {
-            0 => parameters,
-            1 => 16,
+        let locals = match (random.below(30), scale) {
+            (0, _) => parameters,
+            (1, _) | (_, Scale::Large) => random.between(10, most_locals),
             _ => parameters + random.between(1, 4),
         };
         Signature {
@@ -164,6 +197,7 @@ impl Scope {
 struct Maker<'a> {
     random: &'a mut Random,
     kind: Kind,
+    scale: Scale,
     sizes: &'a [u16],
     signatures: &'a [Signature],
     careless: bool,
@@ -176,9 +210,10 @@ impl Maker<'_> {
     fn procedure(&mut self, number: usize) -> Procedure {
         let parameters = self.signatures[number].parameters;
         self.scope = Scope::new(number, parameters);
-        self.room = match self.random.below(15) {
-            0 => 0,
-            1 => 25,
+        self.room = match (self.scale, self.random.below(15)) {
+            (_, 0) => 0,
+            (Scale::Large, _) => self.random.between(4, 18),
+            (_, 1) => 25,
             _ => self.random.between(2, 12),
         };
         let mut body = Block::new();
@@ -280,7 +315,7 @@ impl Maker<'_> {
         match self.random.below(60) {
             0 => i32::MAX,
             1 => i32::MIN,
-            2 => self.random.next() as i32,
+            2 => self.random.draw() as i32,
             _ => self.random.between(0, 9) as i32 - 2,
         }
     }
@@ -364,7 +399,8 @@ impl Maker<'_> {
         match self.random.below(40) {
             0 => self.expression(Sort::Number),
             1 => number(self.random.between(0, size) as i32),
-            2..=4 => add(number(0), number(self.random.below(size) as i32)),
+            2 => number(size as i32),
+            3..=5 => add(number(0), number(self.random.below(size) as i32)),
             _ => number(self.random.below(size) as i32),
         }
     }
@@ -543,40 +579,45 @@ pub fn damaged(table: &[u8], random: &mut Random) -> Vec<u8> {
 }
 
 fn damage(bytes: &mut Vec<u8>, random: &mut Random) {
-    let place = random
-        .below(bytes.len() + 1)
-        .min(bytes.len().saturating_sub(1));
-    match random.below(12) {
+    if bytes.is_empty() {
+        bytes.push(random.byte());
+        return;
+    }
+    let place = random.below(bytes.len());
+    let before_trailer = place.min(bytes.len().saturating_sub(17));
+    match random.below(24) {
         0 => bytes.truncate(place),
         1 => bytes.push(random.byte()),
         2 => bytes.insert(place, random.byte()),
-        3 if !bytes.is_empty() => {
+        3 => {
             bytes.remove(place);
         }
         // A change of length that the trailer agrees with.
-        4 if bytes.len() > 40 => {
-            bytes.remove(place.min(bytes.len() - 17));
+        4..=5 if bytes.len() > 16 => {
+            bytes.remove(before_trailer);
             tell_length(bytes);
         }
-        5 if bytes.len() > 40 => {
-            bytes.insert(place.min(bytes.len() - 17), random.byte());
+        6..=7 if bytes.len() > 16 => {
+            bytes.insert(before_trailer, random.byte());
             tell_length(bytes);
         }
-        6..=7 if !bytes.is_empty() => bytes[place] ^= 1 << random.below(8),
-        8..=9 if !bytes.is_empty() => {
+        8..=12 => bytes[place] ^= 1 << random.below(8),
+        13..=18 => {
             bytes[place] = random.pick(&[
                 0x00, 0x01, 0x02, 0x03, 0x04, 0x05, 0x10, 0x13, 0x14, 0x15, 0x16, 0x17, 0x20, 0x21,
                 0x22, 0x23, 0x24, 0x25, 0x26, 0x27,
             ]);
         }
-        _ if !bytes.is_empty() => bytes[place] = random.byte(),
-        _ => {}
+        _ => bytes[place] = random.byte(),
     }
 }
 
+/// Writes the length into the trailer, where there is one.
 fn tell_length(bytes: &mut [u8]) {
     let length = bytes.len();
-    bytes[length - 4..].copy_from_slice(&(length as u32).to_le_bytes());
+    if length >= 16 {
+        bytes[length - 4..].copy_from_slice(&(length as u32).to_le_bytes());
+    }
 }
 
 /// True if an instruction of this shape stands anywhere in the program.

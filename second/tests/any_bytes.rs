@@ -4,7 +4,7 @@ use second::builder::table;
 use second::calls::*;
 use second::line::line;
 use second::program::{Instruction, Kind};
-use second::random::{damaged, holds, program_of, Random};
+use second::random::{damaged, holds, program_of, Random, Scale};
 use second::samples::{judged, number_9};
 use second::verdict::verdict;
 use second::write;
@@ -67,7 +67,7 @@ fn damaged_tables() {
             0 => Kind::Concurrent,
             _ => Kind::Sequential,
         };
-        let program = program_of(kind, &mut random);
+        let program = program_of(kind, Scale::Small, &mut random);
         let bytes = damaged(&write::table(&program, kind), &mut random);
         let schedule: Vec<u8> = (0..random.below(30)).map(|_| random.byte() % 4).collect();
         accepted += usize::from(give_to_all_calls(&bytes, &schedule));
@@ -112,7 +112,7 @@ fn random_programs_are_varied() {
             0 => Kind::Concurrent,
             _ => Kind::Sequential,
         };
-        let program = program_of(kind, &mut random);
+        let program = program_of(kind, Scale::Small, &mut random);
         if kind == Kind::Concurrent {
             assert_eq!(table(&program), write::table(&program, kind));
         }
