@@ -9,7 +9,7 @@ use second::calls::{read_concurrent, read_sequential, run_sequential, translate}
 use second::concurrent::Concurrent;
 use second::line::BUDGET;
 use second::program::{Instruction, Kind, Program};
-use second::random::{damaged, program_of, schedule_for, Random};
+use second::random::{damaged, program_of, schedule_for, Random, Scale};
 use second::run_samples::{ran, Ran};
 use second::samples::{b, judged, number_9, one_thread, sequential, translating_to, Judged, A};
 use second::verdict::verdict;
@@ -19,7 +19,9 @@ use std::fs;
 
 const SEED: u64 = 20_170_301;
 const RANDOM_PROGRAMS: usize = 500;
-const RANDOM_SEQUENTIAL_PROGRAMS: usize = 250;
+const LARGE_PROGRAMS: usize = 6;
+const RANDOM_SEQUENTIAL_PROGRAMS: usize = 200;
+const LARGE_SEQUENTIAL_PROGRAMS: usize = 12;
 const DAMAGED_TABLES: usize = 500;
 
 fn main() -> std::io::Result<()> {
@@ -36,8 +38,10 @@ fn main() -> std::io::Result<()> {
 }
 
 fn whole_batch() -> Batch {
-    let mut batch = Batch::default();
-    batch.section = "worked";
+    let mut batch = Batch {
+        section: "worked",
+        ..Batch::default()
+    };
     worked(&mut batch);
     batch.section = "judged tables";
     judged_tables(&mut batch);
@@ -53,11 +57,17 @@ fn whole_batch() -> Batch {
     let mut random = Random::new(SEED);
     batch.section = "random programs";
     for _ in 0..RANDOM_PROGRAMS {
-        random_program(&mut batch, &mut random);
+        random_program(Scale::Small, &mut batch, &mut random);
+    }
+    for _ in 0..LARGE_PROGRAMS {
+        random_program(Scale::Large, &mut batch, &mut random);
     }
     batch.section = "random sequential programs";
     for _ in 0..RANDOM_SEQUENTIAL_PROGRAMS {
-        random_sequential_program(&mut batch, &mut random);
+        random_sequential_program(Scale::Small, &mut batch, &mut random);
+    }
+    for _ in 0..LARGE_SEQUENTIAL_PROGRAMS {
+        random_sequential_program(Scale::Large, &mut batch, &mut random);
     }
     batch.section = "damaged tables";
     for number in 0..DAMAGED_TABLES {
@@ -302,7 +312,10 @@ fn long_copies(batch: &mut Batch) {
     let copy = copy_of(&longest).expect("65,536 bytes are not too long");
     batch.add(read_case(Kind::Sequential, &copy));
     batch.add(line_case(&[0; 5], &longest));
-    for source in [A.to_vec(), table(&b()), longest] {
+    for out in [65_535, 65_536, 65_537] {
+        batch.add(translate_case(&longest, out));
+    }
+    for source in [A.to_vec(), table(&b())] {
         let length = copy_of(&source).map_or(0, |copy| copy.len() as u32);
         for out in [0, 1, length - 1, length, length + 1, length + 300] {
             batch.add(translate_case(&source, out));
@@ -403,11 +416,34 @@ fn long_runs(batch: &mut Batch) {
         batch.add(read_case(Kind::Concurrent, &source));
         batch.add(run_case(Kind::Concurrent, &source, &entries, 5, 0));
         batch.add(line_case(&entries, &source));
-        for budget in [0, 50_000, BUDGET] {
+        for budget in [50_000, BUDGET] {
             let case = run_case(Kind::Sequential, &copy, &entries[..1_000], cells, 0);
             batch.add(Case { budget, ..case });
         }
     }
+    many_events(batch);
+}
+
+/// More events than the longest event buffer holds.
+fn many_events(batch: &mut Batch) {
+    let mut inner = vec![read(1, 0, number(1)); 9];
+    inner.push(write(0, number(1), add(local(1), number(1))));
+    let body = vec![
+        assign(0, location(0)),
+        while_do(truth(true), vec![atomic(inner)]),
+    ];
+    let source = table(&one_thread(2, body));
+    let copy = copy_of(&source).expect("an accepted table");
+    let cells = cell_bytes(Kind::Sequential, &copy);
+    for events in [0, 19_998, 20_000] {
+        batch.add(run_case(Kind::Concurrent, &source, &[0; 600], 10, events));
+        let case = run_case(Kind::Sequential, &copy, &[0; 600], cells, events);
+        batch.add(Case {
+            budget: BUDGET,
+            ..case
+        });
+    }
+    batch.add(line_case(&[0; 600], &source));
 }
 
 /// Number 12.
@@ -460,8 +496,8 @@ fn inputs(batch: &mut Batch) {
 // ---- random cases ----
 
 /// A random program given to every call, its copy among them.
-fn random_program(batch: &mut Batch, random: &mut Random) {
-    let program = program_of(Kind::Concurrent, random);
+fn random_program(scale: Scale, batch: &mut Batch, random: &mut Random) {
+    let program = program_of(Kind::Concurrent, scale, random);
     let source = write::table(&program, Kind::Concurrent);
     let most = random.pick(&[40, 80, 150]);
     let is_accepted = verdict(&source, Kind::Concurrent).is_ok();
@@ -565,8 +601,8 @@ fn copy_case(copy: &[u8], locations: u32, schedule: &[u8], random: &mut Random) 
 }
 
 /// A random program in the sequential language itself.
-fn random_sequential_program(batch: &mut Batch, random: &mut Random) {
-    let program = program_of(Kind::Sequential, random);
+fn random_sequential_program(scale: Scale, batch: &mut Batch, random: &mut Random) {
+    let program = program_of(Kind::Sequential, scale, random);
     let source = write::table(&program, Kind::Sequential);
     batch.add(read_case(Kind::Sequential, &source));
     batch.add(sequential_case(&source, program.sizes.len(), random));
@@ -594,7 +630,7 @@ fn damaged_table(number: usize, batch: &mut Batch, random: &mut Random) {
 }
 
 fn damaged_concurrent(batch: &mut Batch, random: &mut Random) {
-    let program = program_of(Kind::Concurrent, random);
+    let program = program_of(Kind::Concurrent, Scale::Small, random);
     let good = write::table(&program, Kind::Concurrent);
     let bytes = damaged(&good, random);
     let schedule = match verdict(&good, Kind::Concurrent) {
@@ -631,7 +667,7 @@ fn damaged_copy(batch: &mut Batch, random: &mut Random) {
 
 fn small_copy(random: &mut Random) -> (Program, Vec<u8>) {
     loop {
-        let program = program_of(Kind::Concurrent, random);
+        let program = program_of(Kind::Concurrent, Scale::Small, random);
         match copy_of(&write::table(&program, Kind::Concurrent)) {
             Some(copy) if copy.len() < 1_500 => return (program, copy),
             _ => {}
@@ -640,7 +676,7 @@ fn small_copy(random: &mut Random) -> (Program, Vec<u8>) {
 }
 
 fn damaged_sequential(batch: &mut Batch, random: &mut Random) {
-    let program = program_of(Kind::Sequential, random);
+    let program = program_of(Kind::Sequential, Scale::Small, random);
     let bytes = damaged(&write::table(&program, Kind::Sequential), random);
     batch.add(read_case(Kind::Sequential, &bytes));
     batch.add(sequential_case(&bytes, program.sizes.len(), random));
