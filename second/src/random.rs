@@ -396,13 +396,21 @@ impl Maker<'_> {
     }
 
     fn index(&mut self, size: usize) -> Expression {
+        let inside = number(self.random.below(size) as i32);
         match self.random.below(40) {
             0 => self.expression(Sort::Number),
             1 => number(self.random.between(0, size) as i32),
             2 => number(size as i32),
-            3..=5 => add(number(0), number(self.random.below(size) as i32)),
-            _ => number(self.random.below(size) as i32),
+            3..=12 => add(inside, self.nought()),
+            13..=15 => self.nought(),
+            _ => inside,
         }
+    }
+
+    /// The number 0, most often written with variables.
+    fn nought(&mut self) -> Expression {
+        let x = self.leaf(Sort::Number);
+        multiply(number(0), x)
     }
 
     fn writing(&mut self) -> Block {

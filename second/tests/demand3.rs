@@ -311,7 +311,7 @@ fn demand_3_on_random_programs() {
 #[test]
 fn demand_3_on_large_random_programs() {
     let (ends, refused) = check_many(200, Scale::Large, 4, 400);
-    assert!(ends.iter().all(|count| *count != 200));
+    assert!(ends[..3].iter().all(|count| *count > 20));
     assert!(refused < 40);
 }
 
