@@ -202,6 +202,16 @@ fn accepted_of_both(shelf: &mut Shelf) {
             assign(1, local(0)),
         ],
     );
+    shelf.body(
+        "a pointer in its own index and value",
+        vec![
+            assign(0, location(0)),
+            write(0, number(0), local(0)),
+            write(0, local(0), local(0)),
+            read(1, 0, add(local(0), number(1))),
+            read(0, 0, local(0)),
+        ],
+    );
     shelf.fields("sizes 1 and 256", |f| f.sizes = vec![1, 256]);
     let diamond = vec![
         procedure(0, 0, vec![call(1, vec![]), call(2, vec![])]),

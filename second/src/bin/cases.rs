@@ -19,9 +19,9 @@ use std::fs;
 
 const SEED: u64 = 20_170_301;
 const RANDOM_PROGRAMS: usize = 500;
-const LARGE_PROGRAMS: usize = 6;
+const LARGE_PROGRAMS: usize = 4;
 const RANDOM_SEQUENTIAL_PROGRAMS: usize = 200;
-const LARGE_SEQUENTIAL_PROGRAMS: usize = 12;
+const LARGE_SEQUENTIAL_PROGRAMS: usize = 10;
 const DAMAGED_TABLES: usize = 500;
 
 fn main() -> std::io::Result<()> {
@@ -307,7 +307,10 @@ fn long_copies(batch: &mut Batch) {
         batch.add(translate_case(&sample.table, 70_000));
         batch.add(line_case(&[0], &sample.table));
     }
-    batch.add(translate_case(&number_9()[0].table, 10));
+    // 9 comes before 10 and 11.
+    let too_long = &number_9()[0].table;
+    batch.add(translate_case(too_long, 10));
+    batch.add(line_case(&[9], too_long));
     let longest = translating_to(65_536);
     let copy = copy_of(&longest).expect("65,536 bytes are not too long");
     batch.add(read_case(Kind::Sequential, &copy));
@@ -379,7 +382,7 @@ fn schedules(batch: &mut Batch) {
         &[9; 4_097],
     ];
     for schedule in refused {
-        for cells in [0, 4, 5, 9] {
+        for cells in [4, 5] {
             batch.add(run_case(Kind::Concurrent, &b, schedule, cells, 44));
         }
         batch.add(line_case(schedule, &b));
@@ -484,6 +487,11 @@ fn inputs(batch: &mut Batch) {
     for (place, byte) in [(0, 3), (0, 5), (0, 61), (0, 62), (1, 1), (1, 16), (1, 255)] {
         let mut input = whole.clone();
         input[place] = byte;
+        batch.add(input_case(&input));
+    }
+    // A right table that the length takes for the schedule, wholly or in part.
+    for length in [1, 16, 41, 56, 57, 58, 200, 4_096, 65_535] {
+        let input = [u16::to_le_bytes(length).to_vec(), b.clone()].concat();
         batch.add(input_case(&input));
     }
     for length in [20_481, 20_482, 20_483, 20_484] {
