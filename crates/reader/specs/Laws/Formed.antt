@@ -11,6 +11,7 @@ use Rattle.reader.specs.Syntax.{Program, Plain, Kind}
 use Rattle.reader.specs.Encode.{Head, Middle, middle, Trailer, trailer, kindMark, distance, table, bodiesOf}
 use Rattle.reader.specs.Rules.{limits, starts, allAllowed, allNamed, fewLabels, noCycle, setFirst, Verdict, accepted, require}
 use Rattle.reader.specs.Laws.Names.{Takes, AllNames}
+use Rattle.reader.specs.Laws.Depths.{BodyRight}
 use Rattle.reader.specs.Laws.Fits.{BlockFits}
 use Rattle.reader.specs.Laws.Sections.{MiddleFits, TrailerFits}
 use Rattle.reader.specs.Laws.Sound.{Within, LocalsRight, FewLabels, NoCycle}
@@ -63,8 +64,10 @@ pub record Formed (k : Kind) (t : List ℕ) (p : Program Plain) : Type 0 where
   pub sizes : Each (Within 1 256) (p .sizes)
   pub cells : sum (p .sizes) ≤ limits k .cells
   pub mains : Each (λ m. Takes (p .procs) m 0) (starts k (p .mains))
-  pub bodies : Each (BlockFits 16) (bodiesOf (p .procs))
+  pub bodies : Each BodyRight (bodiesOf (p .procs))
   pub allowed : allAllowed k 0 (bodiesOf (p .procs)) ≡ true
+  -- beyond Sound: each number fits its bytes, so p is the one program of this table
+  pub fits : Each (BlockFits 16) (bodiesOf (p .procs))
 
 -- the rules up to n hold of t
 pub data Upto (k : Kind) (t : List ℕ) : ℕ → Type 0 where

@@ -6,19 +6,19 @@ use mathlib.Core.List.{List, [], _∷_, _++_}
 use mathlib.Core.Bool.{true, false}
 use lib.ListN.{length, getD, take, drop, length-append}
 use lib.Signed.{mag}
-use Rattle.value.specs.Values.{One, Two, bytes, word}
+use Rattle.value.specs.Values.{One, Two, bytes, word, unbytes, unword}
 use Rattle.value.specs.Marks.{Mark, wholeMark, locationMark, noMark, yesMark, localMark, oneMark, twoMark, noExpr, marks, mark₁, mark₂}
 use Rattle.value.specs.declared.Value.the-variants.{Whole, Location, Truth}
 use Rattle.value.specs.Laws.Lists.{Each}
 use Rattle.reader.specs.Syntax.{Expr, constant, local, one, two, Instr, assign, write, read, while, if, call, atomic, select, Block, end, step}
 use Rattle.reader.specs.Encode.{each}
 use Rattle.reader.specs.Encode as E
-use Rattle.value.specs.Values.{unbytes, unword}
 use Rattle.reader.specs.Decode.{Form, assignForm, writeForm, readForm, whileForm, ifForm, callForm, atomicForm, selectForm, noForm, forms}
-use Rattle.reader.specs.Laws.Bytes.{unword-word}
+use Rattle.value.specs.Laws.Bytes.{unword-word, word-fits}
 use Rattle.reader.specs.Laws.Depths.{depth}
 use Rattle.reader.specs.Laws.Fits.{ExprFits, InstrFits, BlockFits}
-use Rattle.reader.specs.Laws.Exprs.{mark₁-marks, mark₂-marks, word-fits, depth-pos}
+use Rattle.value.specs.Laws.Marks.{mark₁-marks, mark₂-marks}
+use Rattle.reader.specs.Laws.Exprs.{depth-pos}
 use Rattle.reader.specs.Laws.Blocks.{begins, nesting-pos}
 use Rattle.reader.specs.Laws.Stands.{Stands, inside, first, others, front, back, number-at}
 

@@ -8,13 +8,14 @@ use lib.ListN.{length, length-append}
 use Rattle.value.specs.Maybe.{Maybe}
 use Rattle.value.specs.Laws.Tests.{Decides, itself, _and_}
 use Rattle.value.specs.Lists.{sum}
-use Rattle.value.specs.Laws.Lists.{Each}
+use Rattle.value.specs.Laws.Lists.{Each, each-so}
 use Rattle.reader.specs.Syntax.{Block, Program, Plain, Kind}
 use Rattle.reader.specs.Encode.{each, Middle, Trailer, heads, bodiesOf, middleOf, front, trailerOf, block, kindMark, distance}
 use Rattle.reader.specs.Encode as E
 use Rattle.reader.specs.Decode.{but, last}
 use Rattle.reader.specs.Rules.{limits, starts, placed, bind, allAllowed, program, setFirst, rightRecords, Verdict, accepted, refused, demand, require, verdict}
 use Rattle.value.specs.Laws.Bytes.{Bytes}
+use Rattle.reader.specs.Laws.Ranges.{body-right}
 use Rattle.reader.specs.Laws.Reading.{If, so, none, chain, tested}
 use Rattle.reader.specs.Laws.Names.{AllNames, all-names?}
 use Rattle.reader.specs.Laws.Fits.{BlockFits}
@@ -114,7 +115,8 @@ formed-by k t {rest} {code} {r} {m} {p} closed counts records made =
       sizes = right .1 .0;
       cells = right .1 .1 .0;
       mains = right .1 .1 .1;
-      bodies = made .fit;
+      bodies = each-so body-right (bodiesOf (p .procs)) (made .fit);
+      fits = made .fit;
       allowed = made .allowed;
     }
 

@@ -172,7 +172,7 @@ module _ (k : Kind) (t : List ℕ) (p : Program Plain) (formed : Formed k t p) w
   pub program-read : program k (but (trailerOf k p .back) (but 16 t)) (middleOf p) ≡ is p
   program-read =
       let bodies : finish (times (D.block 16) (length (heads 0 (p .procs))) (each block (bodiesOf (p .procs)))) ≡ is (bodiesOf (p .procs))
-      = finish-undoes (bodies-exact _) (bodiesOf (p .procs)) (length-bodies (p .procs) ∙ sym (length-heads 0 (p .procs)), formed .bodies) in
+      = finish-undoes (bodies-exact _) (bodiesOf (p .procs)) (length-bodies (p .procs) ∙ sym (length-heads 0 (p .procs)), formed .fits) in
       rw (cut-code k t formed-trailer formed-records, bodies)
       (test-passed _ (itself (placed 0 (heads 0 (p .procs)) (bodiesOf (p .procs))) and itself (allAllowed k 0 (bodiesOf (p .procs))))
       (placed-heads 0 (p .procs), formed .allowed)

@@ -10,7 +10,7 @@ use Rattle.reader.specs.Syntax.{Expr, Instr, Block, Plain}
 use Rattle.reader.specs.Encode as E
 use Rattle.reader.specs.Decode.{Read}
 use Rattle.reader.specs.Decode as D
-use Rattle.reader.specs.Laws.Bytes.{Bytes, bytes-drop}
+use Rattle.value.specs.Laws.Bytes.{Bytes, bytes-drop}
 use Rattle.reader.specs.Laws.Reading.{Took, Exact, known-is}
 use Rattle.reader.specs.Laws.Fits.{ExprFits, InstrFits, BlockFits}
 use Rattle.reader.specs.Laws.Exprs.{expr-exact}

@@ -6,9 +6,8 @@ use mathlib.Core.Path.{_≡_, refl, sym, ap, subst, _∙_}
 use mathlib.Core.List.{List, [], _∷_, _++_, append-assoc, append-nil}
 use lib.ListN.{length, getD, take, drop, length-append, length-drop, length-take, take-append-drop}
 use lib.Seq.{drop-drop, drop-cons, drop-append-seam, drop-append-le, drop-length, getD-drop, take-at, take-append-seam, length-take-le}
-use Rattle.value.specs.Values.{bytes}
-use Rattle.value.specs.Values.{unbytes}
-use Rattle.reader.specs.Laws.Bytes.{Bytes, length-bytes, unbytes-bytes, bytes-unbytes, bytes-take, bytes-drop}
+use Rattle.value.specs.Values.{bytes, unbytes}
+use Rattle.value.specs.Laws.Bytes.{Bytes, length-bytes, unbytes-bytes, bytes-unbytes, bytes-take, bytes-drop}
 
 -- the bytes `bs` stand in t from i up to j
 pub record Stands (t : List ℕ) (i : ℕ) (bs : List ℕ) (j : ℕ) : Type 0 where
