@@ -8,7 +8,7 @@ use lib.ListN.{length, getD}
 use lib.Dec.{eqb, ltb, leb}
 use borrow.Author.Tests.{ne-eqb, ltb-true, leb-true, lt-ltb, le-ltb}
 use Rattle.value.specs.Laws.Tests.{by-test}
-use Rattle.reader.specs.Laws.Tables.{looked-up}
+use Rattle.value.specs.Laws.Tables.{looked-up}
 use Rattle.reader.specs.declared.tokens.Token.{Token}
 use Rattle.reader.specs.declared.tokens.Token.the-variants as T
 use Rattle.value.specs.Values.{bytes, word, One, not, neg, Two, add, sub, mul, less, equal, and}
