@@ -6,3 +6,5 @@ pub mod Chains
 pub mod Expressions
 -- and through that of several
 pub mod Values
+-- and through that of an instruction without blocks
+pub mod Plain

@@ -3,6 +3,11 @@ use super::Context;
 use super::Ends;
 use super::Kind;
 use super::expression;
+ghost use mathlib.Core.Path.{_≡_};
+ghost use mathlib.Core.Bool as B;
+ghost use lib.Dec.{eqb};
+ghost use Rattle.value.specs.Maybe.{both};
+ghost use Rattle.reader.specs.Rules.{isConcurrent, plainly};
 ghost use Rattle.reader.specs.Ends.{ReadsValues, ReadsPlain, ReadsInstr, ReadsBlock, hereOf};
 
 // The bytes that begin an instruction.
@@ -42,4 +47,60 @@ fn read_values(code: &[u8], at: usize, count: u8) -> Ends
         left -= 1;
     }
     Ends::At(position)
+}
+
+// "select, sequential only, only in procedure 0".
+fn may_select(context: Context) -> bool
+    ensures { λ r. ⌜ r ≡ both (B.not (isConcurrent (hereOf context .kind))) (eqb (context .procedure) 0) ⌝ }
+{
+    let kind = context.kind;
+    match kind {
+        Kind::Concurrent => false,
+        Kind::Sequential => context.procedure == 0,
+    }
+}
+
+// "atomic, concurrent only; within it no while, call or atomic".
+fn may_atomic(context: Context) -> bool
+    ensures { λ r. ⌜ r ≡ both (isConcurrent (hereOf context .kind)) (plainly (hereOf context)) ⌝ }
+{
+    let kind = context.kind;
+    match kind {
+        Kind::Concurrent => !context.inside,
+        Kind::Sequential => false,
+    }
+}
+
+// The instructions that hold no block: some bytes, and then some expressions.
+fn read_plain(code: &[u8], at: usize, context: Context) -> Ends
+    ensures { λ r. ⌜ ReadsPlain (now (code .entry)) at (hereOf context) r ⌝ }
+{
+    if code.len() <= at {
+        return Ends::Nothing;
+    }
+    let byte = code[at];
+    if byte == ASSIGN {
+        return read_values(code, at + 2, 1);
+    }
+    if byte == WRITE {
+        return read_values(code, at + 2, 2);
+    }
+    if byte == READ {
+        return read_values(code, at + 3, 1);
+    }
+    if byte == CALL {
+        if context.inside {
+            return Ends::Nothing;
+        }
+        if code.len() <= at + 3 {
+            return Ends::Nothing;
+        }
+        return read_values(code, at + 4, code[at + 3]);
+    }
+    if byte == SELECT {
+        if may_select(context) {
+            return read_values(code, at + 5, 0);
+        }
+    }
+    Ends::Nothing
 }
