@@ -8,3 +8,5 @@ pub mod Expressions
 pub mod Values
 -- and through that of an instruction without blocks
 pub mod Plain
+-- and through those of blocks and instructions
+pub mod Blocks

@@ -8,7 +8,7 @@ ghost use mathlib.Core.Bool as B;
 ghost use lib.Dec.{eqb};
 ghost use Rattle.value.specs.Maybe.{both};
 ghost use Rattle.reader.specs.Rules.{isConcurrent, plainly};
-ghost use Rattle.reader.specs.Ends.{ReadsValues, ReadsPlain, ReadsInstr, ReadsBlock, hereOf};
+ghost use Rattle.reader.specs.Ends.{ReadsValues, ReadsPlain, ReadsInstr, ReadsBlock, hereOf, insideOf};
 
 // The bytes that begin an instruction.
 pub const ASSIGN: u8 = 0x20;
@@ -103,4 +103,71 @@ fn read_plain(code: &[u8], at: usize, context: Context) -> Ends
         }
     }
     Ends::Nothing
+}
+
+// Inside an atomic block that stands there.
+fn within(context: Context) -> Context
+    ensures { λ r. ⌜ hereOf r ≡ insideOf (hereOf context) ⌝ }
+{
+    let kind = context.kind;
+    Context {
+        kind,
+        procedure: context.procedure,
+        inside: true,
+    }
+}
+
+// Where the block that stands from `at` on ends, if it is at most `depth` blocks one in the other.
+pub fn read_block(code: &[u8], at: usize, depth: u8, context: Context) -> Ends
+    ensures { λ r. ⌜ ReadsBlock (now (code .entry)) at depth (hereOf context) r ⌝ }
+{
+    if depth == 0 {
+        return Ends::Nothing;
+    }
+    let mut position = at;
+    while position < code.len() {
+        if code[position] == END {
+            return Ends::At(position + 1);
+        }
+        let Ends::At(next) = read_instruction(code, position, depth - 1, context) else {
+            return Ends::Nothing;
+        };
+        position = next;
+    }
+    Ends::Nothing
+}
+
+// Where the instruction that stands from `at` on ends; the blocks in it are at most `depth` deep.
+pub fn read_instruction(code: &[u8], at: usize, depth: u8, context: Context) -> Ends
+    ensures { λ r. ⌜ ReadsInstr (now (code .entry)) at depth (hereOf context) r ⌝ }
+{
+    if code.len() <= at {
+        return Ends::Nothing;
+    }
+    let byte = code[at];
+    if byte == WHILE {
+        if context.inside {
+            return Ends::Nothing;
+        }
+        let Ends::At(body) = expression::read_expr(code, at + 1, expression::DEPTH) else {
+            return Ends::Nothing;
+        };
+        return read_block(code, body, depth, context);
+    }
+    if byte == IF {
+        let Ends::At(first) = expression::read_expr(code, at + 1, expression::DEPTH) else {
+            return Ends::Nothing;
+        };
+        let Ends::At(second) = read_block(code, first, depth, context) else {
+            return Ends::Nothing;
+        };
+        return read_block(code, second, depth, context);
+    }
+    if byte == ATOMIC {
+        if may_atomic(context) {
+            return read_block(code, at + 1, depth, within(context));
+        }
+        return Ends::Nothing;
+    }
+    read_plain(code, at, context)
 }
