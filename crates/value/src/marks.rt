@@ -23,6 +23,7 @@ pub struct Row {
     pub payload: u8,
 }
 
+// A byte that is no mark.
 const OTHER: Row = Row {
     operands: NO_MARK,
     takes: ANY,
@@ -30,43 +31,94 @@ const OTHER: Row = Row {
     payload: 0,
 };
 
+// 01: four bytes follow.
+const NUMBER: Row = Row {
+    operands: 0,
+    takes: ANY,
+    gives: WHOLE,
+    payload: 4,
+};
+
+// 02: two bytes follow.
+const PLACE: Row = Row {
+    operands: 0,
+    takes: ANY,
+    gives: LOCATION,
+    payload: 2,
+};
+
+// 03, 04.
+const FLAG: Row = Row {
+    operands: 0,
+    takes: ANY,
+    gives: TRUTH,
+    payload: 0,
+};
+
+// 05: one byte follows.
+const LOCAL: Row = Row {
+    operands: 0,
+    takes: ANY,
+    gives: ANY,
+    payload: 1,
+};
+
+// 10, 11, 12: add, subtract, multiply.
+const ARITHMETIC: Row = Row {
+    operands: 2,
+    takes: WHOLE,
+    gives: WHOLE,
+    payload: 0,
+};
+
+// 13.
+const LESS: Row = Row {
+    operands: 2,
+    takes: WHOLE,
+    gives: TRUTH,
+    payload: 0,
+};
+
+// 14.
+const EQUAL: Row = Row {
+    operands: 2,
+    takes: ANY,
+    gives: TRUTH,
+    payload: 0,
+};
+
+// 15.
+const AND: Row = Row {
+    operands: 2,
+    takes: TRUTH,
+    gives: TRUTH,
+    payload: 0,
+};
+
+// 16.
+const NOT: Row = Row {
+    operands: 1,
+    takes: TRUTH,
+    gives: TRUTH,
+    payload: 0,
+};
+
+// 17.
+const NEGATE: Row = Row {
+    operands: 1,
+    takes: WHOLE,
+    gives: WHOLE,
+    payload: 0,
+};
+
+// By mark byte, 00 to 17.
 const ROWS: [Row; 24] = [
-    Row {
-        operands: NO_MARK,
-        takes: ANY,
-        gives: ANY,
-        payload: 0,
-    },
-    Row {
-        operands: 0,
-        takes: ANY,
-        gives: WHOLE,
-        payload: 4,
-    },
-    Row {
-        operands: 0,
-        takes: ANY,
-        gives: LOCATION,
-        payload: 2,
-    },
-    Row {
-        operands: 0,
-        takes: ANY,
-        gives: TRUTH,
-        payload: 0,
-    },
-    Row {
-        operands: 0,
-        takes: ANY,
-        gives: TRUTH,
-        payload: 0,
-    },
-    Row {
-        operands: 0,
-        takes: ANY,
-        gives: ANY,
-        payload: 1,
-    },
+    OTHER,
+    NUMBER,
+    PLACE,
+    FLAG,
+    FLAG,
+    LOCAL,
     OTHER,
     OTHER,
     OTHER,
@@ -77,54 +129,14 @@ const ROWS: [Row; 24] = [
     OTHER,
     OTHER,
     OTHER,
-    Row {
-        operands: 2,
-        takes: WHOLE,
-        gives: WHOLE,
-        payload: 0,
-    },
-    Row {
-        operands: 2,
-        takes: WHOLE,
-        gives: WHOLE,
-        payload: 0,
-    },
-    Row {
-        operands: 2,
-        takes: WHOLE,
-        gives: WHOLE,
-        payload: 0,
-    },
-    Row {
-        operands: 2,
-        takes: WHOLE,
-        gives: TRUTH,
-        payload: 0,
-    },
-    Row {
-        operands: 2,
-        takes: ANY,
-        gives: TRUTH,
-        payload: 0,
-    },
-    Row {
-        operands: 2,
-        takes: TRUTH,
-        gives: TRUTH,
-        payload: 0,
-    },
-    Row {
-        operands: 1,
-        takes: TRUTH,
-        gives: TRUTH,
-        payload: 0,
-    },
-    Row {
-        operands: 1,
-        takes: WHOLE,
-        gives: WHOLE,
-        payload: 0,
-    },
+    ARITHMETIC,
+    ARITHMETIC,
+    ARITHMETIC,
+    LESS,
+    EQUAL,
+    AND,
+    NOT,
+    NEGATE,
 ];
 
 // The row of a byte.
