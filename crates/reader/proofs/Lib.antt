@@ -10,3 +10,5 @@ pub mod Values
 pub mod Plain
 -- and through those of blocks and instructions
 pub mod Blocks
+-- one law for each way through rules 1 and 2
+pub mod Trailers

@@ -18,28 +18,10 @@ use Rattle.reader.specs.Decode.{selectForm, noForm, forms, formed, instr
 use Rattle.reader.specs.Rules.{Here, allowedI, isConcurrent}
 use Rattle.reader.specs.Ends.{endOf, check, ReadsValues, ReadsInstr, ReadsPlain}
 use Rattle.reader.specs.Laws.Blocks.{forms?, form-right}
+use Rattle.reader.specs.Laws.Positions.{byte-at, byte-past, number-at, number-past}
 use Rattle.reader.proofs.Chains.{ends-then, ends-none, ends-made, ends-made₂, ends-alike, end-inside, bind-assoc, always-passes, never-passes, fails-behind}
 use Rattle.reader.specs.declared.Ends.{Ends}
 use Rattle.reader.specs.declared.Ends.the-variants.{At, Nothing}
-
--- ---- numbers by positions
-
-module _ (t : List ℕ) (j : ℕ) where
-  byte-at : j < length t → byte (drop j t) ≡ is (getD t j 0, drop (j + 1) t)
-  byte-at l = let next : j + 1 ≡ suc j = omega arith in rw (drop-cons t j 0 l, next)
-
-  byte-past : length t ≤ j → byte (drop j t) ≡ nothing
-  byte-past l = let none : drop j t ≡ [] = drop-of-length-le t {i = j} l in rw none
-
-  number-at : (k : ℕ) → j + k ≤ length t → number k (drop j t) ≡ is (unbytes (take k (drop j t)), drop (j + k) t)
-  number-at k l =
-      let long : k ≤ length (drop j t) = rw length-drop (omega arith) in
-      rw (le-leb k (length (drop j t)) long, drop-drop)
-
-  number-past : (k : ℕ) → length t < j + k → 0 < k → number k (drop j t) ≡ nothing
-  number-past k l some =
-      let short : length (drop j t) < k = rw length-drop (omega arith) in
-      rw (lt-leb k (length (drop j t)) short)
 
 -- an instruction, by its first byte
 pub instr-at : (t : List ℕ) (i d : ℕ) (b : ℕ) → i < length t → getD t i 0 ≡ b → instr (block d) (drop i t) ≡ formed (block d) (getD forms b noForm) (drop (i + 1) t)
