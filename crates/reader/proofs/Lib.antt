@@ -4,3 +4,5 @@
 pub mod Chains
 -- one law for each way through the reader of expressions
 pub mod Expressions
+-- one law for each way through the walks that count labels
+pub mod Counting
