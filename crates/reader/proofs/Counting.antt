@@ -4,8 +4,11 @@ use native.Mathlib.Nat.{pos-of-ne-zero}
 use native.Mathlib.Omega.{arith}
 use mathlib.Core.Path.{_≡_, refl, sym, ap, ap₂, subst, _∙_}
 use mathlib.Core.List.{List, [], _∷_}
-use lib.ListN.{length, getD, drop, length-drop}
-use Rattle.value.specs.Maybe.{is}
+use lib.ListN.{length, getD, drop, length-drop, drop-of-length-le}
+use lib.Dec.{leb}
+use borrow.Author.Tests.{leb-true, leb-false}
+use Rattle.value.specs.Maybe.{is, nothing}
+use Rattle.value.specs.Laws.Tests.{by-test}
 use Rattle.reader.specs.Syntax.{Expr, Instr, assign, write, read, while, if, call, atomic, select, Block, end, step, Plain}
 use Rattle.reader.specs.Encode as E
 use Rattle.reader.specs.Decode as D
@@ -16,11 +19,21 @@ use Rattle.reader.specs.Laws.Stands.{Stands, first}
 use Rattle.reader.specs.Laws.Blocks.{nesting-pos}
 use Rattle.reader.specs.Laws.Grammar
 use Rattle.reader.specs.Laws.Positions.{expr-read}
+use Rattle.reader.specs.Laws.Reading.{so}
+use Rattle.reader.specs.Laws.Rests.{Leaves, expr-leaves}
 use Rattle.reader.specs.declared.Ends.{Ends}
 use Rattle.reader.specs.declared.Ends.the-variants.{At, Nothing}
 use Rattle.reader.specs.declared.labels.Counted.{Counted}
 
 -- ---- expressions
+
+-- something that ends somewhere is something
+ends-nothing : {G : Type 0} {k : ℕ} → At k ≡ Nothing → G
+ends-nothing e = let z : _≡_ {A = ℕ} 0 1 = cc in absurd (omega arith)
+
+-- and ends at one position
+ends-at : {j k : ℕ} → At j ≡ At k → j ≡ k
+ends-at e = cc
 
 module _ {t : List ℕ} {i : ℕ} where
   -- where the reader ends
@@ -29,13 +42,29 @@ module _ {t : List ℕ} {i : ℕ} where
       let left : length t - length (drop j t) ≡ j = rw length-drop (omega (arith, h .stands .fits)) in
       R .same ∙ ap (endOf t) (expr-read h) ∙ ap At left
 
+  -- it does not end before it begins
+  read-forward : {f : Ends} {k : ℕ} → f ≡ At k → ReadsExpr t i 16 f → i ≤ k
+  read-forward {f} {k} q R =
+      by-test (leb i (length t))
+      (λ some. inside (leb-true i (length t) some) (D.expr 16 (drop i t)) (expr-leaves 16 (drop i t)) (sym q ∙ R .same))
+      (λ past.
+      let none : drop i t ≡ [] = drop-of-length-le t {i = i} (omega (arith, leb-false i (length t) past)) in
+      ends-nothing (sym q ∙ R .same ∙ ap (λ (bs : List ℕ). endOf t (D.expr 16 bs)) none))
+    where
+      inside : i ≤ length t → (m : D.Read Expr) → Leaves (drop i t) m → At k ≡ endOf t m → i ≤ k
+      inside l nothing n e = ends-nothing e
+      inside l (is got) (so rest) e =
+          let same : k ≡ length t - length (got .1) = ends-at e in
+          let left : length (got .1) ≡ length (drop i t) - rest .taken = ap length (rest .is) ∙ length-drop (rest .taken) (drop i t) in
+          omega (arith, length-drop i t, rest .few)
+
   -- an expression that was read
   pub after-read : {f : Ends} {k : ℕ} → f ≡ At k → ReadsExpr t i 16 f → ExprEnds t i k
-  after-read {f} {k} q R = record { ends = λ e j h. let same : At k ≡ At j = sym q ∙ read-ends R h in cc }
+  after-read {f} {k} q R = record { forward = read-forward q R; ends = λ e j h. ends-at (sym q ∙ read-ends R h) }
 
   -- none was
-  pub after-none : {f : Ends} {k : ℕ} → f ≡ Nothing → ReadsExpr t i 16 f → ExprEnds t i k
-  after-none {f} {k} q R = record { ends = λ e j h. let same : Nothing ≡ At j = sym q ∙ read-ends R h in let z : _≡_ {A = ℕ} 0 1 = cc in absurd (omega arith) }
+  pub after-none : {f : Ends} → f ≡ Nothing → ReadsExpr t i 16 f → ExprEnds t i i
+  after-none {f} q R = record { forward = omega arith; ends = λ e j h. ends-nothing (sym (sym q ∙ read-ends R h)) }
 
 pub ruleset expr-end-ways = (after-read, after-none)
 
@@ -165,24 +194,24 @@ pub ruleset plain-ways = (count-inside, plain-assign, plain-write, plain-read, p
 -- ---- labels of instructions
 
 -- an expression that ends at k has a byte
-expr-after : {t : List ℕ} {i k : ℕ} (e : Expr) {j : ℕ} → ExprEnds t i k → Grammar.ExprAt t i 16 e j → i < k
+pub expr-after : {t : List ℕ} {i k : ℕ} (e : Expr) {j : ℕ} → ExprEnds t i k → Grammar.ExprAt t i 16 e j → i < k
 expr-after e {j} K a = omega (arith, K .ends e j a, Grammar.expr-inside a)
 
 module _ {t : List ℕ} {i d : ℕ} where
   -- the body of a loop
-  body-counts : {k : ℕ} {x : Counted} {s : Instr Plain} {j : ℕ} (w : Grammar.WhileAt t i d s j) → ExprEnds t (i + 1) k → CountsBlock t k d x
+  pub body-counts : {k : ℕ} {x : Counted} {s : Instr Plain} {j : ℕ} (w : Grammar.WhileAt t i d s j) → ExprEnds t (i + 1) k → CountsBlock t k d x
       → x ≡ counted j (count (w .b))
   body-counts {k} {j = j} w K X =
       X .gives (w .b) j (subst (λ (n : ℕ). Grammar.BlockAt t n d (w .b) j) (sym (K .ends (w .e) (w .k) (w .test))) (w .body))
 
   -- the first branch
-  then-counts : {k : ℕ} {x : Counted} {s : Instr Plain} {j : ℕ} (w : Grammar.IfAt t i d s j) → ExprEnds t (i + 1) k → CountsBlock t k d x
+  pub then-counts : {k : ℕ} {x : Counted} {s : Instr Plain} {j : ℕ} (w : Grammar.IfAt t i d s j) → ExprEnds t (i + 1) k → CountsBlock t k d x
       → x ≡ counted (w .l) (count (w .b))
   then-counts {k} w K X =
       X .gives (w .b) (w .l) (subst (λ (n : ℕ). Grammar.BlockAt t n d (w .b) (w .l)) (sym (K .ends (w .e) (w .k) (w .test))) (w .first))
 
   -- the second
-  else-counts : {x y : Counted} {s : Instr Plain} {j : ℕ} (w : Grammar.IfAt t i d s j) → x ≡ counted (w .l) (count (w .b)) → CountsBlock t (x .next) d y
+  pub else-counts : {x y : Counted} {s : Instr Plain} {j : ℕ} (w : Grammar.IfAt t i d s j) → x ≡ counted (w .l) (count (w .b)) → CountsBlock t (x .next) d y
       → y ≡ counted j (count (w .c))
   else-counts {x} {j = j} w e Y =
       Y .gives (w .c) j (subst (λ (n : ℕ). Grammar.BlockAt t n d (w .c) j) (sym (ap (λ (z : Counted). z .next) e)) (w .second))

@@ -6,3 +6,5 @@ pub mod Chains
 pub mod Expressions
 -- one law for each way through the walks that count labels
 pub mod Counting
+-- and through those that fill the label map
+pub mod Filling
