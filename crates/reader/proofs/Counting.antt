@@ -79,10 +79,14 @@ module _ (t : List ℕ) (i m : ℕ) where
   skip-start = record { back = λ r R. R }
 
   pub skip-one : {k n r : ℕ} → Skipping t i m k n → 0 < n → ExprEnds t k r → Skipping t i m r (n - 1)
-  skip-one {k} {n} {r} S h R = record { back = λ q Q. S .back q (record { ends = λ es j a.
-      let w : Grammar.MoreAt t k n es j = Grammar.exprs-more a h in
-      let same : r ≡ w .k = R .ends (w .e) (w .k) (w .here) in
-      Q .ends (w .rest) j (subst (λ (x : ℕ). Grammar.ExprsAt t x (n - 1) (w .rest) j) (sym same) (w .after)) }) }
+  skip-one {k} {n} {r} S h R = record {
+    back = λ q Q. S .back q (record {
+      ends = λ es j a.
+          let w : Grammar.MoreAt t k n es j = Grammar.exprs-more a h in
+          let same : r ≡ w .k = R .ends (w .e) (w .k) (w .here) in
+          Q .ends (w .rest) j (subst (λ (x : ℕ). Grammar.ExprsAt t x (n - 1) (w .rest) j) (sym same) (w .after));
+    });
+  }
 
   pub skip-end : {k n : ℕ} → Skipping t i m k n → n ≤ 0 → ExprsEnd t i m k
   skip-end {k} {n} S h = S .back k (record { ends = λ es j a. sym (Grammar.exprs-none a (omega arith) .1) })
@@ -162,10 +166,12 @@ module _ {t : List ℕ} {i : ℕ} where
 
   -- "21 y o e"
   pub plain-write : {k r : ℕ} → getD t i 0 ≡ 0x21 → ExprEnds t (i + 2) k → ExprEnds t k r → PlainEnds t i r
-  plain-write {k} q K R = record { ends = λ s j h.
-      let w = Grammar.write-here h q in
-      let same : k ≡ w .k = K .ends (w .o) (w .k) (w .offset) in
-      R .ends (w .e) j (subst (λ (x : ℕ). Grammar.ExprAt t x 16 (w .e) j) (sym same) (w .source)) }
+  plain-write {k} q K R = record {
+    ends = λ s j h.
+        let w = Grammar.write-here h q in
+        let same : k ≡ w .k = K .ends (w .o) (w .k) (w .offset) in
+        R .ends (w .e) j (subst (λ (x : ℕ). Grammar.ExprAt t x 16 (w .e) j) (sym same) (w .source));
+  }
 
   -- "22 x y o"
   pub plain-read : {r : ℕ} → getD t i 0 ≡ 0x22 → ExprEnds t (i + 3) r → PlainEnds t i r
@@ -232,8 +238,8 @@ module _ {t : List ℕ} {i d : ℕ} where
         ap (λ (z : Counted). counted (z .next) (1 + z .labels)) (body-counts w K X) ∙ ap (counted j) (one ∙ ap countI (sym (w .is)));
     some = omega arith;
     room =
-      let w = Grammar.while-here (h .there) q in
-      omega (arith, expr-after (w .e) K (w .test), X .room);
+        let w = Grammar.while-here (h .there) q in
+        omega (arith, expr-after (w .e) K (w .test), X .room);
     fits = X .fits;
   }
 
@@ -249,8 +255,8 @@ module _ {t : List ℕ} {i d : ℕ} where
         ap₂ (λ (u v : Counted). counted (v .next) (1 + u .labels + v .labels)) first second ∙ ap (counted j) (all ∙ ap countI (sym (w .is)));
     some = omega arith;
     room =
-      let w = Grammar.if-here (h .there) q in
-      omega (arith, expr-after (w .e) K (w .test), X .room, Y .room);
+        let w = Grammar.if-here (h .there) q in
+        omega (arith, expr-after (w .e) K (w .test), X .room, Y .room);
     fits = Y .fits;
   }
 
@@ -315,7 +321,7 @@ module _ {t : List ℕ} {i d : ℕ} where
                   let v = Grammar.step-here a q in
                   let one : x ≡ counted (v .k) (countI (v .s)) = X .gives (v .s) (v .k) (v .here) in
                   let more : r ≡ counted j (count (v .rest)) =
-                      R .gives (v .rest) j (subst (λ (m : ℕ). Grammar.BlockAt t m d (v .rest) j) (sym (ap (λ (z : Counted). z .next) one)) (v .after))
+                  R .gives (v .rest) j (subst (λ (m : ℕ). Grammar.BlockAt t m d (v .rest) j) (sym (ap (λ (z : Counted). z .next) one)) (v .after))
                   in
                   ap₂ (λ (u z : Counted). counted (z .next) (u .labels + z .labels)) one more ∙ ap (counted j) (ap count (sym (v .is)));
               room = omega (arith, X .room, R .room);

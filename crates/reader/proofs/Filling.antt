@@ -5,12 +5,12 @@ use mathlib.Core.Path.{_≡_, refl, sym, ap, ap₂, subst, _∙_}
 use mathlib.Core.List.{List, [], _∷_, _++_}
 use lib.ListN.{length, getD, set, length-append}
 use lib.Seq.{sets}
-use Rattle.reader.specs.Syntax.{Expr, Instr, assign, write, read, while, if, call, atomic, select, Block, end, step, Plain}
+use Rattle.reader.specs.Syntax.{Expr, Instr, assign, write, read, while, if, call, atomic, select, Block, end, step, Plain, concurrent}
 use Rattle.reader.specs.Encode.{expr, instr, block}
 use Rattle.reader.specs.Labels.{count, countI, label, first}
 use Rattle.reader.specs.Walks.{InstrIn, BlockIn, ExprEnds, counted, CountsInstr, CountsBlock, BeginsAt, nextOf, otherOf, numbersI, numbers}
-use Rattle.reader.specs.Walks.{Put, PutsNode, FillsInstr, FillsBlock}
-use Rattle.reader.specs.Rules.{maxLabels}
+use Rattle.reader.specs.Walks.{Put, PutsNode, PutsBounds, FillsInstr, FillsBlock}
+use Rattle.reader.specs.Rules.{limits, maxLabels}
 use Rattle.reader.specs.Laws.Stands.{Stands}
 use Rattle.reader.specs.Laws.Stands as Stands
 use Rattle.reader.specs.Laws.Grammar
@@ -37,6 +37,18 @@ pub put-none : {n n′ : List ℕ} {l a b c d : ℕ} → maxLabels < l → PutsN
 put-none h = record { gives = λ k. absurd (omega arith) }
 
 pub ruleset put-ways = (put-four, put-none)
+
+-- the bounds of a procedure
+pub put-two : {n n′ : List ℕ} {m a b : ℕ} → n′ ≡ set (set n (2 * m) a) (2 * m + 1) b → PutsBounds n m a b n′
+put-two {m = m} e =
+    let one : 2 * m + 1 ≡ suc (2 * m) = omega arith in
+    record { gives = λ h. record { wrote = e ∙ rw one } }
+
+-- a procedure that there is no room for
+pub put-no-bounds : {n n′ : List ℕ} {m a b : ℕ} → limits concurrent .procs ≤ m → PutsBounds n m a b n′
+put-no-bounds h = record { gives = λ k. absurd (omega arith) }
+
+pub ruleset bounds-ways = (put-two, put-no-bounds)
 
 -- ---- the label that a block begins with
 
@@ -92,14 +104,14 @@ module _ (m : ℕ) where
 -- ---- instructions
 
 -- numbers, and then those from a later label on
-put-then : {n n′ n″ : List ℕ} {l l′ : ℕ} {xs ys : List ℕ} → Put n l xs n′ → 4 * l + length xs ≡ 4 * l′ → Put n′ l′ ys n″ → Put n l (xs ++ ys) n″
-put-then {n} {l = l} {xs = xs} {ys} P h Q = record {
-  wrote = Q .wrote ∙ ap₂ (λ (z : List ℕ) (k : ℕ). sets z k ys) (P .wrote) (sym h) ∙ sym (sets-append n (4 * l) xs ys);
+pub put-then : {w : ℕ} {n n′ n″ : List ℕ} {l l′ : ℕ} {xs ys : List ℕ} → Put w n l xs n′ → w * l + length xs ≡ w * l′ → Put w n′ l′ ys n″ → Put w n l (xs ++ ys) n″
+put-then {w} {n} {l = l} {xs = xs} {ys} P h Q = record {
+  wrote = Q .wrote ∙ ap₂ (λ (z : List ℕ) (k : ℕ). sets z k ys) (P .wrote) (sym h) ∙ sym (sets-append n (w * l) xs ys);
 }
 
 -- the same numbers
-put-same : {n n′ : List ℕ} {l l′ : ℕ} {xs ys : List ℕ} → l ≡ l′ → xs ≡ ys → Put n l xs n′ → Put n l′ ys n′
-put-same {n} e f P = record { wrote = P .wrote ∙ ap₂ (λ (k : ℕ) (z : List ℕ). sets n (4 * k) z) e f }
+pub put-same : {w : ℕ} {n n′ : List ℕ} {l l′ : ℕ} {xs ys : List ℕ} → l ≡ l′ → xs ≡ ys → Put w n l xs n′ → Put w n l′ ys n′
+put-same {w} {n} e f P = record { wrote = P .wrote ∙ ap₂ (λ (k : ℕ) (z : List ℕ). sets n (w * k) z) e f }
 
 module _ {t : List ℕ} {i d l k m : ℕ} {n : List ℕ} where
   -- without blocks
@@ -107,7 +119,7 @@ module _ {t : List ℕ} {i d l k m : ℕ} {n : List ℕ} where
   fills-plain {n′} a b P = record { gives = go }
     where
       go : (s : Instr Plain) (j : ℕ) → Grammar.InstrAt t i d s j → l + countI s ≤ maxLabels + 1
-          → Put n l (i ∷ m ∷ nextOf l s k ∷ otherOf l s k ∷ numbersI m i l s k) n′
+          → Put 4 n l (i ∷ m ∷ nextOf l s k ∷ otherOf l s k ∷ numbersI m i l s k) n′
       go (assign x e) j h r = P .gives (omega arith)
       go (write y o e) j h r = P .gives (omega arith)
       go (read x y o) j h r = P .gives (omega arith)
@@ -120,46 +132,50 @@ module _ {t : List ℕ} {i d l k m : ℕ} {n : List ℕ} where
   -- "23 e block": an empty loop body leads to the loop itself
   pub fills-while : {b f : ℕ} {n₁ n₂ : List ℕ} → getD t i 0 ≡ 0x23 → ExprEnds t (i + 1) b → BeginsAt t b (l + 1) l f → PutsNode n l i m f k n₁
       → FillsBlock t b d (l + 1) l m n₁ n₂ → FillsInstr t i d l k m n n₂
-  fills-while {b} {f} {n₁} {n₂} q B F P W = record { gives = λ s j h r.
-      let w = Grammar.while-here h q in
-      let next : l + 1 ≡ suc l = omega arith in
-      let there : b ≡ w .k = B .ends (w .e) (w .k) (w .test) in
-      let place : b ≡ i + 1 + length (expr (w .e)) = there ∙ w .test .stands .ends in
-      let body : Grammar.BlockAt t b d (w .b) j = subst (λ (x : ℕ). Grammar.BlockAt t x d (w .b) j) (sym there) (w .body) in
-      let few : l + suc (count (w .b)) ≤ maxLabels + 1 = subst (λ (x : Instr Plain). l + countI x ≤ maxLabels + 1) (w .is) r in
-      let begin : f ≡ first l (label (suc l) (w .b)) = F .gives d (w .b) j body ∙ ap (λ (x : ℕ). first l (label x (w .b))) next in
-      subst (λ (x : Instr Plain). Put n l (i ∷ m ∷ nextOf l x k ∷ otherOf l x k ∷ numbersI m i l x k) n₂) (sym (w .is))
-      (put-then
-      (put-same refl (ap (λ (x : ℕ). i ∷ m ∷ x ∷ k ∷ []) begin) (P .gives (omega arith)))
-      (omega arith)
-      (put-same refl (ap₂ (λ (x y : ℕ). numbers m x y (w .b) l) place next) (W .gives (w .b) j body (omega arith)))) }
+  fills-while {b} {f} {n₁} {n₂} q B F P W = record {
+    gives = λ s j h r.
+        let w = Grammar.while-here h q in
+        let next : l + 1 ≡ suc l = omega arith in
+        let there : b ≡ w .k = B .ends (w .e) (w .k) (w .test) in
+        let place : b ≡ i + 1 + length (expr (w .e)) = there ∙ w .test .stands .ends in
+        let body : Grammar.BlockAt t b d (w .b) j = subst (λ (x : ℕ). Grammar.BlockAt t x d (w .b) j) (sym there) (w .body) in
+        let few : l + suc (count (w .b)) ≤ maxLabels + 1 = subst (λ (x : Instr Plain). l + countI x ≤ maxLabels + 1) (w .is) r in
+        let begin : f ≡ first l (label (suc l) (w .b)) = F .gives d (w .b) j body ∙ ap (λ (x : ℕ). first l (label x (w .b))) next in
+        subst (λ (x : Instr Plain). Put 4 n l (i ∷ m ∷ nextOf l x k ∷ otherOf l x k ∷ numbersI m i l x k) n₂) (sym (w .is))
+        (put-then
+        (put-same refl (ap (λ (x : ℕ). i ∷ m ∷ x ∷ k ∷ []) begin) (P .gives (omega arith)))
+        (omega arith)
+        (put-same refl (ap₂ (λ (x y : ℕ). numbers m x y (w .b) l) place next) (W .gives (w .b) j body (omega arith))));
+  }
 
   -- "24 e block block": an empty branch leads to what follows the if
   pub fills-if : {b f g : ℕ} {x : Counted} {n₁ n₂ n₃ : List ℕ} → getD t i 0 ≡ 0x24 → ExprEnds t (i + 1) b → CountsBlock t b d x
       → BeginsAt t b (l + 1) k f → BeginsAt t (x .next) (l + 1 + x .labels) k g → PutsNode n l i m f g n₁
       → FillsBlock t b d (l + 1) k m n₁ n₂ → FillsBlock t (x .next) d (l + 1 + x .labels) k m n₂ n₃ → FillsInstr t i d l k m n n₃
-  fills-if {b} {f} {g} {x} {n₁} {n₂} {n₃} q B X F G P Y N = record { gives = λ s j h r.
-      let w = Grammar.if-here h q in
-      let next : l + 1 ≡ suc l = omega arith in
-      let there : b ≡ w .k = B .ends (w .e) (w .k) (w .test) in
-      let place : b ≡ i + 1 + length (expr (w .e)) = there ∙ w .test .stands .ends in
-      let then : Grammar.BlockAt t b d (w .b) (w .l) = subst (λ (z : ℕ). Grammar.BlockAt t z d (w .b) (w .l)) (sym there) (w .first) in
-      let is : x ≡ counted (w .l) (count (w .b)) = then-counts w B X in
-      let at : x .next ≡ w .l = ap (λ (z : Counted). z .next) is in
-      let second : x .next ≡ i + 1 + length (expr (w .e)) + length (block (w .b)) = at ∙ then .stands .ends ∙ ap (_+ length (block (w .b))) place in
-      let more : l + 1 + x .labels ≡ suc l + count (w .b) = ap₂ _+_ next (ap (λ (z : Counted). z .labels) is) in
-      let else : Grammar.BlockAt t (x .next) d (w .c) j = subst (λ (z : ℕ). Grammar.BlockAt t z d (w .c) j) (sym at) (w .second) in
-      let few : l + suc (count (w .b) + count (w .c)) ≤ maxLabels + 1 = subst (λ (z : Instr Plain). l + countI z ≤ maxLabels + 1) (w .is) r in
-      let begin : f ≡ first k (label (suc l) (w .b)) = F .gives d (w .b) (w .l) then ∙ ap (λ (z : ℕ). first k (label z (w .b))) next in
-      let other : g ≡ first k (label (suc l + count (w .b)) (w .c)) = G .gives d (w .c) j else ∙ ap (λ (z : ℕ). first k (label z (w .c))) more in
-      subst (λ (z : Instr Plain). Put n l (i ∷ m ∷ nextOf l z k ∷ otherOf l z k ∷ numbersI m i l z k) n₃) (sym (w .is))
-      (put-then
-      (put-same refl (ap₂ (λ (y z : ℕ). i ∷ m ∷ y ∷ z ∷ []) begin other) (P .gives (omega arith)))
-      (omega arith)
-      (put-then
-      (put-same refl (ap₂ (λ (y z : ℕ). numbers m y z (w .b) k) place next) (Y .gives (w .b) (w .l) then (omega arith)))
-      (omega (arith, length-numbers m (w .b) (i + 1 + length (expr (w .e))) (suc l) k))
-      (put-same refl (ap₂ (λ (y z : ℕ). numbers m y z (w .c) k) second more) (N .gives (w .c) j else (omega arith))))) }
+  fills-if {b} {f} {g} {x} {n₁} {n₂} {n₃} q B X F G P Y N = record {
+    gives = λ s j h r.
+        let w = Grammar.if-here h q in
+        let next : l + 1 ≡ suc l = omega arith in
+        let there : b ≡ w .k = B .ends (w .e) (w .k) (w .test) in
+        let place : b ≡ i + 1 + length (expr (w .e)) = there ∙ w .test .stands .ends in
+        let then : Grammar.BlockAt t b d (w .b) (w .l) = subst (λ (z : ℕ). Grammar.BlockAt t z d (w .b) (w .l)) (sym there) (w .first) in
+        let is : x ≡ counted (w .l) (count (w .b)) = then-counts w B X in
+        let at : x .next ≡ w .l = ap (λ (z : Counted). z .next) is in
+        let second : x .next ≡ i + 1 + length (expr (w .e)) + length (block (w .b)) = at ∙ then .stands .ends ∙ ap (_+ length (block (w .b))) place in
+        let more : l + 1 + x .labels ≡ suc l + count (w .b) = ap₂ _+_ next (ap (λ (z : Counted). z .labels) is) in
+        let else : Grammar.BlockAt t (x .next) d (w .c) j = subst (λ (z : ℕ). Grammar.BlockAt t z d (w .c) j) (sym at) (w .second) in
+        let few : l + suc (count (w .b) + count (w .c)) ≤ maxLabels + 1 = subst (λ (z : Instr Plain). l + countI z ≤ maxLabels + 1) (w .is) r in
+        let begin : f ≡ first k (label (suc l) (w .b)) = F .gives d (w .b) (w .l) then ∙ ap (λ (z : ℕ). first k (label z (w .b))) next in
+        let other : g ≡ first k (label (suc l + count (w .b)) (w .c)) = G .gives d (w .c) j else ∙ ap (λ (z : ℕ). first k (label z (w .c))) more in
+        subst (λ (z : Instr Plain). Put 4 n l (i ∷ m ∷ nextOf l z k ∷ otherOf l z k ∷ numbersI m i l z k) n₃) (sym (w .is))
+        (put-then
+        (put-same refl (ap₂ (λ (y z : ℕ). i ∷ m ∷ y ∷ z ∷ []) begin other) (P .gives (omega arith)))
+        (omega arith)
+        (put-then
+        (put-same refl (ap₂ (λ (y z : ℕ). numbers m y z (w .b) k) place next) (Y .gives (w .b) (w .l) then (omega arith)))
+        (omega (arith, length-numbers m (w .b) (i + 1 + length (expr (w .e))) (suc l) k))
+        (put-same refl (ap₂ (λ (y z : ℕ). numbers m y z (w .c) k) second more) (N .gives (w .c) j else (omega arith)))));
+  }
 
 -- ---- blocks
 
@@ -186,25 +202,29 @@ module _ {t : List ℕ} {i d l k m : ℕ} {n : List ℕ} where
       record {
         rest = rw here (block-in (w .after));
         few = omega (arith, F .few, X .room);
-        back = λ n‴ R. F .back n‴ (record { gives = λ b j a r.
-            let v = Grammar.step-here a q in
-            let one : x ≡ counted (v .k) (countI (v .s)) = X .gives (v .s) (v .k) (v .here) in
-            let at : x .next ≡ v .k = ap (λ (z : Counted). z .next) one in
-            let more : l′ + x .labels ≡ l′ + countI (v .s) = ap (λ (z : Counted). l′ + z .labels) one in
-            let place : x .next ≡ i′ + length (instr (v .s)) = at ∙ v .here .stands .ends in
-            let rest : Grammar.BlockAt t (x .next) d (v .rest) j = subst (λ (z : ℕ). Grammar.BlockAt t z d (v .rest) j) (sym at) (v .after) in
-            let few : l′ + (countI (v .s) + count (v .rest)) ≤ maxLabels + 1 = subst (λ (z : Block Plain). l′ + count z ≤ maxLabels + 1) (v .is) r in
-            let follow : f ≡ first k (label (l′ + countI (v .s)) (v .rest)) = B .gives d (v .rest) j rest ∙ ap (λ (z : ℕ). first k (label z (v .rest))) more in
-            subst (λ (z : Block Plain). Put n′ l′ (numbers m i′ l′ z k) n‴) (sym (v .is))
-            (put-then
-            (put-same refl (ap (λ (z : ℕ). i′ ∷ m ∷ nextOf l′ (v .s) z ∷ otherOf l′ (v .s) z ∷ numbersI m i′ l′ (v .s) z) follow) (I .gives (v .s) (v .k) (v .here) (omega arith)))
-            (omega (arith, length-numbersI m (v .s) i′ l′ (first k (label (l′ + countI (v .s)) (v .rest)))))
-            (put-same more (ap₂ (λ (y z : ℕ). numbers m y z (v .rest) k) place more) (R .gives (v .rest) j rest (omega arith)))) });
+        back = λ n‴ R. F .back n‴ (record {
+          gives = λ b j a r.
+              let v = Grammar.step-here a q in
+              let one : x ≡ counted (v .k) (countI (v .s)) = X .gives (v .s) (v .k) (v .here) in
+              let at : x .next ≡ v .k = ap (λ (z : Counted). z .next) one in
+              let more : l′ + x .labels ≡ l′ + countI (v .s) = ap (λ (z : Counted). l′ + z .labels) one in
+              let place : x .next ≡ i′ + length (instr (v .s)) = at ∙ v .here .stands .ends in
+              let rest : Grammar.BlockAt t (x .next) d (v .rest) j = subst (λ (z : ℕ). Grammar.BlockAt t z d (v .rest) j) (sym at) (v .after) in
+              let few : l′ + (countI (v .s) + count (v .rest)) ≤ maxLabels + 1 = subst (λ (z : Block Plain). l′ + count z ≤ maxLabels + 1) (v .is) r in
+              let follow : f ≡ first k (label (l′ + countI (v .s)) (v .rest)) = B .gives d (v .rest) j rest ∙ ap (λ (z : ℕ). first k (label z (v .rest))) more in
+              subst (λ (z : Block Plain). Put 4 n′ l′ (numbers m i′ l′ z k) n‴) (sym (v .is))
+              (put-then
+              (put-same refl (ap (λ (z : ℕ). i′ ∷ m ∷ nextOf l′ (v .s) z ∷ otherOf l′ (v .s) z ∷ numbersI m i′ l′ (v .s) z) follow) (I .gives (v .s) (v .k) (v .here) (omega arith)))
+              (omega (arith, length-numbersI m (v .s) i′ l′ (first k (label (l′ + countI (v .s)) (v .rest)))))
+              (put-same more (ap₂ (λ (y z : ℕ). numbers m y z (v .rest) k) place more) (R .gives (v .rest) j rest (omega arith))));
+        });
       }
 
   -- "a block ends with byte 00"
   pub fill-end : {i′ l′ : ℕ} {n′ : List ℕ} → Filling t i d l k m n i′ l′ n′ → getD t i′ 0 ≡ 0 → FillsBlock t i d l k m n n′
-  fill-end {i′} {l′} {n′} F q = F .back n′ (record { gives = λ b j a r.
-      subst (λ (z : Block Plain). Put n′ l′ (numbers m i′ l′ z k) n′) (sym (Grammar.end-here a q .0)) (record { wrote = refl }) })
+  fill-end {i′} {l′} {n′} F q = F .back n′ (record {
+    gives = λ b j a r.
+        subst (λ (z : Block Plain). Put 4 n′ l′ (numbers m i′ l′ z k) n′) (sym (Grammar.end-here a q .0)) (record { wrote = refl });
+  })
 
 pub ruleset fill-ways = (body-in, then-in, else-in, fills-plain, fills-while, fills-if, fill-start, fill-instr-in, fill-next, fill-end)

@@ -8,3 +8,5 @@ pub mod Expressions
 pub mod Counting
 -- and through those that fill the label map
 pub mod Filling
+-- what a filled label map holds
+pub mod Mapping

@@ -1,13 +1,19 @@
 -- What the walks over a table that was read answer. Each is said of what stands at the position from which the walk begins.
-use Prim.Native.Nat.{ℕ, suc, _+_, _*_, _≤_, _<_}
+use Prim.Native.Nat.{ℕ, suc, _+_, _*_, _-_, _≤_, _<_}
 use mathlib.Core.Path.{_≡_}
 use mathlib.Core.List.{List, [], _∷_, _++_}
 use lib.ListN.{length}
 use lib.Seq.{sets}
-use Rattle.reader.specs.Syntax.{Expr, Instr, assign, write, read, while, if, call, atomic, select, Block, end, step, Plain}
-use Rattle.reader.specs.Encode.{expr, instr, block}
-use Rattle.reader.specs.Labels.{count, countI, label, first}
-use Rattle.reader.specs.Rules.{maxLabels}
+use Rattle.value.specs.Laws.Lists.{Each}
+use Rattle.reader.specs.Syntax.{Expr, Instr, assign, write, read, while, if, call, atomic, select, Block, end, step, Proc, Program, Plain}
+use Rattle.reader.specs.Syntax.{Kind, concurrent}
+use Rattle.reader.specs.Encode.{expr, instr, block, each, bodiesOf}
+use Rattle.reader.specs.Labels.{count, countI, counts, label, first}
+use Rattle.reader.specs.LabelMap.{Mapped}
+use Rattle.reader.specs.Rules.{limits, maxLabels}
+use Rattle.reader.specs.Laws.Fits.{BlockFits}
+use Rattle.reader.specs.Laws.Formed.{Formed}
+use Rattle.reader.specs.Laws.Stands.{Stands}
 use Rattle.reader.specs.Laws.Grammar.{ExprAt, ExprsAt, InstrAt, BlockAt}
 use Rattle.reader.specs.declared.labels.Counted.{Counted}
 
@@ -110,19 +116,59 @@ module _ (m : ℕ) where
         let next : ℕ = first k (label (l + countI s) b) in
         i ∷ m ∷ nextOf l s next ∷ otherOf l s next ∷ numbersI i l s next ++ numbers (i + length (instr s)) (l + countI s) b k
 
--- the map n becomes n′: these numbers from label l on
-pub record Put (n : List ℕ) (l : ℕ) (xs n′ : List ℕ) : Type 0 where
-  pub wrote : n′ ≡ sets n (4 * l) xs
+-- of procedures from m on, the first of which begins at i with label l; each body has an end label at its last byte
+abbrev pub allNumbers : ℕ → ℕ → ℕ → List (Proc Plain) → List ℕ
+allNumbers m i l [] = []
+allNumbers m i l (p ∷ ps) =
+    let k : ℕ = l + count (p .body) in
+    let j : ℕ = i + length (block (p .body)) in
+    numbers m i l (p .body) k ++ ((j - 1) ∷ m ∷ 0 ∷ 0 ∷ allNumbers (suc m) j (suc k) ps)
+
+-- the labels with which they begin and end
+abbrev pub allBounds : ℕ → List (Proc Plain) → List ℕ
+allBounds l [] = []
+allBounds l (p ∷ ps) =
+    let k : ℕ = l + count (p .body) in
+    first k (label l (p .body)) ∷ k ∷ allBounds (suc k) ps
+
+-- ---- writing them
+
+-- a list of rows of w numbers, n, becomes n′: these numbers from row l on
+pub record Put (w : ℕ) (n : List ℕ) (l : ℕ) (xs n′ : List ℕ) : Type 0 where
+  pub wrote : n′ ≡ sets n (w * l) xs
 
 -- those of label l, if it is no more than 400
 pub record PutsNode (n : List ℕ) (l place proc next other : ℕ) (n′ : List ℕ) : Type 0 where
-  pub gives : l ≤ maxLabels → Put n l (place ∷ proc ∷ next ∷ other ∷ []) n′
+  pub gives : l ≤ maxLabels → Put 4 n l (place ∷ proc ∷ next ∷ other ∷ []) n′
 
--- those of the instruction that stands at i
+-- of procedure m, if there are no more than 16
+pub record PutsBounds (n : List ℕ) (m begin end : ℕ) (n′ : List ℕ) : Type 0 where
+  pub gives : m < limits concurrent .procs → Put 2 n m (begin ∷ end ∷ []) n′
+
+-- of the instruction that stands at i
 pub record FillsInstr (t : List ℕ) (i d l k m : ℕ) (n n′ : List ℕ) : Type 0 where
   pub gives : (s : Instr Plain) (j : ℕ) → InstrAt t i d s j → l + countI s ≤ maxLabels + 1
-      → Put n l (i ∷ m ∷ nextOf l s k ∷ otherOf l s k ∷ numbersI m i l s k) n′
+      → Put 4 n l (i ∷ m ∷ nextOf l s k ∷ otherOf l s k ∷ numbersI m i l s k) n′
 
 -- of the block
 pub record FillsBlock (t : List ℕ) (i d l k m : ℕ) (n n′ : List ℕ) : Type 0 where
-  pub gives : (b : Block Plain) (j : ℕ) → BlockAt t i d b j → l + count b ≤ maxLabels + 1 → Put n l (numbers m i l b k) n′
+  pub gives : (b : Block Plain) (j : ℕ) → BlockAt t i d b j → l + count b ≤ maxLabels + 1 → Put 4 n l (numbers m i l b k) n′
+
+-- ---- all procedures
+
+-- the bodies of c procedures stand from i up to j
+pub record BodiesAt (t : List ℕ) (i c : ℕ) (ps : List (Proc Plain)) (j : ℕ) : Type 0 where
+  pub stands : Stands t i (each block (bodiesOf ps)) j
+  pub count : length ps ≡ c
+  pub fits : Each (BlockFits 16) (bodiesOf ps)
+
+-- those of some
+pub record BodiesIn (t : List ℕ) (i c : ℕ) : Type 0 where
+  pub procs : List (Proc Plain)
+  pub next : ℕ
+  pub there : BodiesAt t i c procs next
+
+-- the map of a program that was read, and how many labels it has
+pub record MapsLabels (t : List ℕ) (c : ℕ) (map bounds : List ℕ) (r : ℕ) : Type 0 where
+  pub gives : (p : Program Plain) → Formed concurrent t p → length (p .procs) ≡ c → counts (p .procs) ≤ maxLabels
+      → Mapped p map bounds × (r ≡ counts (p .procs))

@@ -1,17 +1,29 @@
 // The label map of a concurrent table that was read: for each label four numbers, its position, its procedure and the labels that
 // it leads to.
-use super::labels::{after_expr, count_block, count_instr};
+use super::expression::DEPTH;
+use super::labels::after_expr;
+use super::labels::count_block;
+use super::labels::count_instr;
+ghost use mathlib.Core.Path.{_≡_};
 ghost use Prim.Native.Nat.{_+_, _≤_};
-ghost use Rattle.reader.specs.Walks.{BlockIn, InstrIn, BeginsAt, PutsNode, FillsBlock, FillsInstr};
+ghost use lib.ListN.{length};
+ghost use Rattle.reader.specs.Walks.{BlockIn, InstrIn, BeginsAt, PutsNode, PutsBounds, FillsBlock, FillsInstr, BodiesIn, MapsLabels};
 
 // "over 400 labels" is refused, and label 0 is a finished thread.
 pub const MAX_LABELS: usize = 400;
 
-// Four numbers for each label from 0 on.
-pub const NUMBERS: usize = 1604;
+// "P not 1..16" is refused.
+pub const MAX_PROCEDURES: usize = 16;
 
 // Writes the four numbers of a label.
-fn put_node(map: &mut [usize; 1604], label: usize, place: usize, proc: usize, next: usize, other: usize)
+fn put_node(
+    map: &mut [usize; 1604],
+    label: usize,
+    place: usize,
+    proc: usize,
+    next: usize,
+    other: usize,
+)
     ensures { λ r. ⌜ PutsNode (now (map .entry)) label place proc next other (now (map .exit)) ⌝ }
 {
     if label <= MAX_LABELS {
@@ -20,6 +32,17 @@ fn put_node(map: &mut [usize; 1604], label: usize, place: usize, proc: usize, ne
         map[i + 1] = proc;
         map[i + 2] = next;
         map[i + 3] = other;
+    }
+}
+
+// Writes the first and the last label of a procedure.
+fn put_bounds(bounds: &mut [usize; 32], proc: usize, begin: usize, end: usize)
+    ensures { λ r. ⌜ PutsBounds (now (bounds .entry)) proc begin end (now (bounds .exit)) ⌝ }
+{
+    if proc < MAX_PROCEDURES {
+        let i = 2 * proc;
+        bounds[i] = begin;
+        bounds[i + 1] = end;
     }
 }
 
@@ -36,7 +59,15 @@ fn begin(t: &[u8], at: usize, label: usize, after: usize) -> usize
 }
 
 // The nodes of a block's labels, from `label` on. The label `after` follows the block.
-fn fill_block(t: &[u8], at: usize, depth: u8, label: usize, after: usize, proc: usize, map: &mut [usize; 1604])
+fn fill_block(
+    t: &[u8],
+    at: usize,
+    depth: u8,
+    label: usize,
+    after: usize,
+    proc: usize,
+    map: &mut [usize; 1604],
+)
     requires { ⌜ BlockIn (now t) at depth ⌝ }
     requires { ⌜ label ≤ at + 1 ⌝ }
     ensures { λ r. ⌜ FillsBlock (now (t .entry)) at depth label after proc (now (map .entry)) (now (map .exit)) ⌝ }
@@ -56,7 +87,15 @@ fn fill_block(t: &[u8], at: usize, depth: u8, label: usize, after: usize, proc: 
 
 // The node of an instruction's label, and those of the blocks inside. The label `after` follows the instruction: after the last
 // instruction of a while body comes the while; after the last of a branch, what follows the if.
-fn fill_instr(t: &[u8], at: usize, depth: u8, label: usize, after: usize, proc: usize, map: &mut [usize; 1604])
+fn fill_instr(
+    t: &[u8],
+    at: usize,
+    depth: u8,
+    label: usize,
+    after: usize,
+    proc: usize,
+    map: &mut [usize; 1604],
+)
     requires { ⌜ InstrIn (now t) at depth ⌝ }
     requires { ⌜ label ≤ at + 1 ⌝ }
     ensures { λ r. ⌜ FillsInstr (now (t .entry)) at depth label after proc (now (map .entry)) (now (map .exit)) ⌝ }
@@ -82,4 +121,34 @@ fn fill_instr(t: &[u8], at: usize, depth: u8, label: usize, after: usize, proc: 
         return;
     }
     put_node(map, label, at, proc, after, 0);
+}
+
+// Fills the map with the numbers of each label, and `bounds` with the first and the last label of each procedure: "in each,
+// instructions in textual order .. then one end label". Answers how many labels there are.
+pub fn fill_labels(
+    t: &[u8],
+    procs: usize,
+    map: &mut [usize; 1604],
+    bounds: &mut [usize; 32],
+) -> usize
+    requires { ⌜ BodiesIn (now t) 0 procs ⌝ }
+    requires { ⌜ (length (now map) ≡ 1604) × (length (now bounds) ≡ 32) ⌝ }
+    ensures { λ r. ⌜ MapsLabels (now (t .entry)) procs (now (map .exit)) (now (bounds .exit)) r ⌝ }
+{
+    let mut m = 0;
+    let mut at = 0;
+    let mut l = 1;
+    while m < procs {
+        let body = count_block(t, at, DEPTH);
+        let next = body.next;
+        let end = l + body.labels;
+        fill_block(t, at, DEPTH, l, end, m, map);
+        put_node(map, end, next - 1, m, 0, 0);
+        let first = begin(t, at, l, end);
+        put_bounds(bounds, m, first, end);
+        at = next;
+        l = end + 1;
+        m += 1;
+    }
+    l - 1
 }

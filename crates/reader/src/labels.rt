@@ -1,7 +1,8 @@
 // How many labels the blocks and instructions of a concurrent table have, and where they end. What is walked over stands there:
 // the table was read.
 use super::Ends;
-use super::expression::{DEPTH, read_expr};
+use super::expression::DEPTH;
+use super::expression::read_expr;
 ghost use Rattle.reader.specs.Walks.{ExprEnds, ExprsEnd, PlainEnds, BlockIn, InstrIn, CountsBlock, CountsInstr};
 
 // Where a block or an instruction ends, and its labels.
