@@ -1,0 +1,31 @@
+-- `value::operators::narrow` meets its contract. The code reads its argument back from its bits.
+use mathlib.Core.Path.{_≡_, sym, ap, subst, _∙_}
+use mathlib.Core.Bool.{Bool, true, false}
+use lib.IntN.{ℤ, pos, negsuc}
+use lib.Signed.{ltZ}
+use mir.Syntax.{w32, w64}
+use mir.Val.{SFits}
+use mir.Facts.{toZ-ofZ}
+use Rattle.value.specs.Maybe.{is}
+use Rattle.value.specs.declared.Value.the-variants.{Whole}
+use Rattle.value.proofs.Ways.{too-low, too-high, within, within-fits}
+use Rattle.value.proofs.operators.narrow.Statement.{statement}
+use Rattle.value.proofs.operators.narrow.Tie as tie
+
+-- past both tests the number has 32 bits
+fits : (c : tie.Else2) → SFits w32 (c .before .before .args .x)
+fits c =
+    let back = toZ-ofZ (c .before .before .fits .x) in
+    within-fits (c .before .before .args .x) (rw back at (c .before .if1 .left)) (rw back at (c .if2 .left))
+
+cast-t3 : tie.Need-cast-t3
+cast-t3 c = rw (toZ-ofZ (c .before .before .fits .x)) (fits c)
+
+pub narrow-spec : {M : Type 1} → statement M
+narrow-spec =
+    tie.close
+    (tie.spec
+    (λ c. too-low (c .before .args .x) (rw (toZ-ofZ (c .before .fits .x)) at (c .if1 .taken)))
+    (λ c. too-high (c .before .before .args .x) (rw (toZ-ofZ (c .before .before .fits .x)) at (c .if2 .taken)))
+    cast-t3
+    (λ c. ap (λ (z : ℤ). is (Whole z)) (toZ-ofZ (cast-t3 c) ∙ toZ-ofZ (c .before .before .fits .x)) ∙ within (fits c)))
