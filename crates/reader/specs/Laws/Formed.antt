@@ -11,6 +11,7 @@ use Rattle.reader.specs.Encode.{table, bodiesOf}
 use Rattle.reader.specs.Rules.{Verdict, accepted, require, limits, starts, allAllowed, allNamed, fewLabels, noCycle, setFirst}
 use Rattle.reader.specs.Laws.Names.{Takes}
 use Rattle.reader.specs.Laws.Depths.{BodyRight}
+use Rattle.reader.specs.Laws.Fits.{BlockFits}
 use Rattle.reader.specs.Laws.Sound.{Within, LocalsRight}
 
 -- t is p's table, and rules 2 to 4 hold of it; the fields are those of Sound
@@ -26,6 +27,8 @@ pub record Formed (k : Kind) (t : List ℕ) (p : Program Plain) : Type 0 where
   pub mains : Each (λ m. Takes (p .procs) m 0) (starts k (p .mains))
   pub bodies : Each BodyRight (bodiesOf (p .procs))
   pub allowed : allAllowed k 0 (bodiesOf (p .procs)) ≡ true
+  -- beyond Sound: each number fits its bytes, so p is the one program of this table
+  pub fits : Each (BlockFits 16) (bodiesOf (p .procs))
 
 -- the rest of the verdict: rules 5 to 8
 abbrev pub judged : Kind → Program Plain → Verdict

@@ -6,9 +6,8 @@ use mathlib.Core.Path.{_≡_, refl, sym, ap, subst, _∙_}
 use mathlib.Core.List.{List, [], _∷_, _++_, append-assoc, append-nil}
 use lib.ListN.{length, getD, take, drop, length-append, length-drop, length-take, take-append-drop}
 use lib.Seq.{drop-drop, drop-cons, drop-append-seam, drop-append-le, drop-length, getD-drop, take-at, take-append-seam, length-take-le}
-use Rattle.value.specs.Values.{bytes}
-use Rattle.reader.specs.Decode.{unbytes}
-use Rattle.reader.specs.Laws.Bytes.{Bytes, length-bytes, unbytes-bytes, bytes-unbytes, bytes-take, bytes-drop}
+use Rattle.value.specs.Values.{bytes, unbytes}
+use Rattle.value.specs.Laws.Bytes.{Bytes, length-bytes, unbytes-bytes, bytes-unbytes, bytes-take, bytes-drop}
 
 -- the bytes `bs` stand in t from i up to j
 pub record Stands (t : List ℕ) (i : ℕ) (bs : List ℕ) (j : ℕ) : Type 0 where
@@ -97,8 +96,8 @@ module _ {t : List ℕ} {i : ℕ} where
   pub in-front : (c : List ℕ) {bs : List ℕ} {j : ℕ} → Stands t i bs j → Stands (t ++ c) i bs j
   in-front c {bs} {j} s = record {
     same =
-      drop-append-le i t c (omega (arith, s .ends, s .fits)) ∙ ap (_++ c) (s .same) ∙ append-assoc bs (drop j t) c
-      ∙ ap (bs ++_) (sym (drop-append-le j t c (s .fits)));
+        drop-append-le i t c (omega (arith, s .ends, s .fits)) ∙ ap (_++ c) (s .same) ∙ append-assoc bs (drop j t) c
+        ∙ ap (bs ++_) (sym (drop-append-le j t c (s .fits)));
     ends = s .ends;
     fits = rw length-append (omega (arith, s .fits));
   }
@@ -162,6 +161,6 @@ number-stands t i k h l =
     let left : length (drop i t) ≡ length t - i = length-drop i t in
     let long : length (take k (drop i t)) ≡ k = length-take-le k (drop i t) (omega arith) in
     let back : bytes k (unbytes (take k (drop i t))) ≡ take k (drop i t) =
-        rw long at (bytes-unbytes (take k (drop i t)) (bytes-take k (drop i t) (bytes-drop i t h)))
+    rw long at (bytes-unbytes (take k (drop i t)) (bytes-take k (drop i t) (bytes-drop i t h)))
     in
     record { same = rw (back, ← drop-drop k i t, take-append-drop); ends = rw length-bytes; fits = l }
