@@ -33,7 +33,7 @@ pub fn put(locals: &mut [u64; WORDS], base: usize, x: usize, v: Value)
 
 // The words from `from` up to `to` are not set.
 pub fn clear(locals: &mut [u64; WORDS], from: usize, to: usize)
-    requires { ⌜ (from ≤ to) × (to ≤ 16416) ⌝ }
+    requires { ⌜ (from ≤ to) × (to ≤ localWords) ⌝ }
     ensures { λ _. ⌜ Clears (now (locals .entry)) (now (locals .exit)) from to ⌝ }
 {
     let mut i = from;
