@@ -12,3 +12,5 @@ pub mod Plain
 pub mod Blocks
 -- one law for each way through rules 1 and 2
 pub mod Trailers
+-- through rule 3
+pub mod Rule3
