@@ -18,3 +18,5 @@ pub mod Counting
 pub mod Filling
 -- what a filled label map holds
 pub mod Mapping
+-- through rule 3
+pub mod Rule3

@@ -3,9 +3,11 @@ use Prim.Native.Nat.{ℕ, _+_, _-_}
 use mathlib.Core.Path.{_≡_}
 use mathlib.Core.List.{List}
 use mathlib.Core.Bool.{Bool, true}
-use lib.ListN.{length, getD}
-use Rattle.value.specs.Maybe.{is}
-use Rattle.value.specs.Values.{numberAt}
+use lib.ListN.{length, getD, take, drop}
+use lib.Dec.{leb}
+use Rattle.value.specs.Maybe.{is, both}
+use Rattle.value.specs.Lists.{all, sum}
+use Rattle.value.specs.Values.{numberAt, unbytes}
 use Rattle.value.specs.Laws.Bytes.{Bytes}
 use Rattle.reader.specs.Syntax.{Kind}
 use Rattle.reader.specs.Encode as E
@@ -13,6 +15,7 @@ use Rattle.reader.specs.Decode.{finish, last}
 use Rattle.reader.specs.Decode as D
 use Rattle.reader.specs.Rules.{rightTrailer, rightCounts}
 use Rattle.reader.specs.Rules as R
+use Rattle.reader.specs.Laws.Places.{rows, headAt, middleAt}
 use Rattle.reader.specs.declared.limits.Limits.{Limits}
 use Rattle.reader.specs.declared.header.Trailer.{Trailer}
 use Rattle.reader.specs.declared.header.Header.{Header}
@@ -73,3 +76,45 @@ HeaderFor k t (Is r) = Closed k t r
 
 pub record HeaderIs (k : Kind) (t : List ℕ) (h : Header) : Type 0 where
   pub gives : Bytes t → HeaderFor k t h
+
+-- ---- rule 3
+
+-- n records of procedures from i on
+abbrev pub headsAt : List ℕ → ℕ → ℕ → List E.Head
+headsAt t i n = rows headAt 6 n (drop i t)
+
+-- n numbers of two bytes
+abbrev pub numbersAt : List ℕ → ℕ → ℕ → List ℕ
+numbersAt t i n = rows (λ bs. unbytes (take 2 bs)) 2 n (drop i t)
+
+-- "parameters over locals; locals over 16"
+abbrev pub fewLocals : ℕ → E.Head → Bool
+fewLocals most h = both (leb (h .params) (h .locals)) (leb (h .locals) most)
+
+-- b is whether the rule lets through the locals of n records,
+pub record LocalsTest (t : List ℕ) (i n most : ℕ) (b : Bool) : Type 0 where
+  pub same : b ≡ all (fewLocals most) (headsAt t i n)
+
+-- n sizes,
+pub record SizesTest (t : List ℕ) (i n : ℕ) (b : Bool) : Type 0 where
+  pub same : b ≡ all (R.within 1 256) (numbersAt t i n)
+
+-- procedure m as a main, where P records stand from `at` on,
+pub record BegunTest (t : List ℕ) (at P m : ℕ) (b : Bool) : Type 0 where
+  pub same : b ≡ R.begun (headsAt t at P) m
+
+-- n mains,
+pub record MainsTest (t : List ℕ) (i n at P : ℕ) (b : Bool) : Type 0 where
+  pub same : b ≡ all (R.begun (headsAt t at P)) (numbersAt t i n)
+
+-- all that are begun,
+pub record StartsTest (k : Kind) (t : List ℕ) (i n at P : ℕ) (b : Bool) : Type 0 where
+  pub same : b ≡ all (R.begun (headsAt t at P)) (R.starts k (numbersAt t i n))
+
+-- and all together
+pub record RecordsTest (k : Kind) (t : List ℕ) (at : ℕ) (r : E.Trailer) (b : Bool) : Type 0 where
+  pub same : b ≡ R.rightRecords k (middleAt (r .procs) (r .places) (r .threads) (drop at t))
+
+-- "all sizes together"
+pub record CellsAre (t : List ℕ) (i n c : ℕ) : Type 0 where
+  pub same : c ≡ sum (numbersAt t i n)
