@@ -10,3 +10,5 @@ pub mod Counting
 pub mod Filling
 -- what a filled label map holds
 pub mod Mapping
+-- one law for each way through the gatherer of variables
+pub mod Gathering
