@@ -18,32 +18,12 @@ use Rattle.value.specs.declared.Value.the-variants.{Whole, Location, Truth}
 use Rattle.value.specs.Laws.Tests.{by-test}
 use Rattle.reader.specs.Syntax.{Expr, constant, local, one, two}
 use Rattle.reader.specs.Encode.{expr}
-use Rattle.reader.specs.Variables.{mentioned, mentions, keep, variables, flags, joined, arity, Gathers, GathersLeaf, CountsFlags}
+use Rattle.reader.specs.Variables.{mentioned, mentions, keep, variables, flags, joined}
+use Rattle.reader.specs.Walks.{arity, Gathers, GathersLeaf, CountsFlags}
+use Rattle.reader.specs.Laws.Variables.{flag-at, row-is, joined-flags}
 use Rattle.reader.specs.Laws.Stands.{Stands, first, others, front, back}
 use Rattle.reader.specs.Laws.Grammar.{ExprAt, expr-inside, expr-deep}
 use Rattle.reader.specs.declared.variables.Gathered.{Gathered}
-
--- ---- rows of flags
-
--- the image of a number
-map-upto : {A : Type 0} (f : ℕ → A) (s n x : ℕ) (d : A) → x < n → getD (map f (upto s n)) x d ≡ f (s + x)
-map-upto f s zero x d h = absurd (omega arith)
-map-upto f s (suc n) zero d h = ap f (omega arith)
-map-upto f s (suc n) (suc x) d h = map-upto f (suc s) n x d (omega arith) ∙ ap f (omega arith)
-
--- the flag of x
-pub flag-at : (f : ℕ → Bool) (x : ℕ) (d : Bool) → x < 16 → getD (flags f) x d ≡ f x
-flag-at f x d h = map-upto f 0 16 x d h ∙ ap f (omega arith)
-
--- a row is known by its flags
-row-is : (f : ℕ → Bool) (row : List Bool) → length row ≡ 16 → ((x : ℕ) → x < 16 → getD row x false ≡ f x) → row ≡ flags f
-row-is f row l h = ext-getD false row (flags f) l (λ x k. h x (omega arith) ∙ sym (flag-at f x false (omega arith)))
-
--- two rows together
-joined-flags : (f g : ℕ → Bool) → joined (flags f) (flags g) ≡ flags (λ x. either (f x) (g x))
-joined-flags f g =
-    row-is (λ x. either (f x) (g x)) (joined (flags f) (flags g)) refl
-    (λ x h. flag-at (λ y. either (getD (flags f) y false) (getD (flags g) y false)) x false h ∙ ap₂ either (flag-at f x false h) (flag-at g x false h))
 
 -- ---- one variable
 

@@ -1,15 +1,12 @@
 -- The variables that expressions mention: document 01, "Loads go over distinct variables, rising".
 use Prim.Native.Nat.{ℕ, zero, suc}
-use mathlib.Core.Path.{_≡_}
 use mathlib.Core.List.{List, [], _∷_, map}
 use mathlib.Core.Bool.{Bool, true, false}
-use lib.ListN.{length, getD}
+use lib.ListN.{getD}
 use lib.Dec.{eqb}
 use Rattle.value.specs.Maybe.{either}
 use Rattle.value.specs.Lists.{upto}
 use Rattle.reader.specs.Syntax.{Expr, constant, local, one, two}
-use Rattle.reader.specs.Laws.Grammar.{ExprAt}
-use Rattle.reader.specs.declared.variables.Gathered.{Gathered}
 
 -- does an expression mention x
 abbrev pub mentioned : ℕ → Expr → Bool
@@ -42,24 +39,3 @@ flags f = map f (upto 0 16)
 -- two rows together
 abbrev pub joined : List Bool → List Bool → List Bool
 joined a b = flags (λ x. either (getD a x false) (getD b x false))
-
--- how many operands an expression has
-abbrev pub arity : Expr → ℕ
-arity (constant v) = 0
-arity (local x) = 0
-arity (one o a) = 1
-arity (two o a b) = 2
-
--- the variables of the expression that stands at i, and where it ends
-pub record Gathers (t : List ℕ) (i d : ℕ) (r : Gathered) : Type 0 where
-  pub set : (e : Expr) (j : ℕ) → ExprAt t i d e j → r .set ≡ flags (λ x. mentioned x e)
-  pub ends : (e : Expr) (j : ℕ) → ExprAt t i d e j → r .next ≡ j
-
--- the same, of an expression without operands
-pub record GathersLeaf (t : List ℕ) (i : ℕ) (r : Gathered) : Type 0 where
-  pub set : (e : Expr) (d j : ℕ) → ExprAt t i d e j → arity e ≡ 0 → r .set ≡ flags (λ x. mentioned x e)
-  pub ends : (e : Expr) (d j : ℕ) → ExprAt t i d e j → arity e ≡ 0 → r .next ≡ j
-
--- how many of a row are set: as many as there are variables
-pub record CountsFlags (row : List Bool) (r : ℕ) : Type 0 where
-  pub counts : (es : List Expr) → row ≡ flags (λ x. mentions x es) → r ≡ length (variables 0 16 es)

@@ -3,7 +3,8 @@ ghost use mathlib.Core.Path.{_≡_};
 ghost use Prim.Native.Nat.{_<_};
 ghost use lib.ListN.{length};
 ghost use lib.Dec.{eqb};
-ghost use Rattle.reader.specs.Variables.{flags, joined, Gathers, GathersLeaf, CountsFlags};
+ghost use Rattle.reader.specs.Variables.{flags, joined};
+ghost use Rattle.reader.specs.Walks.{Gathers, GathersLeaf, CountsFlags};
 
 // A local variable's mark.
 const LOCAL: u8 = 0x05;
