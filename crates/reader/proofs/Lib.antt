@@ -20,3 +20,5 @@ pub mod Filling
 pub mod Mapping
 -- through rule 3
 pub mod Rule3
+-- one law for each way through the gatherer of variables
+pub mod Gathering
