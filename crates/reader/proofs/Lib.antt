@@ -14,3 +14,5 @@ pub mod Blocks
 pub mod Trailers
 -- through rule 3
 pub mod Rule3
+-- and through rule 4
+pub mod Rule4

@@ -2,20 +2,22 @@
 use Prim.Native.Nat.{ℕ, _+_, _-_}
 use mathlib.Core.Path.{_≡_}
 use mathlib.Core.List.{List}
-use mathlib.Core.Bool.{Bool, true}
+use mathlib.Core.Bool.{Bool, true, false}
 use lib.ListN.{length, getD, take, drop}
 use lib.Dec.{leb}
-use Rattle.value.specs.Maybe.{is, both}
+use Rattle.value.specs.Maybe.{Maybe, is, nothing, both}
 use Rattle.value.specs.Lists.{all, sum}
 use Rattle.value.specs.Values.{numberAt, unbytes}
 use Rattle.value.specs.Laws.Bytes.{Bytes}
-use Rattle.reader.specs.Syntax.{Kind}
+use Rattle.reader.specs.Syntax.{Kind, Block, Plain}
 use Rattle.reader.specs.Encode as E
 use Rattle.reader.specs.Decode.{finish, last}
 use Rattle.reader.specs.Decode as D
 use Rattle.reader.specs.Rules.{rightTrailer, rightCounts}
 use Rattle.reader.specs.Rules as R
 use Rattle.reader.specs.Laws.Places.{rows, headAt, middleAt}
+use Rattle.reader.specs.Ends.{ReadsBlock}
+use Rattle.reader.specs.declared.Ends.{Ends}
 use Rattle.reader.specs.declared.limits.Limits.{Limits}
 use Rattle.reader.specs.declared.header.Trailer.{Trailer}
 use Rattle.reader.specs.declared.header.Header.{Header}
@@ -118,3 +120,22 @@ pub record RecordsTest (k : Kind) (t : List ℕ) (at : ℕ) (r : E.Trailer) (b :
 -- "all sizes together"
 pub record CellsAre (t : List ℕ) (i n c : ℕ) : Type 0 where
   pub same : c ≡ sum (numbersAt t i n)
+
+-- ---- rule 4
+
+-- the body of procedure m, from i on
+pub record BodyReads (k : Kind) (t : List ℕ) (i m : ℕ) (r : Ends) : Type 0 where
+  pub reads : ReadsBlock t i 16 (record { kind = k; proc = m; inside = false }) r
+
+-- the bodies that were read, of procedures from m on, the first of which begins at p
+abbrev pub placedRight : Kind → ℕ → ℕ → List E.Head → Maybe (List (Block Plain)) → Bool
+placedRight k m p hs nothing = false
+placedRight k m p hs (is bs) = both (R.placed p hs bs) (R.allAllowed k m bs)
+
+-- are the bytes those bodies
+abbrev pub bodiesRight : Kind → ℕ → ℕ → List E.Head → List ℕ → Bool
+bodiesRight k m p hs bytes = placedRight k m p hs (finish (D.times (D.block 16) (length hs) bytes))
+
+-- b is whether the rule lets through `code`, by n records that stand in t from i on
+pub record BodiesTest (k : Kind) (code t : List ℕ) (i n : ℕ) (b : Bool) : Type 0 where
+  pub same : Bytes code → b ≡ bodiesRight k 0 0 (headsAt t i n) code
