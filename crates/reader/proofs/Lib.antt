@@ -16,3 +16,5 @@ pub mod Trailers
 pub mod Rule3
 -- and through rule 4
 pub mod Rule4
+-- and through rules 1 to 4 together
+pub mod Shaping

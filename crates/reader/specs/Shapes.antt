@@ -1,5 +1,5 @@
 -- What the code finds out about a table's shape by rules 1 to 4, in the words of Rules.
-use Prim.Native.Nat.{ℕ, _+_, _-_}
+use Prim.Native.Nat.{ℕ, _+_, _*_, _-_, _≤_}
 use mathlib.Core.Path.{_≡_}
 use mathlib.Core.List.{List}
 use mathlib.Core.Bool.{Bool, true, false}
@@ -9,19 +9,25 @@ use Rattle.value.specs.Maybe.{Maybe, is, nothing, both}
 use Rattle.value.specs.Lists.{all, sum}
 use Rattle.value.specs.Values.{numberAt, unbytes}
 use Rattle.value.specs.Laws.Bytes.{Bytes}
-use Rattle.reader.specs.Syntax.{Kind, Block, Plain}
+use Rattle.reader.specs.Syntax.{Kind, Block, Program, Plain}
 use Rattle.reader.specs.Encode as E
 use Rattle.reader.specs.Decode.{finish, last}
 use Rattle.reader.specs.Decode as D
 use Rattle.reader.specs.Rules.{rightTrailer, rightCounts}
 use Rattle.reader.specs.Rules as R
 use Rattle.reader.specs.Laws.Places.{rows, headAt, middleAt}
+use Rattle.reader.specs.Laws.Formed.{Formed, judged}
+use Rattle.reader.specs.Laws.TablePlaces.{recordsAt}
 use Rattle.reader.specs.Ends.{ReadsBlock}
 use Rattle.reader.specs.declared.Ends.{Ends}
 use Rattle.reader.specs.declared.limits.Limits.{Limits}
 use Rattle.reader.specs.declared.header.Trailer.{Trailer}
 use Rattle.reader.specs.declared.header.Header.{Header}
 use Rattle.reader.specs.declared.header.Header.the-variants.{Refused, Is}
+use Rattle.reader.specs.declared.form.Shape.{Shape}
+use Rattle.reader.specs.declared.form.Form.{Form}
+use Rattle.reader.specs.declared.form.Form.the-variants as F
+use Rattle.reader.specs.declared.form.Form.the-variants.{Shaped}
 
 -- the bounds
 abbrev pub limitsOf : Limits → R.Limits
@@ -65,19 +71,22 @@ pub record TrailerTest (k : Kind) (t : List ℕ) (r : E.Trailer) (b : Bool) : Ty
 pub record CountsTest (k : Kind) (t : List ℕ) (r : E.Trailer) (b : Bool) : Type 0 where
   pub same : b ≡ rightCounts k t r
 
--- rules 1 and 2, on the trailer that was read
+-- rules 1 and 2 hold, on the trailer that was read
 pub record Closed (k : Kind) (t : List ℕ) (r : Trailer) : Type 0 where
+  pub long : 16 ≤ length t
+  pub back : r .distance ≡ 6 * r .procedures + 2 * r .locations + 2 * r .threads
+  pub room : r .distance ≤ length t - 16
   pub read : finish (D.trailer (last 16 t)) ≡ is (trailerOf r)
   pub trailer : rightTrailer k t (trailerOf r) ≡ true
   pub counts : rightCounts k t (trailerOf r) ≡ true
 
 -- the first number that applies of rules 1 and 2, or the trailer, of which they hold
 abbrev pub HeaderFor : Kind → List ℕ → Header → Type 0
-HeaderFor k t (Refused n) = R.verdict k t ≡ R.refused n
+HeaderFor k t (Refused n) = Bytes t → R.verdict k t ≡ R.refused n
 HeaderFor k t (Is r) = Closed k t r
 
 pub record HeaderIs (k : Kind) (t : List ℕ) (h : Header) : Type 0 where
-  pub gives : Bytes t → HeaderFor k t h
+  pub gives : HeaderFor k t h
 
 -- ---- rule 3
 
@@ -139,3 +148,24 @@ bodiesRight k m p hs bytes = placedRight k m p hs (finish (D.times (D.block 16) 
 -- b is whether the rule lets through `code`, by n records that stand in t from i on
 pub record BodiesTest (k : Kind) (code t : List ℕ) (i n : ℕ) (b : Bool) : Type 0 where
   pub same : Bytes code → b ≡ bodiesRight k 0 0 (headsAt t i n) code
+
+-- ---- rules 1 to 4
+
+-- t is formed of a program, whose counts these are, and which rules 5 to 8 judge
+pub record ShapedAs (k : Kind) (t : List ℕ) (s : Shape) (p : Program Plain) : Type 0 where
+  pub formed : Formed k t p
+  pub verdict : R.verdict k t ≡ judged k p
+  pub procedures : s .procedures ≡ length (p .procs)
+  pub locations : s .locations ≡ length (p .sizes)
+  pub threads : s .threads ≡ length (p .mains)
+  pub records : s .records ≡ recordsAt p
+  pub cells : s .cells ≡ sum (p .sizes)
+
+-- the number that is answered, or the shape
+abbrev pub FormFor : Kind → List ℕ → Form → Type 0
+FormFor k t (F.Refused n) = R.verdict k t ≡ R.refused n
+FormFor k t (Shaped s) = (p : Program Plain) × ShapedAs k t s p
+
+-- of any bytes
+pub record FormIs (k : Kind) (t : List ℕ) (f : Form) : Type 0 where
+  pub gives : Bytes t → FormFor k t f
