@@ -18,3 +18,11 @@ pub mod Rule3
 pub mod Rule4
 -- and through rules 1 to 4 together
 pub mod Shaping
+-- one law for each way through the walks that count labels
+pub mod Counting
+-- and through those that fill the label map
+pub mod Filling
+-- what a filled label map holds
+pub mod Mapping
+-- one law for each way through the gatherer of variables
+pub mod Gathering
