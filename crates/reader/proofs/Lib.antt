@@ -6,3 +6,15 @@ pub mod Chains
 pub mod Expressions
 -- and through that of several
 pub mod Values
+-- and through that of an instruction without blocks
+pub mod Plain
+-- and through those of blocks and instructions
+pub mod Blocks
+-- one law for each way through rules 1 and 2
+pub mod Trailers
+-- one law for each way through the walks that count labels
+pub mod Counting
+-- and through those that fill the label map
+pub mod Filling
+-- what a filled label map holds
+pub mod Mapping

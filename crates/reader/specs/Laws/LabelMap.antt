@@ -119,7 +119,7 @@ all-labels ends (p ∷ ps) m i l h =
     let n : ℕ = count (p .body) in
     let last : ends m ≡ l + n = ap ends (omega arith) ∙ h 0 in
     let later : map (labelAt ends) (allNodes (suc m) j (labels (l + suc n) ps)) ≡ upto (l + suc n) (counts ps) =
-        all-labels ends ps (suc m) j (l + suc n) (λ q. ap ends (omega arith) ∙ h (suc q))
+    all-labels ends ps (suc m) j (l + suc n) (λ q. ap ends (omega arith) ∙ h (suc q))
     in
     let from : suc (l + n) ≡ l + suc n = omega arith in
     let all : suc n + counts ps ≡ n + suc (counts ps) = omega arith in
@@ -164,7 +164,12 @@ module _ {m : ℕ} {n : Node} where
   -- a spot of what is inside is a spot
   wider : {i i′ : ℕ} {b b′ c c′ : Block ℕ} → ((k : ℕ) (d r : Block ℕ) → Spot k d r i b c → Spot k d r i′ b′ c′) → NodeSpot m i b c n → NodeSpot m i′ b′ c′ n
   wider f w = record {
-    tag = w .tag; instr = w .instr; rest = w .rest; after = w .after; proc = w .proc; code = w .code;
+    tag = w .tag;
+    instr = w .instr;
+    rest = w .rest;
+    after = w .after;
+    proc = w .proc;
+    code = w .code;
     spot = f (n .place) (step (w .tag) (w .instr) (w .rest)) (w .after) (w .spot);
   }
 
@@ -176,8 +181,8 @@ module _ {m : ℕ} {n : Node} where
         in-cons p
         (λ e. rw e (record { tag = l; instr = j; rest = b; after = c; proc = refl; code = refl; spot = itself }))
         (λ o. in-either (held m i l j (b ⊕ c)) (nodes m (i + length (instr j)) b c) o
-          (λ q. held-spot j i l b c q)
-          (λ q. wider (λ k d r. later) (node-spot b (i + length (instr j)) c q)))
+        (λ q. held-spot j i l b c q)
+        (λ q. wider (λ k d r. later) (node-spot b (i + length (instr j)) c q)))
 
     -- inside an instruction
     held-spot : (j : Instr ℕ) (i l : ℕ) (b c : Block ℕ) → In n (held m i l j (b ⊕ c)) → NodeSpot m i (step l j b) c n
@@ -224,16 +229,34 @@ all-nodes (q ∷ ps) m i {n} p =
     let j : ℕ = i + length (block (q .body)) in
     let last : Node = record { place = j - 1; proc = m; code = end } in
     in-either (nodes m i (q .body) end) (last ∷ allNodes (suc m) j ps) p
-    (λ o. let w : NodeSpot m i (q .body) end n = node-spot (q .body) i end o in
-      (0, w .proc ∙ omega arith, record {
-        proc = q; found = refl; left = step (w .tag) (w .instr) (w .rest); after = w .after; code = w .code; ends = step-not; spot = w .spot;
-      }))
+    (λ o. let w : NodeSpot m i (q .body) end n = node-spot (q .body) i end o in (
+      0,
+      w .proc ∙ omega arith,
+      record {
+        proc = q;
+        found = refl;
+        left = step (w .tag) (w .instr) (w .rest);
+        after = w .after;
+        code = w .code;
+        ends = step-not;
+        spot = w .spot;
+      },
+    ))
     (λ o. in-cons o
-      (λ e. rw e (0, omega arith, record { proc = q; found = refl; left = end; after = end; code = refl; ends = λ e. refl; spot = last-spot i (q .body) end }))
-      (λ r. let w : (x : ℕ) × (n .proc ≡ suc m + x) × ProcNode ps j x n = all-nodes ps (suc m) j r in
-        (suc (w .0), w .1 ∙ omega arith, record {
-          proc = w .2 .proc; found = w .2 .found; left = w .2 .left; after = w .2 .after; code = w .2 .code; ends = w .2 .ends; spot = w .2 .spot;
-        })))
+    (λ e. rw e (0, omega arith, record { proc = q; found = refl; left = end; after = end; code = refl; ends = λ e. refl; spot = last-spot i (q .body) end }))
+    (λ r. let w : (x : ℕ) × (n .proc ≡ suc m + x) × ProcNode ps j x n = all-nodes ps (suc m) j r in (
+      suc (w .0),
+      w .1 ∙ omega arith,
+      record {
+        proc = w .2 .proc;
+        found = w .2 .found;
+        left = w .2 .left;
+        after = w .2 .after;
+        code = w .2 .code;
+        ends = w .2 .ends;
+        spot = w .2 .spot;
+      },
+    )))
 
 -- the nodes of procedure x are among them
 proc-nodes : (ps : List (Proc ℕ)) (m i x : ℕ) {q : Proc ℕ} {n : Node} → at ps x ≡ is q → In n (nodes (m + x) (bodyAt i ps x) (q .body) end) → In n (allNodes m i ps)
@@ -320,9 +343,12 @@ module _ {A : Type 0} (p : Program A) where
       let same : n .proc ≡ w .0 = w .1 ∙ omega arith in
       record {
         label = node-label (suc l) e;
-        left = v .left; after = v .after; code = v .code; ends = v .ends;
+        left = v .left;
+        after = v .after;
+        code = v .code;
+        ends = v .ends;
         spot = subst (λ (m : ℕ). CodeAt (labelled p .procs) m (n .place) (v .left) (v .after)) (sym same)
-          (record { proc = v .proc; found = v .found; spot = v .spot });
+            (record { proc = v .proc; found = v .found; spot = v .spot });
       }
 
   -- a node is that of its label
