@@ -2,20 +2,23 @@
 use Prim.Native.Nat.{ℕ, suc, _+_, _*_, _-_, _≤_, _<_}
 use mathlib.Core.Path.{_≡_}
 use mathlib.Core.List.{List, [], _∷_, _++_}
+use mathlib.Core.Bool.{Bool}
 use lib.ListN.{length}
 use lib.Seq.{sets}
 use Rattle.value.specs.Laws.Lists.{Each}
-use Rattle.reader.specs.Syntax.{Expr, Instr, assign, write, read, while, if, call, atomic, select, Block, end, step, Proc, Program, Plain}
+use Rattle.reader.specs.Syntax.{Expr, constant, local, one, two, Instr, assign, write, read, while, if, call, atomic, select, Block, end, step, Proc, Program, Plain}
 use Rattle.reader.specs.Syntax.{Kind, concurrent}
 use Rattle.reader.specs.Encode.{expr, instr, block, each, bodiesOf}
 use Rattle.reader.specs.Labels.{count, countI, counts, label, first}
 use Rattle.reader.specs.LabelMap.{Mapped}
+use Rattle.reader.specs.Variables.{mentioned, mentions, variables, flags}
 use Rattle.reader.specs.Rules.{limits, maxLabels}
 use Rattle.reader.specs.Laws.Fits.{BlockFits}
 use Rattle.reader.specs.Laws.Formed.{Formed}
 use Rattle.reader.specs.Laws.Stands.{Stands}
 use Rattle.reader.specs.Laws.Grammar.{ExprAt, ExprsAt, InstrAt, BlockAt}
 use Rattle.reader.specs.declared.labels.Counted.{Counted}
+use Rattle.reader.specs.declared.variables.Gathered.{Gathered}
 
 -- ---- something stands there
 
@@ -48,6 +51,29 @@ pub record ExprsEnd (t : List ℕ) (i n r : ℕ) : Type 0 where
 -- an instruction without blocks
 pub record PlainEnds (t : List ℕ) (i r : ℕ) : Type 0 where
   pub ends : (s : Instr Plain) (j : ℕ) → InstrAt t i 0 s j → r ≡ j
+
+-- ---- its variables
+
+-- how many operands an expression has
+abbrev pub arity : Expr → ℕ
+arity (constant v) = 0
+arity (local x) = 0
+arity (one o a) = 1
+arity (two o a b) = 2
+
+-- the variables of the expression that stands at i, and where it ends
+pub record Gathers (t : List ℕ) (i d : ℕ) (r : Gathered) : Type 0 where
+  pub set : (e : Expr) (j : ℕ) → ExprAt t i d e j → r .set ≡ flags (λ x. mentioned x e)
+  pub ends : (e : Expr) (j : ℕ) → ExprAt t i d e j → r .next ≡ j
+
+-- the same, of an expression without operands
+pub record GathersLeaf (t : List ℕ) (i : ℕ) (r : Gathered) : Type 0 where
+  pub set : (e : Expr) (d j : ℕ) → ExprAt t i d e j → arity e ≡ 0 → r .set ≡ flags (λ x. mentioned x e)
+  pub ends : (e : Expr) (d j : ℕ) → ExprAt t i d e j → arity e ≡ 0 → r .next ≡ j
+
+-- how many of a row are set: as many as there are variables
+pub record CountsFlags (row : List Bool) (r : ℕ) : Type 0 where
+  pub counts : (es : List Expr) → row ≡ flags (λ x. mentions x es) → r ≡ length (variables 0 16 es)
 
 -- ---- how many labels it has
 
