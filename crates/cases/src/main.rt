@@ -6,13 +6,16 @@
 use value::bytes;
 
 const HEADER: usize = 36;
+
 const LONGEST_TABLE: usize = 66000;
+
 const LONGEST_SCHEDULE: usize = 5000;
 
 // No batch has more cases: the loop over them ends.
 const MOST_CASES: u32 = 1000000;
 
 const READ_CONCURRENT: u8 = 1;
+
 const READ_SEQUENTIAL: u8 = 2;
 
 // A space, then the number.
@@ -61,7 +64,13 @@ fn answer_part(call: u8, buffer: &[u8], n: usize) -> bool {
 }
 
 // Reads a table and a schedule of these lengths into the lent buffers, and answers the call.
-fn answer_case(call: u8, length: usize, scheduled: usize, table: &mut [u8], schedule: &mut [u8]) -> bool {
+fn answer_case(
+    call: u8,
+    length: usize,
+    scheduled: usize,
+    table: &mut [u8],
+    schedule: &mut [u8],
+) -> bool {
     read_into(table, length);
     read_into(schedule, scheduled);
     answer_part(call, table, length)
