@@ -17,7 +17,8 @@ ghost use lib.ListN.{length, getD};
 ghost use Rattle.reader.specs.Rules.{setFirst};
 ghost use Rattle.reader.specs.BitSets.{bits, insert, below};
 ghost use Rattle.reader.specs.Laws.Laid.{Room, Judges, Named};
-ghost use Rattle.reader.specs.Laws.SetScans.{leafKnown, Knows, settled, SetsPlain, SetsInstr, SetsBlock, procSet};
+ghost use Rattle.reader.specs.Laws.KnownScans.{leafKnown, Knows};
+ghost use Rattle.reader.specs.Laws.SetScans.{settled, SetsPlain, SetsInstr, SetsBlock, procSet};
 
 // Blocks nest at most 16 deep.
 const DEPTH: u8 = 16;

@@ -1,6 +1,6 @@
 -- `reader::set::body_set` meets its contract.
 use borrow.Author.Needs.{needs}
-use Rattle.reader.specs.Laws.SetScans.{ways}
+use Rattle.reader.specs.Laws.SetScans.{proc-ways}
 use Rattle.reader.proofs.set.body_set.Statement.{statement}
 use Rattle.reader.proofs.set.body_set.Tie as tie
 
@@ -14,5 +14,5 @@ body-set-spec = tie.close (tie.spec
     (λ c κs. search needs)
     (λ c. search needs)
     (λ c. search needs)
-    (λ c. search ways)
-    (λ c. search ways))
+    (λ c. search proc-ways)
+    (λ c. search proc-ways))

@@ -1,6 +1,6 @@
 -- `reader::set::known_exprs` meets its contract.
 use borrow.Author.Needs.{needs}
-use Rattle.reader.specs.Laws.SetScans.{ways, KnowsFrom}
+use Rattle.reader.specs.Laws.KnownScans.{known-ways, KnowsFrom}
 use Prim.Native.Nat.{_-_}
 use lib.ListN.{length}
 use Rattle.reader.proofs.set.known_exprs.Statement.{statement}
@@ -16,13 +16,13 @@ pub known-exprs-spec : {M : Type 1} → statement M
 known-exprs-spec = tie.close (tie.spec
     Inv-loop
     μ-loop
-    (λ c. search ways)
-    (λ c. search ways)
+    (λ c. search known-ways)
+    (λ c. search known-ways)
     (λ c. search needs)
     (λ c κs. search needs)
-    (λ c. search ways)
+    (λ c. search known-ways)
     (λ c κs. search needs)
-    (λ c. search ways)
+    (λ c. search known-ways)
     (λ c. search needs)
     (λ c κs. search needs)
     (λ c. search needs)
@@ -31,5 +31,5 @@ known-exprs-spec = tie.close (tie.spec
     (λ c. search needs)
     (λ c. search needs)
     (λ c. search needs)
-    (λ c. search ways)
-    (λ c. search ways))
+    (λ c. search known-ways)
+    (λ c. search known-ways))

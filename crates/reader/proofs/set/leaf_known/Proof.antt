@@ -1,6 +1,6 @@
 -- `reader::set::leaf_known` meets its contract.
 use borrow.Author.Needs.{needs}
-use Rattle.reader.specs.Laws.SetScans.{ways}
+use Rattle.reader.specs.Laws.KnownScans.{known-ways}
 use Rattle.reader.proofs.set.leaf_known.Statement.{statement}
 use Rattle.reader.proofs.set.leaf_known.Tie as tie
 
@@ -9,5 +9,5 @@ leaf-known-spec = tie.close (tie.spec
     (λ c. search needs)
     (λ c κs. search needs)
     (λ c κs. search needs)
-    (λ c. search ways)
-    (λ c. search ways))
+    (λ c. search known-ways)
+    (λ c. search known-ways))

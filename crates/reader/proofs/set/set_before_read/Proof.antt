@@ -1,6 +1,6 @@
 -- `reader::set::set_before_read` meets its contract.
 use borrow.Author.Needs.{needs}
-use Rattle.reader.specs.Laws.SetScans.{ways, Before}
+use Rattle.reader.specs.Laws.SetScans.{proc-ways, Before}
 use Prim.Native.Nat.{_-_}
 use Rattle.reader.proofs.set.set_before_read.Statement.{statement}
 use Rattle.reader.proofs.set.set_before_read.Tie as tie
@@ -15,10 +15,10 @@ pub set-before-read-spec : {M : Type 1} → statement M
 set-before-read-spec = tie.close (tie.spec
     Inv-loop
     μ-loop
-    (λ c. search ways)
+    (λ c. search proc-ways)
     (λ c κs. search needs)
-    (λ c. search ways)
+    (λ c. search proc-ways)
     (λ c. search needs)
     (λ c. search needs)
-    (λ c. search ways)
-    (λ c. search ways))
+    (λ c. search proc-ways)
+    (λ c. search proc-ways))
