@@ -1,7 +1,6 @@
 -- The code part of a table as a flat row of tokens: each mark with the numbers that follow it.
 use Prim.Native.Nat.{ℕ, _+_, _*_}
 use mathlib.Core.List.{List, [], _∷_, _++_}
-use mathlib.Core.Bool.{Bool, true, false}
 use lib.ListN.{length, getD, replicate}
 use lib.Dec.{eqb, ltb}
 use Rattle.value.specs.Maybe.{pick}

@@ -1,4 +1,5 @@
 // Rule 5: "a local, location or procedure not below its count; n not the callee's parameters".
+use super::records::RECORD;
 use super::tokens::Token;
 use super::tokens::body_end;
 use super::tokens::body_start;
@@ -31,7 +32,7 @@ fn takes(t: &[u8], callee: usize, arguments: usize, procedures: usize, records: 
     ensures { λ r. ⌜ r ≡ takesHere (now (t .entry)) procedures records callee arguments ⌝ }
 {
     if callee < procedures {
-        return byte_at(t, records + 6 * callee) == arguments;
+        return byte_at(t, records + RECORD * callee) == arguments;
     }
     false
 }
@@ -92,7 +93,7 @@ fn body_named(t: &[u8], m: usize, locations: usize, procedures: usize, records: 
     requires { ⌜ Room (now t) procedures records × (m < procedures) ⌝ }
     ensures { λ r. ⌜ Judges (Counted (now (t .entry)) procedures locations records) (procNamed m) r ⌝ }
 {
-    let locals = byte_at(t, records + 6 * m + 1);
+    let locals = byte_at(t, records + RECORD * m + 1);
     let at = body_start(t, records, m);
     let end = body_end(t, procedures, records, m);
     tokens_named(t, at, end, locals, locations, procedures, records)

@@ -1,14 +1,9 @@
 // Rule 8: "a local may be read before it is set". A set of locals is the bits of a number.
 use super::Ends;
-use super::block::ASSIGN;
-use super::block::ATOMIC;
-use super::block::CALL;
-use super::block::END;
-use super::block::IF;
-use super::block::READ;
-use super::block::SELECT;
-use super::block::WHILE;
-use super::block::WRITE;
+use super::block;
+use super::bodies::DEPTH;
+use super::records::RECORD;
+use super::tokens::LOCAL;
 use super::tokens::body_start;
 use super::tokens::byte_at;
 ghost use mathlib.Core.Path.{_≡_};
@@ -19,12 +14,6 @@ ghost use Rattle.reader.specs.BitSets.{bits, insert, below};
 ghost use Rattle.reader.specs.Laws.Laid.{Room, Judges, Named};
 ghost use Rattle.reader.specs.Laws.KnownScans.{leafKnown, Knows};
 ghost use Rattle.reader.specs.Laws.SetScans.{settled, SetsPlain, SetsInstr, SetsBlock, procSet};
-
-// Blocks nest at most 16 deep.
-const DEPTH: u8 = 16;
-
-// The mark of a local in an expression.
-const LOCAL: u8 = 0x05;
 
 // What is set after a block or an instruction, and where it ends; or that a local may be read before it is set.
 pub enum After {
@@ -105,19 +94,19 @@ fn set_plain(t: &[u8], at: usize, set: u64) -> After
     ensures { λ r. ⌜ SetsPlain (now (t .entry)) at set r ⌝ }
 {
     let mark = t[at];
-    if mark == ASSIGN {
+    if mark == block::ASSIGN {
         return then_set(
             known_exprs(t, at + 2, 1, set),
             with(set, byte_at(t, at + 1)),
         );
     }
-    if mark == WRITE {
+    if mark == block::WRITE {
         if has(set, byte_at(t, at + 1)) {
             return then_set(known_exprs(t, at + 2, 2, set), set);
         }
         return After::Unset;
     }
-    if mark == READ {
+    if mark == block::READ {
         if has(set, byte_at(t, at + 2)) {
             return then_set(
                 known_exprs(t, at + 3, 1, set),
@@ -126,10 +115,10 @@ fn set_plain(t: &[u8], at: usize, set: u64) -> After
         }
         return After::Unset;
     }
-    if mark == CALL {
+    if mark == block::CALL {
         return then_set(known_exprs(t, at + 4, byte_at(t, at + 3), set), set);
     }
-    if mark == SELECT {
+    if mark == block::SELECT {
         return After::Set(at + 5, set);
     }
     After::Unset
@@ -141,7 +130,7 @@ fn set_instr(t: &[u8], at: usize, depth: u8, set: u64) -> After
     ensures { λ r. ⌜ SetsInstr (now (t .entry)) at depth set r ⌝ }
 {
     let mark = t[at];
-    if mark == WHILE {
+    if mark == block::WHILE {
         let Ends::At(body) = known_exprs(t, at + 1, 1, set) else {
             return After::Unset;
         };
@@ -150,7 +139,7 @@ fn set_instr(t: &[u8], at: usize, depth: u8, set: u64) -> After
         };
         return After::Set(next, set);
     }
-    if mark == IF {
+    if mark == block::IF {
         let Ends::At(yes) = known_exprs(t, at + 1, 1, set) else {
             return After::Unset;
         };
@@ -162,7 +151,7 @@ fn set_instr(t: &[u8], at: usize, depth: u8, set: u64) -> After
         };
         return After::Set(next, one & other);
     }
-    if mark == ATOMIC {
+    if mark == block::ATOMIC {
         return set_block(t, at + 1, depth, set);
     }
     set_plain(t, at, set)
@@ -178,7 +167,7 @@ fn set_block(t: &[u8], at: usize, depth: u8, set: u64) -> After
     let mut i = at;
     let mut known = set;
     while i < t.len() {
-        if t[i] == END {
+        if t[i] == block::END {
             return After::Set(i + 1, known);
         }
         let After::Set(next, more) = set_instr(t, i, depth - 1, known) else {
@@ -205,7 +194,7 @@ fn body_set(t: &[u8], m: usize, procedures: usize, records: usize) -> bool
     requires { ⌜ Room (now t) procedures records × (m < procedures) ⌝ }
     ensures { λ r. ⌜ Judges (Named (now (t .entry)) procedures records) (procSet m) r ⌝ }
 {
-    let parameters = firsts(byte_at(t, records + 6 * m));
+    let parameters = firsts(byte_at(t, records + RECORD * m));
     let at = body_start(t, records, m);
     let After::Set(_, _) = set_block(t, at, DEPTH, parameters) else {
         return false;

@@ -1,9 +1,16 @@
 // The code part of a table as a flat row of tokens: each mark with the numbers that follow it.
+use super::block;
+use super::records::RECORD;
 ghost use mathlib.Core.Path.{_≡_};
 ghost use Prim.Native.Nat.{_+_, _*_, _<_, _≤_};
 ghost use lib.ListN.{length, getD};
 ghost use Rattle.reader.specs.Tokens.{twoAt, fourAt, tokenAt, sizeAt};
 ghost use Rattle.reader.specs.Laws.Laid.{Room, BodyEnds};
+
+// The marks of a location and of a local in an expression.
+const LOCATION: u8 = 0x02;
+
+pub const LOCAL: u8 = 0x05;
 
 // What a mark begins. A truth value, a whole number or an operator names nothing: it is plain.
 pub enum Token {
@@ -44,38 +51,38 @@ pub fn token_at(t: &[u8], i: usize) -> Token
     requires { ⌜ i < length (now t) ⌝ }
     ensures { λ r. ⌜ r ≡ tokenAt (now (t .entry)) i ⌝ }
 {
-    let m = t[i];
-    if m == 0x00 {
+    let mark = t[i];
+    if mark == block::END {
         return Token::Stop;
     }
-    if m == 0x02 {
+    if mark == LOCATION {
         return Token::Location(two_at(t, i + 1));
     }
-    if m == 0x05 {
+    if mark == LOCAL {
         return Token::Local(byte_at(t, i + 1));
     }
-    if m == 0x20 {
+    if mark == block::ASSIGN {
         return Token::Assign(byte_at(t, i + 1));
     }
-    if m == 0x21 {
+    if mark == block::WRITE {
         return Token::Write(byte_at(t, i + 1));
     }
-    if m == 0x22 {
+    if mark == block::READ {
         return Token::Read(byte_at(t, i + 1), byte_at(t, i + 2));
     }
-    if m == 0x23 {
+    if mark == block::WHILE {
         return Token::While;
     }
-    if m == 0x24 {
+    if mark == block::IF {
         return Token::If;
     }
-    if m == 0x25 {
+    if mark == block::CALL {
         return Token::Call(two_at(t, i + 1), byte_at(t, i + 3));
     }
-    if m == 0x26 {
+    if mark == block::ATOMIC {
         return Token::Atomic;
     }
-    if m == 0x27 {
+    if mark == block::SELECT {
         return Token::Select(two_at(t, i + 1), two_at(t, i + 3));
     }
     Token::Plain
@@ -130,9 +137,9 @@ pub fn token_end(t: &[u8], i: usize) -> usize
     requires { ⌜ i < length (now t) ⌝ }
     ensures { λ r. ⌜ r ≡ i + sizeAt (now (t .entry)) i ⌝ }
 {
-    let m = t[i];
-    if m < 40 {
-        return i + (TOKEN_BYTES[m as usize] as usize);
+    let mark = t[i];
+    if mark < 40 {
+        return i + (TOKEN_BYTES[mark as usize] as usize);
     }
     i + 1
 }
@@ -142,7 +149,7 @@ pub fn body_start(t: &[u8], records: usize, m: usize) -> usize
     requires { ⌜ records + 6 * m ≤ length (now t) ⌝ }
     ensures { λ r. ⌜ r ≡ fourAt (now (t .entry)) (records + 6 * m + 2) ⌝ }
 {
-    let at = records + 6 * m + 2;
+    let at = records + RECORD * m + 2;
     two_at(t, at) + 65536 * two_at(t, at + 2)
 }
 

@@ -1,16 +1,16 @@
 -- Sets of locals as the bits of a number: what is in them.
-use Prim.Native.Nat.{ℕ, zero, suc, _+_, _*_, _-_, _/_, _%_, _^_, _≤_, _<_, min, max}
+use Prim.Native.Nat.{ℕ, zero, suc, _*_, _-_, _/_, _%_, _^_, _≤_, _<_, min, max}
 use native.Mathlib.Omega.{arith}
 use native.Mathlib.Nat.{pow-succ', div-div-eq-div-mul, div-eq-of-lt}
 use lib.Pow.{pow-pos, pow-mono, pow-lt}
-use mathlib.Core.Path.{_≡_, refl, sym, ap, ap₂, subst, _∙_}
-use mathlib.Core.Bool.{Bool, true, false}
+use mathlib.Core.Path.{_≡_, refl, sym, _∙_}
+use mathlib.Core.Bool.{false}
 use lib.Bits.{bitAnd, bitOr, and-step, or-step}
 use lib.Dec.{eqb, ltb, leb·suc-suc, eqb·zero-suc, eqb·suc-zero, eqb·suc-suc}
 use borrow.Author.Tests.{eqb-true, eqb-false, lt-ltb, le-ltb}
 use Rattle.value.specs.Maybe.{both, either, pick}
 use Rattle.value.specs.Laws.Tests.{by-test}
-use Rattle.reader.specs.Rules.{Known, with}
+use Rattle.reader.specs.Rules.{with}
 use Rattle.reader.specs.BitSets.{bit, bits, insert, below}
 
 -- a bit is 0 or 1

@@ -1,5 +1,5 @@
 -- Rule 7, as the code judges it: rows of flags, one for each procedure.
-use Prim.Native.Nat.{ℕ, zero, suc, _+_, _*_, _-_, _≤_, _<_}
+use Prim.Native.Nat.{ℕ, zero, suc, _+_, _*_, _≤_, _<_}
 use native.Mathlib.Omega.{arith}
 use mathlib.Core.Path.{_≡_, refl, sym, ap, ap₂, subst, _∙_}
 use mathlib.Core.Logic.{_≢_}
@@ -13,8 +13,8 @@ use borrow.Author.Tests.{not-true, not-false, eqb-true, eqb-false, lt-ltb, le-lt
 use lib.Dec.{eqb, ltb}
 use Rattle.value.specs.Maybe.{either, pick}
 use Rattle.value.specs.Lists.{any}
-use Rattle.value.specs.Laws.Tests.{Decides, by-test, never}
-use Rattle.value.specs.Laws.Lists.{In, each-in, Each, each-so, each-append, some-pass, some-passed, at-below}
+use Rattle.value.specs.Laws.Tests.{by-test, never}
+use Rattle.value.specs.Laws.Lists.{each-in, Each, each-so, each-append, at-below}
 use Rattle.value.specs.Lists.{at}
 use Rattle.value.specs.Maybe.{is}
 use Rattle.reader.specs.Laws.Procs.{takes-at}
@@ -31,8 +31,8 @@ use Rattle.reader.specs.Laws.Scans.{Scans, From, from-start, from-next, 
 use Rattle.reader.specs.Laws.TablePlaces.{bodyAt}
 use Rattle.reader.specs.Laws.Calls.{Calls, Reaches, direct, onward, no-cycle?, calls-below}
 use Rattle.reader.specs.Laws.Deep.{deep, cycle-deep, deep-cycle}
-use Rattle.reader.specs.Laws.Names.{Names, NamesI, Takes, all-names?}
-use Rattle.reader.specs.Laws.Laid.{Laid, Named, ProcNamed, proc-named, Judges, procOf, start-at, body-row, BodyEnds}
+use Rattle.reader.specs.Laws.Names.{Names, NamesI}
+use Rattle.reader.specs.Laws.Laid.{Laid, Named, proc-named, Judges, procOf, start-at, body-row, BodyEnds}
 
 -- ---- what the code answers
 

@@ -1,19 +1,18 @@
 -- Rule 7 by rows: a procedure that can make as many calls, one inside the other, as there are procedures, leads to one that reaches itself.
-use Prim.Native.Nat.{ℕ, zero, suc, _≤_, _<_}
+use Prim.Native.Nat.{ℕ, zero, suc, _<_}
 use native.Mathlib.Omega.{arith}
-use mathlib.Core.Path.{_≡_, refl, sym, _∙_}
+use mathlib.Core.Path.{_≡_, refl}
 use mathlib.Core.List.{List, [], _∷_}
 use mathlib.Core.Bool.{Bool, true, false}
 use lib.ListN.{length}
 use lib.Dec.{eqb}
 use borrow.Author.Tests.{eqb-true}
-use Rattle.value.specs.Maybe.{either}
 use Rattle.value.specs.Lists.{any}
 use Rattle.value.specs.Laws.Tests.{never, either-passed, by-test}
 use Rattle.value.specs.Laws.Lists.{In, member, some-pass, some-passed, Each}
 use Rattle.reader.specs.Syntax.{Proc}
 use Rattle.reader.specs.Rules.{calleesOf}
-use Rattle.reader.specs.Laws.Calls.{Calls, Reaches, direct, onward, Distinct, distinct-below, Walk, calls-below}
+use Rattle.reader.specs.Laws.Calls.{Calls, Reaches, direct, onward, Distinct, distinct-below, Walk}
 
 module _ {A : Type 0} (ps : List (Proc A)) where
   -- can m make k calls, one inside the other

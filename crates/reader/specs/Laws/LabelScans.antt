@@ -1,13 +1,9 @@
 -- Rule 6, as the code counts: labels token by token.
 use Prim.Native.Nat.{ℕ, zero, suc, _+_, _-_, _≤_, _<_}
 use native.Mathlib.Omega.{arith}
-use mathlib.Core.Path.{_≡_, refl, sym, ap, ap₂, subst, _∙_}
+use mathlib.Core.Path.{_≡_, refl, ap, subst, _∙_}
 use mathlib.Core.List.{List, [], _∷_, _++_, append-assoc}
-use mathlib.Core.Bool.{Bool, true, false}
 use lib.ListN.{length}
-use lib.Dec.{eqb}
-use borrow.Author.Tests.{eq-eqb, ne-eqb}
-use Rattle.value.specs.Maybe.{pick}
 use Rattle.value.specs.Laws.Lists.{Each}
 use Rattle.value.specs.declared.Value.the-variants.{Whole, Location, Truth}
 use Rattle.reader.specs.declared.tokens.Token.{Token}
@@ -21,7 +17,7 @@ use Rattle.reader.specs.Laws.Fits.{BlockFits}
 use Rattle.reader.specs.Laws.Stands.{Stands, front, back}
 use Rattle.reader.specs.Laws.Tokens.{Row, done, row, row-append, size-pos, token-falls}
 use Rattle.reader.specs.Laws.Scans.{Scans, From, from-start, from-next, from-end}
-use Rattle.reader.specs.Laws.TablePlaces.{recordsAt, all-bodies}
+use Rattle.reader.specs.Laws.TablePlaces.{all-bodies}
 use Rattle.reader.specs.Laws.Laid.{Laid}
 
 -- ---- what the code counts

@@ -1,8 +1,8 @@
 -- The program of a table, seen by the numbers that the code goes by: procedures P, and position R of their records.
-use Prim.Native.Nat.{ℕ, zero, suc, _+_, _*_, _^_, _≤_, _<_}
+use Prim.Native.Nat.{ℕ, zero, suc, _+_, _*_, _≤_, _<_}
 use native.Mathlib.Omega.{arith}
 use mathlib.Core.Path.{_≡_, refl, sym, ap, subst, _∙_}
-use mathlib.Core.List.{List, [], _∷_, _++_}
+use mathlib.Core.List.{List, [], _∷_}
 use mathlib.Core.Bool.{Bool, true, false}
 use borrow.Author.Count.{below-more}
 use lib.ListN.{length, getD, length-append}
@@ -11,10 +11,10 @@ use Rattle.value.specs.Values.{bytes}
 use Rattle.value.specs.Lists.{at, all}
 use Rattle.value.specs.Laws.Tests.{by-test}
 use Rattle.value.specs.Laws.Maybes.{is-inj, missing}
-use Rattle.value.specs.Laws.Lists.{Each, each-at, at-getD}
-use Rattle.reader.specs.Syntax.{Block, end, Proc, Program, Plain, Kind, concurrent, sequential}
+use Rattle.value.specs.Laws.Lists.{each-at, at-getD}
+use Rattle.reader.specs.Syntax.{end, Proc, Program, Plain, Kind, concurrent, sequential}
 use Rattle.reader.specs.Encode.{each, block, bodiesOf, table}
-use Rattle.reader.specs.Tokens.{twoAt, fourAt, tokens}
+use Rattle.reader.specs.Tokens.{fourAt, tokens}
 use Rattle.reader.specs.Laws.Fits.{BlockFits}
 use Rattle.reader.specs.Laws.Formed.{Formed}
 use Rattle.reader.specs.Rules.{limits, allNamed}
@@ -23,7 +23,7 @@ use Rattle.reader.specs.Laws.Sound.{LocalsRight}
 use Rattle.reader.specs.Laws.Grammar.{BlockAt}
 use Rattle.reader.specs.Laws.Stands.{Stands, first, others, four-bytes}
 use Rattle.reader.specs.Laws.Procs.{body-at}
-use Rattle.reader.specs.Laws.TablePlaces.{bodyAt, recordsAt, all-bodies, body-stands, record-stands, length-table, trailer-at}
+use Rattle.reader.specs.Laws.TablePlaces.{bodyAt, recordsAt, body-stands, record-stands}
 use Rattle.reader.specs.Laws.Tokens.{Row, row, shift}
 
 -- t is p's table, with P procedures, whose records begin at R

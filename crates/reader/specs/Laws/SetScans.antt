@@ -228,9 +228,11 @@ module _ (t : List ℕ) (i s : ℕ) where
 
   -- "27 a b"
   pub sets-select : getD t i 0 ≡ 0x27 → SetsPlain t i s (Set (i + 5) s)
-  sets-select m = record { sets = λ q₁ q₂ q₃ d. instr-sets (omega arith) (λ a j h.
-      let here : SelectAt t i d a j = select-here (h .at) m in
-      (ap (afterI (bits s)) (here .is), sym (here .ends))) }
+  sets-select m = record {
+    sets = λ q₁ q₂ q₃ d. instr-sets (omega arith) (λ a j h.
+        let here : SelectAt t i d a j = select-here (h .at) m in
+        (ap (afterI (bits s)) (here .is), sym (here .ends)));
+  }
 
   -- no other instruction has no block
   pub no-plain : (getD t i 0 ≡ 0x20 → ⊥) → (getD t i 0 ≡ 0x21 → ⊥) → (getD t i 0 ≡ 0x22 → ⊥) → (getD t i 0 ≡ 0x25 → ⊥) → (getD t i 0 ≡ 0x27 → ⊥)

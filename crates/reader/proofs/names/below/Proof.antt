@@ -1,5 +1,4 @@
 -- `reader::names::below` meets its contract.
-use borrow.Author.Needs.{needs}
 use Rattle.reader.specs.Laws.NameScans.{ways}
 use Rattle.reader.proofs.names.below.Statement.{statement}
 use Rattle.reader.proofs.names.below.Tie as tie
