@@ -21,8 +21,8 @@ use Rattle.reader.specs.Laws.Procs.{takes-at}
 use native.Mathlib.Numerals.{add-one}
 use Rattle.reader.specs.declared.tokens.Token.{Token}
 use Rattle.reader.specs.declared.tokens.Token.the-variants as T
-use Rattle.reader.specs.Syntax.{Expr, constant, local, one, two, Instr, assign, write, read, while, if, call, atomic, select, Block, end, step, Proc}
-use Rattle.reader.specs.Syntax.{Program, Plain}
+use Rattle.reader.specs.Syntax.{Expr, constant, local, one, two, Instr, assign, write, read, while, if, call, atomic, select}
+use Rattle.reader.specs.Syntax.{Block, end, step, Proc, Program, Plain}
 use Rattle.value.specs.declared.Value.the-variants.{Whole, Location, Truth}
 use Rattle.reader.specs.Rules.{callees, calleesI, calleesOf, noCycle}
 use Rattle.reader.specs.Tokens.{fourAt, tokenAt, sizeAt, tokensE, tokensEs, tokensI, tokens}
@@ -170,7 +170,8 @@ callees-at (p ∷ ps) (suc m) d l = callees-at ps m d (omega arith)
 
 module _ (t : List ℕ) (P R : ℕ) (row : List Bool) (m : ℕ) where
   -- the body of procedure m
-  pub body-leads : {a e : ℕ} {r : Bool} → m < P → a ≡ fourAt t (R + 6 * m + 2) → BodyEnds t P R m e → Scans t e (leadsIn row) a r → Leads t P R row m r
+  pub body-leads : {a e : ℕ} {r : Bool} → m < P → a ≡ fourAt t (R + 6 * m + 2) → BodyEnds t P R m e → Scans t e (leadsIn row) a r
+      → Leads t P R row m r
   unfolding leadsIn
   body-leads {a} {e} {r} l start ends s = record {
     gives = λ p named.
@@ -194,7 +195,8 @@ module _ (t : List ℕ) (P R : ℕ) (row : List Bool) where
   row-start = record { long = refl; made = record { gives = λ p named m l. absurd (omega arith) } }
 
   -- one more
-  pub row-next : {m : ℕ} {next : List Bool} {r : Bool} → Making t P R row m next → Leads t P R row m r → m < P → P ≤ 512 → Making t P R row (m + 1) (set next m r)
+  pub row-next : {m : ℕ} {next : List Bool} {r : Bool} → Making t P R row m next → Leads t P R row m r → m < P → P ≤ 512
+      → Making t P R row (m + 1) (set next m r)
   row-next {m} {next} {r} N L l few = record { long = rw (length-set next m r) (N .long); made = record { gives = gives } }
     where
       gives : (p : Program Plain) → Named t P R p → (i : ℕ) → i < m + 1 → getD (set next m r) i false ≡ any (flag row) (calleesOf (p .procs) i)

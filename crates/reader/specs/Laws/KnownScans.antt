@@ -103,7 +103,8 @@ module _ {t : List ℕ} {i j : ℕ} (n : ℕ) (s : Known) where
       let z₁ : getD t i 0 ≡ mark₁ o = first (h .stands) in
       let op : Operator (mark₁ o) 1 = operator₁ o in
       let fits : Each (ExprFits 16) (a ∷ es) = ((omega (arith, h .fits .0 .0), h .fits .0 .1), h .fits .1) in
-      behind (mark₁ o) [] (a ∷ es) (op .payload) (omega (arith, op .operands)) (omega (arith, h .count, op .operands)) fits (rw (z₁, op .name)) (h .stands)
+      behind (mark₁ o) [] (a ∷ es) (op .payload) (omega (arith, op .operands)) (omega (arith, h .count, op .operands)) fits
+      (rw (z₁, op .name)) (h .stands)
   next-exprs (two o a b ∷ es) l h =
       let z₁ : getD t i 0 ≡ mark₂ o = first (h .stands) in
       let op : Operator (mark₂ o) 2 = operator₂ o in

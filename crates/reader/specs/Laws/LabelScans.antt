@@ -8,8 +8,8 @@ use Rattle.value.specs.Laws.Lists.{Each}
 use Rattle.value.specs.declared.Value.the-variants.{Whole, Location, Truth}
 use Rattle.reader.specs.declared.tokens.Token.{Token}
 use Rattle.reader.specs.declared.tokens.Token.the-variants as T
-use Rattle.reader.specs.Syntax.{Expr, constant, local, one, two, Instr, assign, write, read, while, if, call, atomic, select, Block, end, step, Proc}
-use Rattle.reader.specs.Syntax.{Program, Plain}
+use Rattle.reader.specs.Syntax.{Expr, constant, local, one, two, Instr, assign, write, read, while, if, call, atomic, select}
+use Rattle.reader.specs.Syntax.{Block, end, step, Proc, Program, Plain}
 use Rattle.reader.specs.Encode.{each, block, bodiesOf}
 use Rattle.reader.specs.Labels.{count, countI, counts}
 use Rattle.reader.specs.Tokens.{tokenAt, sizeAt, tokensE, tokensEs, tokensI, tokens}
@@ -17,7 +17,7 @@ use Rattle.reader.specs.Laws.Fits.{BlockFits}
 use Rattle.reader.specs.Laws.Stands.{Stands, front, back}
 use Rattle.reader.specs.Laws.Tokens.{Row, done, row, row-append, size-pos, token-falls}
 use Rattle.reader.specs.Laws.Scans.{Scans, From, from-start, from-next, from-end}
-use Rattle.reader.specs.Laws.TablePlaces.{all-bodies}
+use Rattle.reader.specs.Laws.TablePlaces.{recordsAt, all-bodies}
 use Rattle.reader.specs.Laws.Laid.{Laid}
 
 -- ---- what the code counts
@@ -146,7 +146,9 @@ skipE n (constant (Location l)) ls = skip (quiet-location l) n ls
 skipE n (constant (Truth b)) ls = skip quiet-plain n ls
 skipE n (local x) ls = skip (quiet-local x) n ls
 skipE n (one o a) ls = skip quiet-plain n (tokensE a ++ ls) ∙ skipE n a ls
-skipE n (two o a b) ls = skip quiet-plain n ((tokensE a ++ tokensE b) ++ ls) ∙ rw (append-assoc (tokensE a) (tokensE b) ls) (skipE n a (tokensE b ++ ls) ∙ skipE n b ls)
+skipE n (two o a b) ls =
+    skip quiet-plain n ((tokensE a ++ tokensE b) ++ ls)
+    ∙ rw (append-assoc (tokensE a) (tokensE b) ls) (skipE n a (tokensE b ++ ls) ∙ skipE n b ls)
 
 -- several
 skipEs : (n : ℕ) (es : List Expr) (ls : List Token) → labelsIn n (tokensEs es ++ ls) ≡ labelsIn n ls
@@ -227,10 +229,12 @@ all-labels [] = refl
 all-labels (p ∷ ps) = omega (arith, outsideB (p .body) (allTokens ps), all-labels ps)
 
 -- they stand in the table
-all-rows : {t : List ℕ} (i : ℕ) {j : ℕ} (ps : List (Proc Plain)) → Each (BlockFits 16) (bodiesOf ps) → Stands t i (each block (bodiesOf ps)) j → Row t i (allTokens ps) j
+all-rows : {t : List ℕ} (i : ℕ) {j : ℕ} (ps : List (Proc Plain)) → Each (BlockFits 16) (bodiesOf ps)
+    → Stands t i (each block (bodiesOf ps)) j → Row t i (allTokens ps) j
 all-rows {t} i [] f s = subst (λ (j : ℕ). Row t i [] j) (omega (arith, s .ends)) done
 all-rows i (p ∷ ps) f s =
-    row-append (row (p .body) (f .0 .1) (front (block (p .body)) (each block (bodiesOf ps)) s)) (all-rows _ ps (f .1) (back (block (p .body)) (each block (bodiesOf ps)) s))
+    row-append (row (p .body) (f .0 .1) (front (block (p .body)) (each block (bodiesOf ps)) s))
+    (all-rows _ ps (f .1) (back (block (p .body)) (each block (bodiesOf ps)) s))
 
 -- ---- one token
 
@@ -337,7 +341,8 @@ module _ (t : List ℕ) (P R : ℕ) where
   count-start = record { few = omega arith; deep = omega arith; from = from-start }
 
   -- one token
-  pub count-next : {i c n : ℕ} {k : Token} {o b j : ℕ} → Counting t P R i c n → i < R → k ≡ tokenAt t i → o ≡ ownLabels n k → b ≡ blocksOpen n k → j ≡ i + sizeAt t i
+  pub count-next : {i c n : ℕ} {k : Token} {o b j : ℕ} → Counting t P R i c n → i < R → k ≡ tokenAt t i → o ≡ ownLabels n k
+      → b ≡ blocksOpen n k → j ≡ i + sizeAt t i
       → Counting t P R j (c + o) b
   unfolding tally labelsIn
   count-next {i} {c} {n} {k} {o} {b} {j} C l ek eo eb ej = record {
@@ -352,7 +357,8 @@ module _ (t : List ℕ) (P R : ℕ) where
   count-done {i} {c} {n} C l = record {
     gives = λ p laid.
         let s : Scans t R (tally P 0) 0 c = from-end (C .from) l (omega arith) in
-        let whole : Row t 0 (allTokens (p .procs)) R = rw (laid .records) (all-rows 0 (p .procs) (laid .formed .fits) (all-bodies (laid .kind) p (laid .formed .same))) in
+        let code : Row t 0 (allTokens (p .procs)) (recordsAt p) = all-rows 0 (p .procs) (laid .formed .fits) (all-bodies (laid .kind) p (laid .formed .same)) in
+        let whole : Row t 0 (allTokens (p .procs)) R = rw (laid .records) code in
         s .gives (allTokens (p .procs)) whole ∙ rw (laid .procs) (all-labels (p .procs));
   }
 

@@ -103,7 +103,8 @@ module _ {t : List ℕ} {P R : ℕ} {p : Program Plain} (laid : Laid t P R p) {m
   -- its body, up to where the next one begins
   pub body-here : BlockAt t (bodyAt (p .procs) m) 16 (procOf p m .body) (bodyAt (p .procs) (m + 1))
   body-here = record {
-    stands = subst (λ j. Stands t (bodyAt (p .procs) m) (block (procOf p m .body)) j) (next-body (p .procs) m proc-at ∙ ap (bodyAt (p .procs)) (omega arith))
+    stands = subst (λ j. Stands t (bodyAt (p .procs) m) (block (procOf p m .body)) j)
+        (next-body (p .procs) m proc-at ∙ ap (bodyAt (p .procs)) (omega arith))
         (body-stands (laid .kind) p (laid .formed .same) m proc-at);
     fits = each-at (BlockFits 16) (bodiesOf (p .procs)) m (laid .formed .fits) (body-at (p .procs) m proc-at);
   }
@@ -178,7 +179,8 @@ pub none-passed : (G : Program Plain → Type 0) (f : ℕ → Program Plain → 
 none-passed G f = record { before = λ p g i l. absurd (omega arith) }
 
 -- and one more
-pub one-passed : {G : Program Plain → Type 0} {f : ℕ → Program Plain → Bool} {m : ℕ} {r : Bool} → Passed G f m → Judges G (f m) r → r ≡ true → Passed G f (m + 1)
+pub one-passed : {G : Program Plain → Type 0} {f : ℕ → Program Plain → Bool} {m : ℕ} {r : Bool}
+    → Passed G f m → Judges G (f m) r → r ≡ true → Passed G f (m + 1)
 one-passed {G} {f} {m} s j e = record { before = λ p g. below-more (λ i. f i p ≡ true) m (s .before p g) (sym (j .gives p g) ∙ e) }
 
 -- all pass a test if each does
@@ -193,7 +195,8 @@ one-fails f (x ∷ xs) d zero l e = rw e
 one-fails f (x ∷ xs) d (suc i) l e = by-test (f x) (λ y. rw y (one-fails f xs d i (omega arith) e)) (λ n. rw n)
 
 -- a test of each procedure, and the test of all
-module _ {G : Program Plain → Type 0} (test : Program Plain → Proc Plain → Bool) {P : ℕ} (count : (p : Program Plain) → G p → P ≡ length (p .procs)) where
+module _ {G : Program Plain → Type 0} (test : Program Plain → Proc Plain → Bool) {P : ℕ}
+    (count : (p : Program Plain) → G p → P ≡ length (p .procs)) where
   -- all pass
   pub passed-all : {m : ℕ} → Passed G (λ m p. test p (procOf p m)) m → P ≤ m → Judges G (λ p. all (test p) (p .procs)) true
   passed-all s l = record { gives = λ p g. sym (each-passes (test p) (p .procs) _ (λ i b. s .before p g i (omega (arith, count p g)))) }

@@ -14,14 +14,15 @@ use Rattle.value.specs.Laws.Tests.{by-test}
 use Rattle.value.specs.declared.Value.the-variants.{Whole, Location, Truth}
 use Rattle.reader.specs.declared.tokens.Token.{Token}
 use Rattle.reader.specs.declared.tokens.Token.the-variants as T
-use Rattle.reader.specs.Syntax.{Expr, constant, local, one, two, Instr, assign, write, read, while, if, call, atomic, select, Block, end, step, Proc}
-use Rattle.reader.specs.Syntax.{Program, Plain}
+use Rattle.reader.specs.Syntax.{Expr, constant, local, one, two, Instr, assign, write, read, while, if, call, atomic, select}
+use Rattle.reader.specs.Syntax.{Block, end, step, Proc, Program, Plain}
 use Rattle.reader.specs.Rules.{inExpr, takes, named, namedI, allNamed}
 use Rattle.reader.specs.Tokens.{fourAt, tokenAt, sizeAt, tokensE, tokensEs, tokensI, tokens}
 use Rattle.reader.specs.Laws.Tokens.{Row, token-falls}
 use Rattle.reader.specs.Laws.Scans.{Scans, From, from-start, from-next, from-stop, from-end}
 use Rattle.reader.specs.Laws.TablePlaces.{bodyAt}
-use Rattle.reader.specs.Laws.Laid.{Laid, Judges, procOf, params-at, locals-at, start-at, body-row, BodyEnds, Passed, none-passed, one-passed, passed-all, failed-one}
+use Rattle.reader.specs.Laws.Laid.{Laid, Judges, procOf, params-at, locals-at, start-at, body-row, BodyEnds}
+use Rattle.reader.specs.Laws.Laid.{Passed, none-passed, one-passed, passed-all, failed-one}
 
 -- ---- what the code judges
 
@@ -140,7 +141,8 @@ module _ (t : List ℕ) (P M R X i e : ℕ) where
   scan-start = from-start
 
   -- the token at k is named
-  pub scan-on : {k n : ℕ} {a : Token} {b : Bool} → To k → k < e → a ≡ tokenAt t k → b ≡ namedHere t P M R X a → B.not b ≡ false → n ≡ k + sizeAt t k → To n
+  pub scan-on : {k n : ℕ} {a : Token} {b : Bool} → To k → k < e → a ≡ tokenAt t k → b ≡ namedHere t P M R X a → B.not b ≡ false
+      → n ≡ k + sizeAt t k → To n
   unfolding allHere
   scan-on {b = b} f l e g h z =
       rw z (from-next (allHere t P M R X) f l (λ ks. rw (← e, ← g, not-false b h)))

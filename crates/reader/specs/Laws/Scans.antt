@@ -16,7 +16,8 @@ pub record From {B : Type 0} (t : List ℕ) (e : ℕ) (value : List Token → B)
   pub back : (r : B) → Scans t e then k r → Scans t e value i r
 
 -- there is a token at i
-next-token : {t : List ℕ} {i e : ℕ} {ks : List Token} → i < e → Row t i ks e → (ls : List Token) × (ks ≡ tokenAt t i ∷ ls) × Row t (i + sizeAt t i) ls e
+next-token : {t : List ℕ} {i e : ℕ} {ks : List Token} → i < e → Row t i ks e
+    → (ls : List Token) × (ks ≡ tokenAt t i ∷ ls) × Row t (i + sizeAt t i) ls e
 next-token l done = absurd (omega arith)
 next-token {t} {e = e} l (more {ks = ks} a k z r) = (ks, ap (_∷ ks) (sym k), subst (λ (n : ℕ). Row t n ks e) (sym z) r)
 
@@ -27,8 +28,8 @@ no-token l (more a k z r) = absurd (omega (arith, row-le r))
 
 module _ {B : Type 0} {t : List ℕ} {e : ℕ} {value : List Token → B} {i : ℕ} where
   -- one token, and then the others
-  pub scan-next : {then : List Token → B} {r : B} → i < e → ((ks : List Token) → value (tokenAt t i ∷ ks) ≡ then ks) → Scans t e then (i + sizeAt t i) r
-      → Scans t e value i r
+  pub scan-next : {then : List Token → B} {r : B} → i < e → ((ks : List Token) → value (tokenAt t i ∷ ks) ≡ then ks)
+      → Scans t e then (i + sizeAt t i) r → Scans t e value i r
   scan-next l same s = record {
     gives = λ ks row.
         let n : (ls : List Token) × (ks ≡ tokenAt t i ∷ ls) × Row t (i + sizeAt t i) ls e = next-token l row in

@@ -179,8 +179,8 @@ module _ (t : List ℕ) (i s : ℕ) where
   target ex ev l few = rw (ev, ex) (bits-insert s (getD t (i + 1) 0) (omega arith))
 
   -- "20 x e"
-  pub sets-assign : {f : Ends} {r : After} {x v : ℕ} → getD t i 0 ≡ 0x20 → Knows t (i + 2) 1 s f → x ≡ getD t (i + 1) 0 → v ≡ insert s x → r ≡ settled f v
-      → SetsPlain t i s r
+  pub sets-assign : {f : Ends} {r : After} {x v : ℕ} → getD t i 0 ≡ 0x20 → Knows t (i + 2) 1 s f → x ≡ getD t (i + 1) 0 → v ≡ insert s x
+      → r ≡ settled f v → SetsPlain t i s r
   sets-assign {v = v} m K ex ev er = mentions (omega arith) K er λ d a j h.
       let here : AssignAt t i d a j = assign-here (h .at) m in
       let set : bits v ≡ with (bits s) (getD t (i + 1) 0) = target ex ev ((rw (here .is) at (h .names)) .0) (h .few) in
@@ -221,7 +221,8 @@ module _ (t : List ℕ) (i s : ℕ) where
       ap (afterI (bits s)) (here .is) ∙ rw off
 
   -- "25 m n", n expressions
-  pub sets-call : {f : Ends} {r : After} {n : ℕ} → getD t i 0 ≡ 0x25 → n ≡ getD t (i + 3) 0 → Knows t (i + 4) n s f → r ≡ settled f s → SetsPlain t i s r
+  pub sets-call : {f : Ends} {r : After} {n : ℕ} → getD t i 0 ≡ 0x25 → n ≡ getD t (i + 3) 0 → Knows t (i + 4) n s f
+      → r ≡ settled f s → SetsPlain t i s r
   sets-call m en K er = mentions (omega arith) K er λ d a j h.
       let here : CallAt t i d a j = call-here (h .at) m in
       record { es = here .es; there = rw en (here .args); same = ap (afterI (bits s)) (here .is) }

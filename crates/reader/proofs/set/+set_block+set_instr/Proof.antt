@@ -1,3 +1,4 @@
+-- `reader::set::set_block` and `set_instr`, which call each other, meet their contracts.
 use borrow.Author.Needs.{needs}
 use lib.ListN.{length}
 use Rattle.reader.specs.Laws.SetScans.{ways, SetsFrom}
@@ -45,10 +46,12 @@ abbrev set-block-calls : ℕ → set-block-lts.Claims
 set-block-calls t = (set-instr-below t, set-instr.Post)
 
 abbrev set-instr-calls : ℕ → set-instr-lts.Claims
-set-instr-calls t = (known-exprs-reads.Asked, known-exprs-reads.Learnt, set-block-below t, set-block.Post, set-plain-reads.Asked, set-plain-reads.Learnt)
+set-instr-calls t =
+    (known-exprs-reads.Asked, known-exprs-reads.Learnt, set-block-below t, set-block.Post, set-plain-reads.Asked, set-plain-reads.Learnt)
 
 pub +set-block+set-instr-spec : {M : Type 1} → statement M
-+set-block+set-instr-spec = close μ-set-block μ-set-instr (λ t. set-block-lts.spec (set-block-calls t) (set-block-at t) set-block.Post set-block-Inv-loop set-block-μ-loop
++set-block+set-instr-spec = close μ-set-block μ-set-instr
+    (λ t. set-block-lts.spec (set-block-calls t) (set-block-at t) set-block.Post set-block-Inv-loop set-block-μ-loop
     (λ c. search ways)
     (λ c. search ways)
     (λ c. search needs)
@@ -61,7 +64,8 @@ pub +set-block+set-instr-spec : {M : Type 1} → statement M
     (λ c. search ways)
     (λ c. search ways)
     (λ c. search ways)
-    (λ c. search ways)) λ t. set-instr-lts.spec (set-instr-calls t) (set-instr-at t) set-instr.Post
+    (λ c. search ways))
+    λ t. set-instr-lts.spec (set-instr-calls t) (set-instr-at t) set-instr.Post
     (λ c. search needs)
     (λ c. search needs)
     (λ c κs. search needs)
