@@ -20,10 +20,11 @@ half n f g =
     let other : n % 2 ≡ 0 → ⊥ = eqb-false (n % 2) 0 e in
     g (omega (arith, other))
 
--- the lowest bits of two numbers
+-- the lowest bit of an intersection, and the others
 low-and : (a b : ℕ) → (bitAnd a b % 2 ≡ min (a % 2) (b % 2)) × (bitAnd a b / 2 ≡ bitAnd (a / 2) (b / 2))
 low-and a b = (omega (arith, and-step a b), omega (arith, and-step a b))
 
+-- of the union
 low-or : (a b : ℕ) → (bitOr a b % 2 ≡ max (a % 2) (b % 2)) × (bitOr a b / 2 ≡ bitOr (a / 2) (b / 2))
 low-or a b = (omega (arith, or-step a b), omega (arith, or-step a b))
 

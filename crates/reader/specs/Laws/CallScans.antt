@@ -120,6 +120,7 @@ module _ (row : List Bool) where
   any-append f [] ys = refl
   any-append f (x ∷ xs) ys = by-test (f x) (λ e. rw e) (λ e. rw e (any-append f xs ys))
 
+  -- tokens, as the code looks at them
   abbrev into : List Token → Bool
   into ks = any (callsInto row) ks
 
@@ -137,6 +138,7 @@ module _ (row : List Bool) where
   exprNone (one o a) = exprNone a
   exprNone (two o a b) = into-append (tokensE a) (tokensE b) (exprNone a) (exprNone b)
 
+  -- several neither
   exprsNone : (es : List Expr) → into (tokensEs es) ≡ false
   exprsNone [] = refl
   exprsNone (e ∷ es) = into-append (tokensE e) (tokensEs es) (exprNone e) (exprsNone es)
@@ -216,15 +218,19 @@ pub record NoneYet (row : List Bool) (m : ℕ) : Type 0 where
   pub none : (i : ℕ) → i < m → getD row i false ≡ false
 
 module _ (row : List Bool) where
+  -- no procedure yet
   pub none-yet : NoneYet row 0
   none-yet = record { none = λ i l. absurd (omega arith) }
 
+  -- one more
   pub none-more : {m : ℕ} → NoneYet row m → getD row m false ≡ false → NoneYet row (m + 1)
   none-more {m} N e = record { none = below-more (λ i. getD row i false ≡ false) m (N .none) e }
 
+  -- one is
   pub some-here : {m P : ℕ} → m < P → getD row m false ≡ true → Some row P true
   some-here {m} l e = record { none = λ q. absurd (never (sym q)); found = λ q. (m, l, e) }
 
+  -- none is
   pub some-none : {m P : ℕ} → NoneYet row m → P ≤ m → Some row P false
   some-none N l = record { none = λ q i b. N .none i (omega arith); found = λ q. absurd (never q) }
 
@@ -232,6 +238,7 @@ module _ (row : List Bool) where
 
 -- each call is of a procedure that is there
 mutual
+  -- of an instruction
   callsThereI : (p : Program Plain) (X : ℕ) (i : Instr Plain) → NamesI p X i → Each (λ c. c < length (p .procs)) (calleesI i)
   callsThereI p X (assign x e) h = tt
   callsThereI p X (write y o e) h = tt
@@ -242,6 +249,7 @@ mutual
   callsThereI p X (atomic b) h = callsThere p X b h
   callsThereI p X (select a b) h = tt
 
+  -- of a block
   callsThere : (p : Program Plain) (X : ℕ) (b : Block Plain) → Names p X b → Each (λ c. c < length (p .procs)) (callees b)
   callsThere p X end h = tt
   callsThere p X (step a i b) h = each-append _ (calleesI i) (callees b) (callsThereI p X i (h .0)) (callsThere p X b (h .1))

@@ -58,6 +58,7 @@ module _ {A : Type 0} (ps : List (Proc A)) where
     apart : {cs : List ℕ} → Distinct cs → Twice cs
     round : {cs : List ℕ} (x : ℕ) → Reaches ps x x → Twice cs
 
+  -- one of the two
   twice : (m : ℕ) (cs : List ℕ) (n : ℕ) → Walk ps m cs n → Twice (m ∷ cs)
   twice m [] n w = apart {cs = m ∷ []} (refl, tt)
   twice m (c ∷ cs) n w =
@@ -71,6 +72,7 @@ module _ {A : Type 0} (ps : List (Proc A)) where
 
   -- each call is of a procedure that is there
   module _ (there : (m c : ℕ) → Calls ps m c → c < length ps) where
+    -- so all on a walk are
     walk-there : (m : ℕ) (cs : List ℕ) (n : ℕ) → Walk ps m cs n → Each (λ x. x < length ps) cs
     walk-there m [] n w = tt
     walk-there m (c ∷ cs) n w = (there m c (w .0), walk-there c cs n (w .1))

@@ -55,10 +55,12 @@ record Operator (m n : ℕ) : Type 0 where
   payload : payloadOf m ≡ 0
   name : eqb m 0x05 ≡ false
 
+-- of one operand
 operator₁ : (o : One) → Operator (mark₁ o) 1
 operator₁ not = record { operands = refl; payload = refl; name = refl }
 operator₁ neg = record { operands = refl; payload = refl; name = refl }
 
+-- of two
 operator₂ : (o : Two) → Operator (mark₂ o) 2
 operator₂ add = record { operands = refl; payload = refl; name = refl }
 operator₂ sub = record { operands = refl; payload = refl; name = refl }

@@ -97,42 +97,33 @@ record Quiet (k : Token) : Type 0 where
   own : (n : ℕ) → ownLabels n k ≡ 0
   same : (n : ℕ) → blocksOpen n k ≡ n
 
--- those of expressions
+-- by the tables
+quiet : (k : Token) → instruction k ≡ 0 → entered k ≡ 0 → ((n : ℕ) → further n k ≡ suc n) → Quiet k
+unfolding ownLabels blocksOpen
+quiet k e f g = record { own = own; same = same }
+  where
+    own : (n : ℕ) → ownLabels n k ≡ 0
+    own zero = e
+    own (suc n) = refl
+
+    same : (n : ℕ) → blocksOpen n k ≡ n
+    same zero = f
+    same (suc n) = g n
+
+-- constants and operators
 quiet-plain : Quiet T.Plain
-unfolding ownLabels blocksOpen instruction entered further
-quiet-plain = record { own = own; same = same }
-  where
-    own : (n : ℕ) → ownLabels n T.Plain ≡ 0
-    own zero = refl
-    own (suc n) = refl
+unfolding instruction entered further
+quiet-plain = quiet T.Plain refl refl (λ n. refl)
 
-    same : (n : ℕ) → blocksOpen n T.Plain ≡ n
-    same zero = refl
-    same (suc n) = refl
-
+-- locations
 quiet-location : (l : ℕ) → Quiet (T.Location l)
-unfolding ownLabels blocksOpen instruction entered further
-quiet-location l = record { own = own; same = same }
-  where
-    own : (n : ℕ) → ownLabels n (T.Location l) ≡ 0
-    own zero = refl
-    own (suc n) = refl
+unfolding instruction entered further
+quiet-location l = quiet (T.Location l) refl refl (λ n. refl)
 
-    same : (n : ℕ) → blocksOpen n (T.Location l) ≡ n
-    same zero = refl
-    same (suc n) = refl
-
+-- locals
 quiet-local : (x : ℕ) → Quiet (T.Local x)
-unfolding ownLabels blocksOpen instruction entered further
-quiet-local x = record { own = own; same = same }
-  where
-    own : (n : ℕ) → ownLabels n (T.Local x) ≡ 0
-    own zero = refl
-    own (suc n) = refl
-
-    same : (n : ℕ) → blocksOpen n (T.Local x) ≡ n
-    same zero = refl
-    same (suc n) = refl
+unfolding instruction entered further
+quiet-local x = quiet (T.Local x) refl refl (λ n. refl)
 
 -- one token after another
 skip : {k : Token} → Quiet k → (n : ℕ) (ls : List Token) → labelsIn n (k ∷ ls) ≡ labelsIn n ls
@@ -238,19 +229,22 @@ all-rows i (p ∷ ps) f s =
 
 -- ---- one token
 
--- an instruction or not
+-- no instruction: 00
 pub begins-stop : {k : Token} → k ≡ T.Stop → 0 ≡ instruction k
 unfolding instruction
 begins-stop e = rw e
 
+-- 03, 04, 01 and operators
 pub begins-plain : {k : Token} → k ≡ T.Plain → 0 ≡ instruction k
 unfolding instruction
 begins-plain e = rw e
 
+-- 02
 pub begins-location : {k : Token} {l : ℕ} → k ≡ T.Location l → 0 ≡ instruction k
 unfolding instruction
 begins-location e = rw e
 
+-- 05
 pub begins-local : {k : Token} {x : ℕ} → k ≡ T.Local x → 0 ≡ instruction k
 unfolding instruction
 begins-local e = rw e
@@ -260,19 +254,22 @@ pub enters-atomic : {k : Token} → k ≡ T.Atomic → 1 ≡ entered k
 unfolding entered
 enters-atomic e = rw e
 
--- blocks inside
+-- blocks inside: 00
 pub inside-stop : (n : ℕ) {k : Token} → k ≡ T.Stop → n - 1 ≡ further (n - 1) k
 unfolding further
 inside-stop n e = rw e
 
+-- 23
 pub inside-while : (n : ℕ) {k : Token} → 0 < n → k ≡ T.While → n + 1 ≡ further (n - 1) k
 unfolding further
 inside-while n l e = rw e (omega arith)
 
+-- 24
 pub inside-if : (n : ℕ) {k : Token} → 0 < n → k ≡ T.If → n + 2 ≡ further (n - 1) k
 unfolding further
 inside-if n l e = rw e (omega arith)
 
+-- 26
 pub inside-atomic : (n : ℕ) {k : Token} → 0 < n → k ≡ T.Atomic → n + 1 ≡ further (n - 1) k
 unfolding further
 inside-atomic n l e = rw e (omega arith)
@@ -325,11 +322,13 @@ few n (T.Call m k) = omega arith
 few n T.Atomic = omega arith
 few n (T.Select a b) = omega arith
 
+-- so its labels are few
 pub own-few : (n : ℕ) (k : Token) → ownLabels n k ≤ 1
 unfolding ownLabels
 own-few zero k = few 0 k .0
 own-few (suc n) k = omega arith
 
+-- and the blocks behind it
 open-few : (n : ℕ) (k : Token) → blocksOpen n k ≤ n + 2
 unfolding blocksOpen
 open-few zero k = omega (arith, few 0 k .1)

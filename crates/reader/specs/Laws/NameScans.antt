@@ -80,51 +80,62 @@ unfolding takesHere
 takes-none t P R m n l = rw (le-ltb m P l)
 
 module _ (t : List ℕ) (P M R X : ℕ) where
-  -- one law for each token
+  -- one law for each token: 02
   pub named-location : {k : Token} {l : ℕ} → k ≡ T.Location l → ltb l M ≡ namedHere t P M R X k
   unfolding namedHere
   named-location e = rw e
 
+  -- 05
   pub named-local : {k : Token} {x : ℕ} → k ≡ T.Local x → ltb x X ≡ namedHere t P M R X k
   unfolding namedHere
   named-local e = rw e
 
+  -- 20
   pub named-assign : {k : Token} {x : ℕ} → k ≡ T.Assign x → ltb x X ≡ namedHere t P M R X k
   unfolding namedHere
   named-assign e = rw e
 
+  -- 21
   pub named-write : {k : Token} {y : ℕ} → k ≡ T.Write y → ltb y X ≡ namedHere t P M R X k
   unfolding namedHere
   named-write e = rw e
 
+  -- 22
   pub named-read : {k : Token} {x y : ℕ} {b : Bool} → k ≡ T.Read x y → b ≡ both (ltb x X) (ltb y X) → b ≡ namedHere t P M R X k
   unfolding namedHere
   named-read e h = rw e h
 
+  -- 25
   pub named-call : {k : Token} {m n : ℕ} {b : Bool} → k ≡ T.Call m n → b ≡ takesHere t P R m n → b ≡ namedHere t P M R X k
   unfolding namedHere
   named-call e h = rw e h
 
+  -- 27
   pub named-select : {k : Token} {x y : ℕ} {b : Bool} → k ≡ T.Select x y → b ≡ both (ltb x M) (ltb y M) → b ≡ namedHere t P M R X k
   unfolding namedHere
   named-select e h = rw e h
 
+  -- the others name nothing: 00
   pub named-stop : {k : Token} → k ≡ T.Stop → true ≡ namedHere t P M R X k
   unfolding namedHere
   named-stop e = rw e
 
+  -- constants and operators
   pub named-plain : {k : Token} → k ≡ T.Plain → true ≡ namedHere t P M R X k
   unfolding namedHere
   named-plain e = rw e
 
+  -- 23
   pub named-while : {k : Token} → k ≡ T.While → true ≡ namedHere t P M R X k
   unfolding namedHere
   named-while e = rw e
 
+  -- 24
   pub named-if : {k : Token} → k ≡ T.If → true ≡ namedHere t P M R X k
   unfolding namedHere
   named-if e = rw e
 
+  -- 26
   pub named-atomic : {k : Token} → k ≡ T.Atomic → true ≡ namedHere t P M R X k
   unfolding namedHere
   named-atomic e = rw e
@@ -188,6 +199,7 @@ takes-past (q ∷ qs) zero n l = absurd (omega arith)
 takes-past (q ∷ qs) (suc m) n l = takes-past qs m n (omega arith)
 
 module _ {t : List ℕ} {P M R : ℕ} {p : Program Plain} (counted : Counted t P M R p) (X : ℕ) where
+  -- the table is laid out
   abbrev laid : Laid t P R p
   laid = counted .laid
 
@@ -199,6 +211,7 @@ module _ {t : List ℕ} {P M R : ℕ} {p : Program Plain} (counted : Counted t P
       (λ e. rw (e, params-at laid (ltb-true m P e)) (sym (takes-below (p .procs) m n _ (omega (arith, ltb-true m P e, laid .procs)))))
       (λ e. rw e (sym (takes-past (p .procs) m n (omega (arith, ltb-false m P e, laid .procs)))))
 
+  -- tokens, as the code judges them
   abbrev here : List Token → Bool
   here ks = all (namedHere t P M R X) ks
 
@@ -270,6 +283,7 @@ module _ (t : List ℕ) (P M R : ℕ) where
   pub procs-next : {m : ℕ} {r : Bool} → Before m → Judges (Counted t P M R) (procNamed m) r → B.not r ≡ false → Before (m + 1)
   procs-next {r = r} s j e = one-passed s j (not-false r e)
 
+  -- rule 5, of a procedure
   abbrev test : Program Plain → Proc Plain → Bool
   test p q = named p (q .locals) (q .body)
 

@@ -147,6 +147,7 @@ pub settled-at : {e : Ends} {j : ℕ} (s : ℕ) → e ≡ At j → Set j s ≡ s
 unfolding settled
 settled-at s q = rw q
 
+-- or a variable is not set
 pub settled-nothing : {e : Ends} (s : ℕ) → e ≡ Nothing → Unset ≡ settled e s
 unfolding settled
 settled-nothing s q = rw q
@@ -266,6 +267,7 @@ module _ (t : List ℕ) (i d s : ℕ) where
       test : known (bits s) (here .e) ≡ true
       body : BlockHere t k d (here .b) j
 
+    -- it is, where a while stands
     tested : (a : Instr Plain) (j : ℕ) → InstrHere t i d a j → Tested a j
     tested a j h =
         let here : WhileAt t i d a j = while-here (h .at) m in
@@ -299,6 +301,7 @@ module _ (t : List ℕ) (i d s : ℕ) where
       yes : BlockHere t k d (here .b) (here .l)
       no : BlockHere t (here .l) d (here .c) j
 
+    -- it is, where an if stands
     chosen : (a : Instr Plain) (j : ℕ) → InstrHere t i d a j → Chosen a j
     chosen a j h =
         let here : IfAt t i d a j = if-here (h .at) m in
@@ -383,6 +386,7 @@ module _ (t : List ℕ) (i d s : ℕ) where
       first : InstrHere t k (d - 1) (here .s) (here .k)
       rest : BlockHere t (here .k) d (here .rest) j
 
+    -- where no byte 00 stands
     stepped : (getD t k 0 ≡ 0x00 → ⊥) → (b : Block Plain) (j : ℕ) → BlockHere t k d b j → Stepped b j
     stepped m b j h =
         let here : StepAt t k d b j = step-here (h .at) m in
@@ -487,6 +491,7 @@ module _ (t : List ℕ) (P R : ℕ) where
   pub procs-next : {m : ℕ} {r : Bool} → Before m → Judges (Named t P R) (procSet m) r → B.not r ≡ false → Before (m + 1)
   procs-next {r = r} s j e = one-passed s j (not-false r e)
 
+  -- rule 8, of a procedure
   abbrev test : Program Plain → Proc Plain → Bool
   test p q = there (after (λ x. ltb x (q .params)) (q .body))
 

@@ -176,11 +176,12 @@ module _ {t : List ℕ} {i j : ℕ} {k : Token} (m : ℕ) (bs : List ℕ) (size 
 pub shift : {t : List ℕ} {i k : ℕ} {bs : List ℕ} {j : ℕ} → Stands t i bs j → i ≡ k → Stands t k bs j
 shift {t} {bs = bs} {j} s e = subst (λ i. Stands t i bs j) e s
 
--- an operator is plain, and one byte
+-- an operator of one operand is plain, and one byte
 plain₁ : (o : One) (t : List ℕ) (i : ℕ) → (sizeOf (mark₁ o) ≡ 1) × (tokenOf (mark₁ o) t i ≡ T.Plain)
 plain₁ not t i = (refl, refl)
 plain₁ neg t i = (refl, refl)
 
+-- of two operands
 plain₂ : (o : Two) (t : List ℕ) (i : ℕ) → (sizeOf (mark₂ o) ≡ 1) × (tokenOf (mark₂ o) t i ≡ T.Plain)
 plain₂ add t i = (refl, refl)
 plain₂ sub t i = (refl, refl)
