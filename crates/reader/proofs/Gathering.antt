@@ -1,17 +1,16 @@
 -- One law for each way through the gatherer of variables.
-use Prim.Native.Nat.{ℕ, zero, suc, _+_, _-_, _≤_, _<_}
+use Prim.Native.Nat.{ℕ, suc, _+_, _-_, _≤_, _<_}
 use native.Mathlib.Omega.{arith}
 use mathlib.Core.Path.{_≡_, refl, sym, ap, ap₂, subst, _∙_}
 use mathlib.Core.Logic.{_≢_}
-use mathlib.Core.List.{List, [], _∷_, _++_, map}
+use mathlib.Core.List.{List}
 use mathlib.Core.Bool.{Bool, true, false, _||_}
-use lib.ListN.{length, getD, set, replicate, length-set, length-replicate, getD-replicate, length-append}
-use lib.Seq.{ext-getD, getD-set-same, getD-set-other}
+use lib.ListN.{length, getD, set, replicate, length-set, getD-replicate}
+use lib.Seq.{getD-set-same, getD-set-other}
 use lib.Dec.{eqb}
 use mir.Val.{boolByte}
 use borrow.Author.Tests.{eqb-true, eqb-false, eq-eqb, ne-eqb}
 use Rattle.value.specs.Maybe.{either}
-use Rattle.value.specs.Lists.{upto}
 use Rattle.value.specs.Values.{One, not, neg, Two, add, sub, mul, less, equal, and}
 use Rattle.value.specs.Marks.{mark₁, mark₂, operandsOf, payloadOf}
 use Rattle.value.specs.declared.Value.the-variants.{Whole, Location, Truth}
@@ -21,7 +20,7 @@ use Rattle.reader.specs.Encode.{expr}
 use Rattle.reader.specs.Variables.{mentioned, mentions, keep, variables, flags, joined}
 use Rattle.reader.specs.Walks.{arity, Gathers, GathersLeaf, CountsFlags}
 use Rattle.reader.specs.Laws.Variables.{flag-at, row-is, joined-flags}
-use Rattle.reader.specs.Laws.Stands.{Stands, first, others, front, back}
+use Rattle.reader.specs.Laws.Stands.{first, others, front, back}
 use Rattle.reader.specs.Laws.Grammar.{ExprAt, expr-inside, expr-deep}
 use Rattle.reader.specs.declared.variables.Gathered.{Gathered}
 
@@ -39,7 +38,7 @@ only-low {x} h = row-is (λ y. eqb y x) (set (replicate 16 false) x true) refl? 
         by-test (eqb y x)
         (λ e. let same : y ≡ x = eqb-true y x e in rw same (getD-set-same (replicate 16 false) x true false h ∙ sym (eq-eqb x x refl)))
         (λ e. let apart : y ≢ x = eqb-false y x e in
-          getD-set-other (replicate 16 false) x y true false apart ∙ getD-replicate 16 y false false k ∙ sym e)
+        getD-set-other (replicate 16 false) x y true false apart ∙ getD-replicate 16 y false false k ∙ sym e)
 
 -- no other has a flag
 pub only-high : {x : ℕ} → 16 ≤ x → replicate 16 false ≡ flags (λ y. eqb y x)
@@ -112,7 +111,7 @@ module _ {row : List Bool} where
         let left : 16 - i ≡ suc (16 - (i + 1)) = omega arith in
         let next : i + 1 ≡ suc i = omega arith in
         let more : length (variables i (16 - i) es) ≡ boolByte (getD row i false) + length (variables (i + 1) (16 - (i + 1)) es) =
-            rw (left, here, next) (kept (mentions i es) (variables (suc i) (16 - suc i) es))
+        rw (left, here, next) (kept (mentions i es) (variables (suc i) (16 - suc i) es))
         in
         omega (arith, T .counts es e);
   }
@@ -123,10 +122,12 @@ module _ {row : List Bool} where
 
   -- all
   pub tally-end : {i n : ℕ} → Tally row i n → 16 ≤ i → CountsFlags row n
-  tally-end {i} {n} T h = record { counts = λ es e.
-      let all : 16 - i ≡ 0 = omega arith in
-      let none : length (variables i (16 - i) es) ≡ 0 = rw all in
-      omega (arith, T .counts es e) }
+  tally-end {i} {n} T h = record {
+    counts = λ es e.
+        let all : 16 - i ≡ 0 = omega arith in
+        let none : length (variables i (16 - i) es) ≡ 0 = rw all in
+        omega (arith, T .counts es e);
+  }
 
 pub ruleset tally-ways = (tally-start, tally-next, tally-end)
 
