@@ -1,21 +1,19 @@
 -- One law for each way through the walks that skip code and count its labels.
-use Prim.Native.Nat.{ℕ, zero, suc, _+_, _-_, _≤_, _<_}
-use native.Mathlib.Nat.{pos-of-ne-zero}
+use Prim.Native.Nat.{ℕ, suc, _+_, _-_, _≤_, _<_}
 use native.Mathlib.Omega.{arith}
 use mathlib.Core.Path.{_≡_, refl, sym, ap, ap₂, subst, _∙_}
-use mathlib.Core.List.{List, [], _∷_}
+use mathlib.Core.List.{List, []}
 use lib.ListN.{length, getD, drop, length-drop, drop-of-length-le}
 use lib.Dec.{leb}
 use borrow.Author.Tests.{leb-true, leb-false}
 use Rattle.value.specs.Maybe.{is, nothing}
 use Rattle.value.specs.Laws.Tests.{by-test}
-use Rattle.reader.specs.Syntax.{Expr, Instr, assign, write, read, while, if, call, atomic, select, Block, end, step, Plain}
-use Rattle.reader.specs.Encode as E
+use Rattle.reader.specs.Syntax.{Expr, Instr, assign, write, read, while, if, call, atomic, select, Block, Plain}
 use Rattle.reader.specs.Decode as D
 use Rattle.reader.specs.Labels.{count, countI}
 use Rattle.reader.specs.Ends.{endOf, ReadsExpr}
 use Rattle.reader.specs.Walks.{InstrIn, BlockIn, ExprEnds, ExprsEnd, PlainEnds, counted, CountsInstr, CountsBlock}
-use Rattle.reader.specs.Laws.Stands.{Stands, first}
+use Rattle.reader.specs.Laws.Stands.{first}
 use Rattle.reader.specs.Laws.Blocks.{nesting-pos}
 use Rattle.reader.specs.Laws.Grammar
 use Rattle.reader.specs.Laws.Positions.{expr-read}

@@ -1,11 +1,11 @@
 -- One law for each way through the walks that fill the label map.
-use Prim.Native.Nat.{ℕ, zero, suc, _+_, _*_, _-_, _≤_, _<_}
+use Prim.Native.Nat.{ℕ, suc, _+_, _*_, _-_, _≤_, _<_}
 use native.Mathlib.Omega.{arith}
 use mathlib.Core.Path.{_≡_, refl, sym, ap, ap₂, subst, _∙_}
 use mathlib.Core.List.{List, [], _∷_, _++_}
 use lib.ListN.{length, getD, set, length-append}
 use lib.Seq.{sets}
-use Rattle.reader.specs.Syntax.{Expr, Instr, assign, write, read, while, if, call, atomic, select, Block, end, step, Plain, concurrent}
+use Rattle.reader.specs.Syntax.{Instr, assign, write, read, while, if, call, atomic, select, Block, end, step, Plain, concurrent}
 use Rattle.reader.specs.Encode.{expr, instr, block}
 use Rattle.reader.specs.Labels.{count, countI, label, first}
 use Rattle.reader.specs.Walks.{InstrIn, BlockIn, ExprEnds, counted, CountsInstr, CountsBlock, BeginsAt, nextOf, otherOf, numbersI, numbers}
@@ -15,7 +15,7 @@ use Rattle.reader.specs.Laws.Stands.{Stands}
 use Rattle.reader.specs.Laws.Stands as Stands
 use Rattle.reader.specs.Laws.Grammar
 use Rattle.reader.specs.declared.labels.Counted.{Counted}
-use Rattle.reader.proofs.Counting.{instr-in, block-in, body-in, then-in, else-in, then-counts, else-counts, expr-after}
+use Rattle.reader.proofs.Counting.{instr-in, block-in, body-in, then-in, else-in, then-counts}
 
 -- ---- numbers put one after the other
 

@@ -1,17 +1,16 @@
 -- One law for each way through the gatherer of variables.
-use Prim.Native.Nat.{ℕ, zero, suc, _+_, _-_, _≤_, _<_}
+use Prim.Native.Nat.{ℕ, suc, _+_, _-_, _≤_, _<_}
 use native.Mathlib.Omega.{arith}
 use mathlib.Core.Path.{_≡_, refl, sym, ap, ap₂, subst, _∙_}
 use mathlib.Core.Logic.{_≢_}
-use mathlib.Core.List.{List, [], _∷_, _++_, map}
+use mathlib.Core.List.{List}
 use mathlib.Core.Bool.{Bool, true, false, _||_}
-use lib.ListN.{length, getD, set, replicate, length-set, length-replicate, getD-replicate, length-append}
-use lib.Seq.{ext-getD, getD-set-same, getD-set-other}
+use lib.ListN.{length, getD, set, replicate, length-set, getD-replicate}
+use lib.Seq.{getD-set-same, getD-set-other}
 use lib.Dec.{eqb}
 use mir.Val.{boolByte}
 use borrow.Author.Tests.{eqb-true, eqb-false, eq-eqb, ne-eqb}
 use Rattle.value.specs.Maybe.{either}
-use Rattle.value.specs.Lists.{upto}
 use Rattle.value.specs.Values.{One, not, neg, Two, add, sub, mul, less, equal, and}
 use Rattle.value.specs.Marks.{mark₁, mark₂, operandsOf, payloadOf}
 use Rattle.value.specs.declared.Value.the-variants.{Whole, Location, Truth}
@@ -21,7 +20,7 @@ use Rattle.reader.specs.Encode.{expr}
 use Rattle.reader.specs.Variables.{mentioned, mentions, keep, variables, flags, joined}
 use Rattle.reader.specs.Walks.{arity, Gathers, GathersLeaf, CountsFlags}
 use Rattle.reader.specs.Laws.Variables.{flag-at, row-is, joined-flags}
-use Rattle.reader.specs.Laws.Stands.{Stands, first, others, front, back}
+use Rattle.reader.specs.Laws.Stands.{first, others, front, back}
 use Rattle.reader.specs.Laws.Grammar.{ExprAt, expr-inside, expr-deep}
 use Rattle.reader.specs.declared.variables.Gathered.{Gathered}
 

@@ -9,19 +9,19 @@ use Rattle.value.specs.Maybe.{is}
 use Rattle.value.specs.Lists.{at}
 use Rattle.value.specs.Laws.Maybes.{is-inj, missing}
 use Rattle.value.specs.Laws.Lists.{at-below}
-use Rattle.reader.specs.Syntax.{Expr, Instr, assign, write, read, while, if, call, atomic, select, Block, end, step, _⊕_, Proc, Program, Plain, concurrent}
+use Rattle.reader.specs.Syntax.{Instr, assign, write, read, while, if, call, atomic, select, Block, end, step, _⊕_, Proc, Program, Plain, concurrent}
 use Rattle.reader.specs.Encode.{expr, instr, block, each, bodiesOf}
-use Rattle.reader.specs.Labels.{count, countI, counts, label, labelI, labels, labelled, first, endOf, endsOf, bodyOf, beginOf, begins}
+use Rattle.reader.specs.Labels.{count, countI, counts, label, labelI, labels, labelled, first, endOf, endsOf, bodyOf, begins}
 use Rattle.reader.specs.LabelMap.{Node, held, nodes, allNodes, nodeOf, next, other, words, Mapped}
 use Rattle.reader.specs.Rules.{limits, maxLabels}
 use Rattle.reader.specs.Walks.{BlockIn, counted, CountsBlock, BeginsAt, nextOf, otherOf, numbersI, numbers, allNumbers, allBounds}
 use Rattle.reader.specs.Walks.{Put, PutsNode, PutsBounds, FillsBlock, BodiesAt, BodiesIn, MapsLabels}
-use Rattle.reader.specs.Laws.Stands.{Stands, front, back}
+use Rattle.reader.specs.Laws.Stands.{front, back}
 use Rattle.reader.specs.Laws.Grammar.{BlockAt}
-use Rattle.reader.specs.Laws.Formed.{Formed}
 use Rattle.reader.specs.Laws.Joined.{first-append}
 use Rattle.reader.specs.Laws.Labelled.{block-label, instr-label}
-use Rattle.reader.specs.Laws.Spots.{bodies-stand}
+use Rattle.reader.specs.Laws.TablePlaces.{recordsAt}
+use Rattle.reader.specs.Laws.Walked.{bodies-at}
 use Rattle.reader.specs.Laws.LabelMap.{length-nodes}
 use Rattle.reader.specs.declared.labels.Counted.{Counted}
 use Rattle.reader.proofs.Counting.{block-in}
@@ -300,9 +300,7 @@ pub map-end : {t : List ℕ} {c m i l : ℕ} {n b n′ b′ : List ℕ} → Mapp
     → MapsLabels t c n′ b′ (l - 1)
 map-end {t} {c} {m} {i} {l} {n} {b} {n′} {b′} M h ln lb = record {
   gives = λ p f e few.
-      let bodies : BodiesAt t 0 c (p .procs) (0 + length (each block (bodiesOf (p .procs)))) =
-      record { stands = bodies-stand concurrent p (f .same); count = e; fits = f .fits }
-      in (
+      let bodies : BodiesAt t 0 c (p .procs) (recordsAt p) = subst (λ (z : ℕ). BodiesAt t 0 z (p .procs) (recordsAt p)) e (bodies-at f) in (
         mapped p ln lb (f .procs .high) few (F .map (p .procs) _ bodies (omega arith)) (F .bounds (p .procs) _ bodies (omega (arith, f .procs .high))),
         omega (arith, F .last (p .procs) _ bodies),
       );

@@ -7,7 +7,7 @@ use lib.ListN.{length}
 use lib.Seq.{sets}
 use Rattle.value.specs.Laws.Lists.{Each}
 use Rattle.reader.specs.Syntax.{Expr, constant, local, one, two, Instr, assign, write, read, while, if, call, atomic, select, Block, end, step, Proc, Program, Plain}
-use Rattle.reader.specs.Syntax.{Kind, concurrent}
+use Rattle.reader.specs.Syntax.{concurrent}
 use Rattle.reader.specs.Encode.{expr, instr, block, each, bodiesOf}
 use Rattle.reader.specs.Labels.{count, countI, counts, label, first}
 use Rattle.reader.specs.LabelMap.{Mapped}

@@ -3,19 +3,18 @@ use Prim.Native.Nat.{ℕ, zero, suc, _+_, _-_, _≤_, _<_}
 use native.Mathlib.Nat.{zero-add}
 use native.Mathlib.Omega.{arith}
 use mathlib.Core.Path.{_≡_, refl, sym, ap, subst, _∙_}
-use mathlib.Core.List.{List, [], _∷_, _++_, map, append-assoc}
+use mathlib.Core.List.{List, [], _∷_, _++_, map}
 use lib.ListN.{length, length-append, length-map}
 use Rattle.value.specs.Maybe.{is}
 use Rattle.value.specs.Lists.{at, upto}
 use Rattle.value.specs.Laws.Maybes.{is-inj, missing}
 use Rattle.value.specs.Laws.Lists.{at-below, at-getD, In, in-front, in-back, in-either}
 use Rattle.value.specs.Laws.Lists as Lists
-use Rattle.reader.specs.Syntax.{Expr, Instr, assign, write, read, while, if, call, atomic, select, Block, end, step, _⊕_, Proc, Program, Plain}
+use Rattle.reader.specs.Syntax.{Expr, Instr, assign, write, read, while, if, call, atomic, select, Block, end, step, _⊕_, Proc, Program}
 use Rattle.reader.specs.Encode.{expr, instr, block}
 use Rattle.reader.specs.Labels.{count, countI, counts, label, labelI, labels, labelled, first, endOf, endsOf, bodyOf, begins}
 use Rattle.reader.specs.Spots.{Spot, here, later, inner, Inner, body, thens, elses, bodyAt, CodeAt}
 use Rattle.reader.specs.LabelMap.{Node, held, nodes, allNodes, nodeOf, next, other}
-use Rattle.reader.specs.Laws.Labelled.{block-label, instr-label, endOf-labels}
 use Rattle.reader.specs.Laws.Joined.{first-append}
 use Rattle.reader.specs.Laws.Spots.{itself, Remains, none, some, remains-body}
 

@@ -11,15 +11,14 @@ use Rattle.value.specs.Maybe.{is}
 use Rattle.value.specs.Lists.{at}
 use Rattle.value.specs.Laws.Maybes.{is-inj, missing}
 use Rattle.value.specs.Laws.Tests.{both-passed, by-test}
-use Rattle.reader.specs.Syntax.{Expr, Instr, assign, write, read, while, if, call, atomic, select, Block, end, step, _⊕_, Proc, Program, Plain, Kind}
-use Rattle.reader.specs.Encode.{expr, instr, block, each, bodiesOf, middle, middleOf, trailer, trailerOf, table}
-use Rattle.reader.specs.Encode as E
+use Rattle.reader.specs.Syntax.{Expr, Instr, assign, write, read, while, if, call, atomic, select, Block, end, step, _⊕_, Proc, Program, Plain}
+use Rattle.reader.specs.Encode.{expr, instr, block, each, bodiesOf}
 use Rattle.reader.specs.Labels.{count, label, labels}
 use Rattle.reader.specs.Rules.{Here, plainly, allowed, allowedI}
 use Rattle.reader.specs.Spots.{Spot, here, later, inner, Inner, body, thens, elses, bodyAt, CodeAt}
 use Rattle.reader.specs.Laws.Names.{Names, NamesI}
 use Rattle.reader.specs.Laws.Depths.{nesting, nestingI, ExprsRight, ExprsRightI}
-use Rattle.reader.specs.Laws.Stands.{Stands, first, others, front, back, whole}
+use Rattle.reader.specs.Laws.Stands.{Stands, first, others, front, back}
 use Rattle.reader.specs.Laws.Labelled.{block-label}
 
 -- ---- from one spot to the next
@@ -266,12 +265,6 @@ allowed-inherited w = record {
 }
 
 -- ---- in a program
-
--- the bodies of a program stand first in its table
-pub bodies-stand : {A : Type 0} (κ : Kind) (p : Program A) {t : List ℕ} → t ≡ table κ p
-    → Stands t 0 (each block (bodiesOf (p .procs))) (0 + length (each block (bodiesOf (p .procs))))
-bodies-stand κ p e =
-    front (each block (bodiesOf (p .procs))) (middle (middleOf p)) (front (E.front p) (trailer (trailerOf κ p)) (whole e))
 
 module _ {A : Type 0} {t : List ℕ} where
   -- body m stands where it begins

@@ -1,5 +1,4 @@
 -- `labels::after_exprs` meets its contract.
-use Prim.Native.Nat.{_≤_}
 use borrow.Author.Needs.{needs}
 use Rattle.reader.proofs.Counting.{Skipping, skip-ways}
 use Rattle.reader.proofs.labels.after_exprs.Statement.{statement}
