@@ -4,3 +4,5 @@
 pub mod Values
 -- one law for each way through an operator of the evaluator
 pub mod Operands
+-- the evaluator, way by way
+pub mod Evaluating
