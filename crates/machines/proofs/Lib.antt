@@ -6,3 +6,5 @@ pub mod Values
 pub mod Operands
 -- the evaluator, way by way
 pub mod Evaluating
+-- finding a cell, way by way
+pub mod Placing
