@@ -1,0 +1,150 @@
+// The pieces of generated code that do not read the source: loads, stores and labels.
+use crate::exprs::LOCAL;
+use crate::exprs::moved;
+use crate::writer::put;
+use crate::writer::put_four;
+use crate::writer::put_three;
+use crate::writer::put_two;
+ghost use mathlib.Core.Path.{_≡_};
+ghost use mathlib.Core.List.{[], _∷_};
+ghost use Prim.Native.Nat.{_+_};
+ghost use Rattle.reader.specs.Syntax.{local, assign, write, read};
+ghost use Rattle.translator.specs.Code.{tid, tmp, num, loc};
+ghost use Rattle.translator.specs.Laws.Put.{Put, PutExpr, PutInstr};
+ghost use Rattle.translator.specs.Laws.Sources.{Takes, Loads, LoadsIf, LoadsAll, Goes, Returns};
+
+// The bytes of instructions and constants.
+pub const END: u8 = 0x00;
+
+pub const WHOLE: u8 = 0x01;
+
+pub const LOCATION: u8 = 0x02;
+
+pub const ASSIGN: u8 = 0x20;
+
+pub const WRITE: u8 = 0x21;
+
+pub const READ: u8 = 0x22;
+
+// "it has parameter tid = 0, then tmp = 1, aux = 2"
+pub const TID: u8 = 0;
+
+pub const TMP: u8 = 1;
+
+pub const AUX: u8 = 2;
+
+// What the code of a procedure's labels must know: how many locals the procedure has, and where the copy keeps the program counters,
+// the procedure's "from" and its first local.
+pub struct Site {
+    pub locals: u8,
+    pub pct: u16,
+    pub from: u16,
+    pub home: u16,
+}
+
+// tmp := location l
+pub fn put_locate(out: &mut [u8], at: usize, l: usize) -> usize
+    ensures { λ r. ⌜ PutInstr (now (out .entry)) at (assign tmp (loc l)) (now (out .exit)) r ⌝ }
+{
+    let p = put_three(out, at, ASSIGN, TMP, LOCATION);
+    put_two(out, p, l)
+}
+
+// x := tmp[tid]
+pub fn put_fetch(out: &mut [u8], at: usize, x: u8) -> usize
+    ensures { λ r. ⌜ PutInstr (now (out .entry)) at (read x tmp (local tid)) (now (out .exit)) r ⌝ }
+{
+    let p = put_three(out, at, READ, x, TMP);
+    let q = put(out, p, LOCAL);
+    put(out, q, TID)
+}
+
+// tmp[tid] := .., up to the expression
+pub fn put_keep(out: &mut [u8], at: usize) -> usize
+    ensures { λ r. ⌜ Put (now (out .entry)) at (0x21 ∷ tmp ∷ 0x05 ∷ tid ∷ []) (now (out .exit)) r ⌝ }
+{
+    let p = put_three(out, at, WRITE, TMP, LOCAL);
+    put(out, p, TID)
+}
+
+// A whole number.
+pub fn put_number(out: &mut [u8], at: usize, n: usize) -> usize
+    ensures { λ r. ⌜ PutExpr (now (out .entry)) at (num n) (now (out .exit)) r ⌝ }
+{
+    let p = put(out, at, WHOLE);
+    put_four(out, p, n)
+}
+
+// "one tmp[tid] := label"
+pub fn put_goto(out: &mut [u8], at: usize, label: usize) -> usize
+    ensures { λ r. ⌜ PutInstr (now (out .entry)) at (write tmp (local tid) (num label)) (now (out .exit)) r ⌝ }
+{
+    let p = put_keep(out, at);
+    put_number(out, p, label)
+}
+
+// The location of local x.
+pub fn home(s: Site, x: u8) -> usize
+    ensures { λ r. ⌜ r ≡ s .home + x ⌝ }
+{
+    s.home as usize + x as usize
+}
+
+// tmp := location l; x := tmp[tid]
+pub fn put_take(out: &mut [u8], at: usize, l: usize, x: u8) -> usize
+    ensures { λ r. ⌜ Takes l x (now (out .entry)) at (now (out .exit)) r ⌝ }
+{
+    let p = put_locate(out, at, l);
+    put_fetch(out, p, x)
+}
+
+// "To load x: tmp := location of x; x := tmp[tid]"
+pub fn put_load(s: Site, x: u8, out: &mut [u8], at: usize) -> usize
+    ensures { λ r. ⌜ Loads s x (now (out .entry)) at (now (out .exit)) r ⌝ }
+{
+    put_take(out, at, home(s, x), moved(x))
+}
+
+// Load x if its flag is set and the procedure has it.
+pub fn put_flagged(s: Site, flag: bool, x: u8, out: &mut [u8], at: usize) -> usize
+    ensures { λ r. ⌜ LoadsIf s flag x (now (out .entry)) at (now (out .exit)) r ⌝ }
+{
+    if flag {
+        if x < s.locals {
+            return put_load(s, x, out, at);
+        }
+    }
+    at
+}
+
+// "Loads go over distinct variables, rising": those whose flag is set.
+pub fn put_loads(s: Site, flags: [bool; 16], out: &mut [u8], at: usize) -> usize
+    ensures { λ r. ⌜ LoadsAll s flags (now (out .entry)) at (now (out .exit)) r ⌝ }
+{
+    let mut x: u8 = 0;
+    let mut p = at;
+    while x < 16 {
+        p = put_flagged(s, flags[x as usize], x, out, p);
+        x += 1;
+    }
+    p
+}
+
+// "pc" is tmp := pct; tmp[tid] := label. A block ends with it.
+pub fn put_pc(s: Site, label: usize, out: &mut [u8], at: usize) -> usize
+    ensures { λ r. ⌜ Goes s label (now (out .entry)) at (now (out .exit)) r ⌝ }
+{
+    let p = put_locate(out, at, s.pct as usize);
+    let q = put_goto(out, p, label);
+    put(out, q, END)
+}
+
+// The end label: figure 9.
+pub fn put_return(s: Site, out: &mut [u8], at: usize) -> usize
+    ensures { λ r. ⌜ Returns s (now (out .entry)) at (now (out .exit)) r ⌝ }
+{
+    let p = put_take(out, at, s.from as usize, AUX);
+    let q = put_locate(out, p, s.pct as usize);
+    let u = put_keep(out, q);
+    put_three(out, u, LOCAL, AUX, END)
+}
