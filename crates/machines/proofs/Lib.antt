@@ -8,3 +8,5 @@ pub mod Operands
 pub mod Evaluating
 -- finding a cell, way by way
 pub mod Placing
+-- deciding a step, way by way
+pub mod Deciding
