@@ -10,3 +10,5 @@ pub mod Evaluating
 pub mod Placing
 -- deciding a step, way by way
 pub mod Deciding
+-- passing the arguments of a call
+pub mod Passing
