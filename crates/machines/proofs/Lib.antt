@@ -12,3 +12,5 @@ pub mod Placing
 pub mod Deciding
 -- passing the arguments of a call
 pub mod Passing
+-- deciding a select
+pub mod Selecting

@@ -1,4 +1,5 @@
 use borrow.Author.Needs.{needs}
+use Rattle.machines.proofs.Selecting.{select-ways}
 use Rattle.machines.proofs.decide.decide_select.Statement.{statement}
 use Rattle.machines.proofs.decide.decide_select.Tie as tie
 use Rattle.machines.proofs.decide.decide_select.Reads as reads
@@ -34,11 +35,11 @@ enum-told c = search needs
 
 -- src/decide.rt:226:9
 returns : tie.Need-returns
-returns c = ?
+returns c = search (select-ways, needs)
 
 -- src/decide.rt:228:29
 get-requires : tie.Need-get-requires
-get-requires c κs = ?
+get-requires c κs = search (select-ways, needs)
 
 -- src/decide.rt:228:20
 enum-known-value : tie.Need-enum-known-value
@@ -50,7 +51,7 @@ enum-told-2 c = search needs
 
 -- src/decide.rt:229:9
 returns-2 : tie.Need-returns-2
-returns-2 c = ?
+returns-2 c = search (select-ways, needs)
 
 -- src/decide.rt:231:22
 enum-known-value-2 : tie.Need-enum-known-value-2
@@ -58,11 +59,11 @@ enum-known-value-2 c = search needs
 
 -- src/decide.rt:232:9
 returns-3 : tie.Need-returns-3
-returns-3 c = ?
+returns-3 c = search (select-ways, needs)
 
 -- src/decide.rt:235:9
 returns-4 : tie.Need-returns-4
-returns-4 c = ?
+returns-4 c = search (select-ways, needs)
 
 -- src/decide.rt:237:32
 add-two-2 : tie.Need-add-two-2
@@ -78,7 +79,7 @@ cast-target c = search needs
 
 -- src/decide.rt:239:15
 start-requires : tie.Need-start-requires
-start-requires c κs = ?
+start-requires c κs = search (select-ways, needs)
 
 -- src/decide.rt:241:15
 add-t17 : tie.Need-add-t17
@@ -86,7 +87,7 @@ add-t17 c = search needs
 
 -- src/decide.rt:220:1
 returns-5 : tie.Need-returns-5
-returns-5 c = ?
+returns-5 c = search (select-ways, needs)
 
 pub decide-select-spec : {M : Type 1} → statement M
 decide-select-spec =
