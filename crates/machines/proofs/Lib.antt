@@ -2,3 +2,15 @@
 
 -- the range of a value that the code holds
 pub mod Values
+-- one law for each way through an operator of the evaluator
+pub mod Operands
+-- the evaluator, way by way
+pub mod Evaluating
+-- finding a cell, way by way
+pub mod Placing
+-- deciding a step, way by way
+pub mod Deciding
+-- passing the arguments of a call
+pub mod Passing
+-- deciding a select
+pub mod Selecting

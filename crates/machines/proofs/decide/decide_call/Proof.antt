@@ -1,0 +1,21 @@
+-- `machines::decide::decide_call` meets its contract.
+use borrow.Author.Needs.{needs}
+use Rattle.machines.proofs.Deciding.{call-ways}
+use Rattle.machines.proofs.decide.decide_call.Statement.{statement}
+use Rattle.machines.proofs.decide.decide_call.Tie as tie
+
+pub decide-call-spec : {M : Type 1} → statement M
+decide-call-spec =
+    tie.close
+    (tie.spec
+    (λ c. search needs)
+    (λ c κs. search needs)
+    (λ c. search needs)
+    (λ c κs. search (call-ways, needs))
+    (λ c. search needs)
+    (λ c. search needs)
+    (λ c. search (call-ways, needs))
+    (λ c. search needs)
+    (λ c κs. search needs)
+    (λ c. search needs)
+    (λ c. search (call-ways, needs)))

@@ -1,0 +1,24 @@
+-- `machines::decide::decide_write` meets its contract.
+use borrow.Author.Needs.{needs}
+use Rattle.machines.proofs.Deciding.{write-ways}
+use Rattle.machines.proofs.decide.decide_write.Statement.{statement}
+use Rattle.machines.proofs.decide.decide_write.Tie as tie
+
+pub decide-write-spec : {M : Type 1} → statement M
+decide-write-spec =
+    tie.close
+    (tie.spec
+    (λ c. search needs)
+    (λ c κs. search (write-ways, needs))
+    (λ c κs. search (write-ways, needs))
+    (λ c. search needs)
+    (λ c. search needs)
+    (λ c. search (write-ways, needs))
+    (λ c. search needs)
+    (λ c κs. search needs)
+    (λ c κs. search (write-ways, needs))
+    (λ c κs. search needs)
+    (λ c. search needs)
+    (λ c. search needs)
+    (λ c. search (write-ways, needs))
+    (λ c. search (write-ways, needs)))
