@@ -5,7 +5,7 @@ use native.Mathlib.Nat.{pos-of-ne-zero}
 use mathlib.Core.Path.{_≡_, refl, sym, ap, subst, _∙_}
 use mathlib.Core.List.{List, [], _∷_, _++_, append-nil}
 use mathlib.Core.Bool.{true, false}
-use lib.ListN.{length, getD, take, drop}
+use lib.ListN.{length, getD, take, drop, length-drop}
 use lib.Seq.{slice, slice-empty}
 use borrow.Author.Tests.{eqb-true}
 use Rattle.value.specs.Values.{One, not, neg, Two, add, sub, mul, less, equal, and}
@@ -16,9 +16,13 @@ use Rattle.reader.specs.Syntax.{Expr, constant, local, one, two}
 use Rattle.reader.specs.Encode.{expr}
 use Rattle.reader.specs.Laws.Stands.{Stands, first, in-take}
 use Rattle.reader.specs.Laws.Grammar.{ExprAt, OneAt, TwoAt, one-here, two-here, none-here, local-here, expr-inside, expr-deep}
+use Rattle.reader.specs.Laws.Positions.{expr-read}
+use Rattle.reader.specs.Ends.{endOf, ReadsExpr}
+use Rattle.reader.specs.declared.Ends.{Ends}
+use Rattle.reader.specs.declared.Ends.the-variants.{At, Nothing}
 use Rattle.translator.specs.Code.{shift}
 use Rattle.translator.specs.Laws.Put.{Put}
-use Rattle.translator.specs.Laws.Sources.{Low, Copies}
+use Rattle.translator.specs.Laws.Sources.{Low, Skips, Copies}
 use Rattle.translator.specs.declared.exprs.Copied.{Copied}
 use Rattle.translator.proofs.Puts.{put-then, put-cons}
 
@@ -93,20 +97,20 @@ module _ {t : List ℕ} {i d : ℕ} where
   -- ---- nothing stands there
 
   -- nothing is asked where no expression can stand
-  none : {o : List ℕ} {p : ℕ} {o′ : List ℕ} {r : Copied} → ((e : Expr) (j : ℕ) → ExprAt t i d e j → ⊥) → Copies t i d o p o′ r
-  none f = record { copied = λ e j h l. absurd (f e j h); ends = λ e j h l. absurd (f e j h) }
+  none : {o : List ℕ} {p : ℕ} {o′ : List ℕ} {q : ℕ} → ((e : Expr) (j : ℕ) → ExprAt t i d e j → ⊥) → Copies t i d o p o′ (record { next = i; to = q })
+  none f = record { copied = λ e j h l. absurd (f e j h); ends = λ e j h l. absurd (f e j h); forward = omega arith }
 
   -- no depth is left
-  pub copy-deep : {o : List ℕ} {p : ℕ} {o′ : List ℕ} {r : Copied} → d ≡ 0 → Copies t i d o p o′ r
+  pub copy-deep : {o : List ℕ} {p : ℕ} {o′ : List ℕ} {q : ℕ} → d ≡ 0 → Copies t i d o p o′ (record { next = i; to = q })
   copy-deep z = none (λ e j h. omega (arith, expr-deep h))
 
   -- the table ends
-  pub copy-past : {o : List ℕ} {p : ℕ} {o′ : List ℕ} {r : Copied} → length t ≤ i → Copies t i d o p o′ r
+  pub copy-past : {o : List ℕ} {p : ℕ} {o′ : List ℕ} {q : ℕ} → length t ≤ i → Copies t i d o p o′ (record { next = i; to = q })
   copy-past z = none (λ e j h. omega (arith, expr-inside h .0, expr-inside h .1))
 
   -- the payload is cut off
-  pub copy-cut : {o : List ℕ} {p : ℕ} {o′ : List ℕ} {r : Copied} {k n : ℕ} → k ≡ operandsOf (getD t i 0) → (k ≡ 1 → ⊥) → (k ≡ 2 → ⊥)
-      → n ≡ payloadOf (getD t i 0) → length t < i + 1 + n → Copies t i d o p o′ r
+  pub copy-cut : {o : List ℕ} {p : ℕ} {o′ : List ℕ} {q k n : ℕ} → k ≡ operandsOf (getD t i 0) → (k ≡ 1 → ⊥) → (k ≡ 2 → ⊥)
+      → n ≡ payloadOf (getD t i 0) → length t < i + 1 + n → Copies t i d o p o′ (record { next = i; to = q })
   copy-cut a f g q z = none (λ e j h. omega (arith, leaf-here e h (λ b. f (a ∙ b)) (λ b. g (a ∙ b)) .long, expr-inside h .1))
 
   -- ---- leaves
@@ -121,6 +125,7 @@ module _ {t : List ℕ} {i d : ℕ} where
         let moved : x ≡ suc (suc (suc (getD t (i + 1) 0))) = omega (arith, same) in
         rw is (rw (m, moved) at (put-cons P Q));
     ends = λ e j h low. let one : payloadOf (getD t i 0) ≡ 1 = rw m refl in omega (arith, local-here h m .1);
+    forward = omega arith;
   }
 
   -- a constant
@@ -132,6 +137,7 @@ module _ {t : List ℕ} {i d : ℕ} where
         let ends : i + 1 + n ≡ j = omega (arith, leaf .long) in
         rw (leaf .stays m, ← slice-is (h .stands), ← ends) P;
     ends = λ e j h low. omega (arith, leaf-here e h (λ b. f (a ∙ b)) (λ b. g (a ∙ b)) .long);
+    forward = omega arith;
   }
 
   -- ---- operators
@@ -139,7 +145,11 @@ module _ {t : List ℕ} {i d : ℕ} where
   -- on one value
   pub copy-one : {o o′ o″ : List ℕ} {p q k : ℕ} {r : Copied} → k ≡ operandsOf (getD t i 0) → k ≡ 1 → Put o p (getD t i 0 ∷ []) o′ q
       → Copies t (i + 1) (d - 1) o′ q o″ r → Copies t i d o p o″ r
-  copy-one {o} {o″ = o″} {p} {k = k} {r} a b P C = record { copied = λ e j h low. copied e j h low (here e j h); ends = λ e j h low. ends e j h low (here e j h) }
+  copy-one {o} {o″ = o″} {p} {k = k} {r} a b P C = record {
+    copied = λ e j h low. copied e j h low (here e j h);
+    ends = λ e j h low. ends e j h low (here e j h);
+    forward = omega (arith, C .forward);
+  }
     where
       mark : (o : One) × (markOf (getD t i 0) ≡ oneMark o)
       mark = one-mark (getD t i 0) (sym a ∙ b)
@@ -158,7 +168,11 @@ module _ {t : List ℕ} {i d : ℕ} where
   -- on two
   pub copy-two : {o o′ o″ o‴ : List ℕ} {p q k : ℕ} {x y : Copied} → k ≡ operandsOf (getD t i 0) → k ≡ 2 → Put o p (getD t i 0 ∷ []) o′ q
       → Copies t (i + 1) (d - 1) o′ q o″ x → Copies t (x .next) (d - 1) o″ (x .to) o‴ y → Copies t i d o p o‴ y
-  copy-two {o} {o‴ = o‴} {p} {k = k} {x} {y} a b P X Y = record { copied = λ e j h low. copied e j h low (here e j h); ends = λ e j h low. ends e j h low (here e j h) }
+  copy-two {o} {o‴ = o‴} {p} {k = k} {x} {y} a b P X Y = record {
+    copied = λ e j h low. copied e j h low (here e j h);
+    ends = λ e j h low. ends e j h low (here e j h);
+    forward = omega (arith, X .forward, Y .forward);
+  }
     where
       mark : (o : Two) × (markOf (getD t i 0) ≡ twoMark o)
       mark = two-mark (getD t i 0) (sym a ∙ b)
@@ -181,9 +195,31 @@ module _ {t : List ℕ} {i d : ℕ} where
           let mid : x .next ≡ w .k = X .ends (w .a) (w .k) (w .left) (lows .0) in
           Y .ends (w .b) j (rw mid (w .right)) (lows .1)
 
+-- ---- where an expression ends
+
+-- what the reader of expressions answers where one stands
+read-there : {t : List ℕ} {i : ℕ} {r : Ends} (e : Expr) (j : ℕ) → ReadsExpr t i 16 r → ExprAt t i 16 e j → r ≡ At j
+read-there {t} {i} {r} e j R h =
+    let long : length t - length (drop j t) ≡ j = rw length-drop (omega (arith, expr-inside h .1)) in
+    R .same ∙ ap (endOf t) (expr-read h) ∙ ap At long
+
+-- it ends where the reader says
+pub skip-there : {t : List ℕ} {i k : ℕ} {r : Ends} → ReadsExpr t i 16 r → r ≡ At k → Skips t i k
+skip-there R q = record { ends = λ e j h. at-one (sym q ∙ read-there e j R h) }
+  where
+    at-one : {k j : ℕ} → At k ≡ At j → k ≡ j
+    at-one e = cc
+
+-- where the reader finds none, none stands
+pub skip-none : {t : List ℕ} {i k : ℕ} {r : Ends} → ReadsExpr t i 16 r → r ≡ Nothing → Skips t i k
+skip-none R q = record { ends = λ e j h. absurd (apart (sym q ∙ read-there e j R h)) }
+  where
+    apart : {j : ℕ} → Nothing ≡ At j → ⊥
+    apart e = let z : _≡_ {A = ℕ} 0 1 = cc in omega arith
+
 -- the byte of a local is there
 pub local-inside : (t : List ℕ) (i m : ℕ) {n : ℕ} → n ≡ payloadOf m → m ≡ 5 → i + 1 + n ≤ length t → i + 1 < length t
 local-inside t i m long e l = let one : payloadOf m ≡ 1 = rw e refl in omega arith
 
 -- one law for each way
-pub ruleset copy-ways = (local-inside, copy-deep, copy-past, copy-cut, copy-local, copy-constant, copy-one, copy-two)
+pub ruleset copy-ways = (skip-there, skip-none, local-inside, copy-deep, copy-past, copy-cut, copy-local, copy-constant, copy-one, copy-two)

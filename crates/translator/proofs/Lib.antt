@@ -4,3 +4,9 @@ pub mod Puts
 pub mod Copying
 -- and through the pieces of generated code that do not read the source
 pub mod Coding
+-- and through the code of assign, read and write
+pub mod Plainly
+-- and through the code of an atomic block
+pub mod Blocks
+-- and through the code of a label
+pub mod Labels

@@ -5,6 +5,10 @@ use crate::writer::put;
 use crate::writer::put_four;
 use crate::writer::put_three;
 use crate::writer::put_two;
+use reader::block::ASSIGN;
+use reader::block::END;
+use reader::block::READ;
+use reader::block::WRITE;
 ghost use mathlib.Core.Path.{_≡_};
 ghost use mathlib.Core.List.{[], _∷_};
 ghost use Prim.Native.Nat.{_+_};
@@ -13,18 +17,10 @@ ghost use Rattle.translator.specs.Code.{tid, tmp, num, loc};
 ghost use Rattle.translator.specs.Laws.Put.{Put, PutExpr, PutInstr};
 ghost use Rattle.translator.specs.Laws.Sources.{Takes, Loads, LoadsIf, LoadsAll, Goes, Returns};
 
-// The bytes of instructions and constants.
-pub const END: u8 = 0x00;
-
+// The marks of constants.
 pub const WHOLE: u8 = 0x01;
 
 pub const LOCATION: u8 = 0x02;
-
-pub const ASSIGN: u8 = 0x20;
-
-pub const WRITE: u8 = 0x21;
-
-pub const READ: u8 = 0x22;
 
 // "it has parameter tid = 0, then tmp = 1, aux = 2"
 pub const TID: u8 = 0;
