@@ -53,6 +53,12 @@ pub ends-made₂ : {A B C : Type 0} (t : List ℕ) (m : Read A) (f : List ℕ �
 ends-made₂ t nothing f g = refl
 ends-made₂ t (is got) f g = ends-made t (f (got .1)) (g (got .0))
 
+-- readers that end alike, behind another
+pub ends-alike : {A B C : Type 0} (t : List ℕ) (m : Read A) (f : List ℕ → Read B) (g : List ℕ → Read C) → ((bs : List ℕ) → endOf t (f bs) ≡ endOf t (g bs))
+    → endOf t (m >>= λ (a, r). f r) ≡ endOf t (m >>= λ (a, r). g r)
+ends-alike t nothing f g same = refl
+ends-alike t (is got) f g same = same (got .1)
+
 -- chains may be put together in either order
 pub bind-assoc : {A B C : Type 0} (m : Maybe A) (f : A → Maybe B) (g : B → Maybe C) → ((m >>= f) >>= g) ≡ (m >>= λ a. f a >>= g)
 bind-assoc (is a) f g = refl
@@ -91,11 +97,19 @@ module _ {A : Type 0} (ok : A → Bool) where
       (λ fail. let same : test (g (got .0)) ≡ false = same (got .0) ∙ fail in rw (fail, same))
 
 -- what always passes
-pub always-passes : {A : Type 0} (t : List ℕ) (m : Read A) (ok : A → Bool) → If (λ got. ok (got .0) ≡ true) m → endOf t (m >>= check ok) ≡ endOf t m
-always-passes t nothing ok none = refl
-always-passes t (is got) ok (so pass) = rw pass
+pub always-passes : {A B : Type 0} (t : List ℕ) (m : Read A) (g : A → B) (ok : B → Bool) → ((a : A) → ok (g a) ≡ true)
+    → endOf t ((m >>= λ (a, q). is (g a, q)) >>= check ok) ≡ endOf t m
+always-passes t nothing g ok pass = refl
+always-passes t (is got) g ok pass = rw (pass (got .0))
 
 -- what never does
-pub never-passes : {A : Type 0} (t : List ℕ) (m : Read A) (ok : A → Bool) → If (λ got. ok (got .0) ≡ false) m → endOf t (m >>= check ok) ≡ Nothing
-never-passes t nothing ok none = refl
-never-passes t (is got) ok (so fail) = rw fail
+pub never-passes : {A B : Type 0} (t : List ℕ) (m : Read A) (g : A → B) (ok : B → Bool) → ((a : A) → ok (g a) ≡ false)
+    → endOf t ((m >>= λ (a, q). is (g a, q)) >>= check ok) ≡ Nothing
+never-passes t nothing g ok fail = refl
+never-passes t (is got) g ok fail = rw (fail (got .0))
+
+-- what fails behind whatever was read first
+pub fails-behind : {A B : Type 0} (t : List ℕ) (m : Read A) (f : (A × List ℕ) → Read B) (ok : B → Bool)
+    → ((a : A) (r : List ℕ) → endOf t (f (a, r) >>= check ok) ≡ Nothing) → endOf t ((m >>= f) >>= check ok) ≡ Nothing
+fails-behind t nothing f ok fails = refl
+fails-behind t (is got) f ok fails = fails (got .0) (got .1)

@@ -6,3 +6,9 @@ pub mod Chains
 pub mod Expressions
 -- and through that of several
 pub mod Values
+-- and through that of an instruction without blocks
+pub mod Plain
+-- and through those of blocks and instructions
+pub mod Blocks
+-- one law for each way through rules 1 and 2
+pub mod Trailers

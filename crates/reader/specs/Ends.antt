@@ -2,7 +2,7 @@
 use Prim.Native.Nat.{ℕ, _-_}
 use mathlib.Core.Path.{_≡_}
 use mathlib.Core.List.{List}
-use mathlib.Core.Bool.{Bool}
+use mathlib.Core.Bool.{Bool, true}
 use lib.ListN.{length, getD, drop}
 use lib.Dec.{leb}
 use Rattle.value.specs.Maybe.{is, nothing, _>>=_, when}
@@ -57,3 +57,7 @@ kindOf Sequential = sequential
 -- the language, the procedure, and inside an atomic block or not
 abbrev pub hereOf : Context → Here
 hereOf c = record { kind = kindOf (c .kind); proc = c .procedure; inside = c .inside }
+
+-- inside an atomic block that stands there
+abbrev pub insideOf : Here → Here
+insideOf h = record { kind = h .kind; proc = h .proc; inside = true }

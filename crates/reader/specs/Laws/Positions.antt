@@ -1,14 +1,17 @@
 -- The readers by positions: what is read from i on stands there, what stands there is read, and one thing stands there.
-use Prim.Native.Nat.{ℕ, _+_, _≤_}
+use Prim.Native.Nat.{ℕ, suc, _+_, _≤_, _<_}
 use native.Mathlib.Omega.{arith}
 use mathlib.Core.Path.{_≡_, refl, sym, ap, _∙_}
 use mathlib.Core.List.{List, [], _∷_, _++_}
-use lib.ListN.{length, drop, length-drop, length-append, drop-of-length-le}
+use lib.ListN.{length, getD, take, drop, length-drop, length-append, drop-of-length-le}
+use lib.Seq.{drop-cons, drop-drop}
+use borrow.Author.Tests.{le-leb, lt-leb}
 use Rattle.value.specs.Maybe.{is, nothing}
+use Rattle.value.specs.Values.{unbytes}
 use Rattle.value.specs.Laws.Maybes.{is-inj}
 use Rattle.reader.specs.Syntax.{Expr, Instr, Block, Plain}
 use Rattle.reader.specs.Encode as E
-use Rattle.reader.specs.Decode.{Read}
+use Rattle.reader.specs.Decode.{Read, byte, number}
 use Rattle.reader.specs.Decode as D
 use Rattle.value.specs.Laws.Bytes.{Bytes, bytes-drop}
 use Rattle.reader.specs.Laws.Reading.{Took, Exact, known-is}
@@ -92,3 +95,26 @@ module _ (t : List ℕ) (i d : ℕ) (h : Bytes t) where
   block-found {b} {r} q =
       let f = found-at (block-exact d) t i h b r (block-long b) q in
       (f .j, record { stands = f .stands; fits = f .fits }, f .left)
+
+-- ---- numbers by positions
+
+module _ (t : List ℕ) (j : ℕ) where
+  -- a byte that is there
+  pub byte-at : j < length t → byte (drop j t) ≡ is (getD t j 0, drop (j + 1) t)
+  byte-at l = let next : j + 1 ≡ suc j = omega arith in rw (drop-cons t j 0 l, next)
+
+  -- and one that is not
+  pub byte-past : length t ≤ j → byte (drop j t) ≡ nothing
+  byte-past l = let none : drop j t ≡ [] = drop-of-length-le t {i = j} l in rw none
+
+  -- so with numbers of k bytes
+  pub number-at : (k : ℕ) → j + k ≤ length t → number k (drop j t) ≡ is (unbytes (take k (drop j t)), drop (j + k) t)
+  number-at k l =
+      let long : k ≤ length (drop j t) = rw length-drop (omega arith) in
+      rw (le-leb k (length (drop j t)) long, drop-drop)
+
+  -- past the end
+  pub number-past : (k : ℕ) → length t < j + k → 0 < k → number k (drop j t) ≡ nothing
+  number-past k l some =
+      let short : length (drop j t) < k = rw length-drop (omega arith) in
+      rw (lt-leb k (length (drop j t)) short)

@@ -98,12 +98,12 @@ module _ (inner : List ℕ → Read (Block Plain)) (leaves : (bs : List ℕ) →
   formed-leaves selectForm bs = then _ (number-leaves 2 bs) λ a r. then _ (number-leaves 2 r) λ b r. done _ r
   formed-leaves noForm bs = none
 
-  instr-leaves : (bs : List ℕ) → Leaves bs (instr inner bs)
+  pub instr-leaves : (bs : List ℕ) → Leaves bs (instr inner bs)
   instr-leaves [] = none
   instr-leaves (m ∷ bs) = if-so (λ got. rest-after m) (formed-leaves (getD forms m noForm) bs)
 
   -- and takes a byte
-  instr-takes : (bs : List ℕ) → If (λ got. length (got .1) < length bs) (instr inner bs)
+  pub instr-takes : (bs : List ℕ) → If (λ got. length (got .1) < length bs) (instr inner bs)
   instr-takes [] = none
   instr-takes (m ∷ bs) =
       if-so (λ got rest. omega (arith, ap length (rest .is), length-drop (rest .taken) bs)) (formed-leaves (getD forms m noForm) bs)

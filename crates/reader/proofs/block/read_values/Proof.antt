@@ -13,14 +13,14 @@ abbrev μ-loop : tie.MeasureT-loop
 μ-loop code at count position₀ left₀ position left = left
 
 pub read-values-spec : {M : Type 1} → statement M
-read-values-spec = tie.close (tie.spec Inv-loop μ-loop 
-    (λ c. search values-ways) 
-    (λ c. search values-ways) 
-    (λ c κs. search needs) 
-    (λ c. search needs) 
-    (λ c. search needs) 
-    (λ c. search values-ways) 
-    (λ c. search needs) 
-    (λ c. search needs) 
-    (λ c. search values-ways) 
+read-values-spec = tie.close (tie.spec Inv-loop μ-loop
+    (λ c. search values-ways)
+    (λ c. search values-ways)
+    (λ c κs. search needs)
+    (λ c. search needs)
+    (λ c. search needs)
+    (λ c. search values-ways)
+    (λ c. search needs)
+    (λ c. search needs)
+    (λ c. search values-ways)
     (λ c. search values-ways))

@@ -1,0 +1,42 @@
+-- What the run program tells of a table and a schedule: document 01, "Worked by hand", its last paragraph.
+use Prim.Native.Nat.{ℕ}
+use mathlib.Core.List.{List}
+use mathlib.Core.Bool.{true, false}
+use lib.ListN.{length}
+use lib.Dec.{ltb}
+use Rattle.reader.specs.Syntax.{Program, Plain, concurrent, sequential}
+use Rattle.reader.specs.Encode.{table}
+use Rattle.reader.specs.Rules.{Verdict, refused, accepted, verdict, limits}
+use Rattle.translator.specs.Translate.{translate}
+use Rattle.machines.specs.Threads as P
+use Rattle.machines.specs.Copy as C
+use Rattle.machines.specs.Calls.{endNumber, scheduled}
+use Rattle.agreement.specs.declared.Figures.{Figures}
+use Rattle.agreement.specs.Agreement.{programRun, copyRun, budget}
+
+-- "A refusal prints refused N"
+abbrev pub refusal : ℕ → Figures
+refusal n = record { number = n; end = 0; steps = 0; copy = 0; unused = 0; events = 0 }
+
+-- "the program's end and steps, the copy's steps, the program's unused entries and shared events"
+abbrev pub figures : P.Ran → C.Ran → Figures
+figures r c = record { number = 0; end = endNumber (r .how); steps = r .steps; copy = c .steps; unused = r .unused; events = length (r .events) }
+
+-- of an accepted program: 9, then 11. "It lends buffers that are large enough and gives the copy demand 3's budget."
+abbrev pub figuresOf : Program Plain → List ℕ → Figures
+figuresOf p ts = elim (ltb (limits sequential .bytes) (length (table sequential (translate p)))) [
+  | true ↦ refusal 9
+  | false ↦ elim (scheduled concurrent p ts) [
+    | false ↦ refusal 11
+    | true ↦ figures (programRun p ts) (copyRun budget p ts)
+  ]
+]
+
+-- by the verdict on the table
+abbrev pub figuresAs : Verdict → List ℕ → Figures
+figuresAs (refused n) ts = refusal n
+figuresAs (accepted p) ts = figuresOf p ts
+
+-- the call, on concurrent table t and schedule ts
+abbrev pub figuresCall : List ℕ → List ℕ → Figures
+figuresCall t ts = figuresAs (verdict concurrent t) ts
