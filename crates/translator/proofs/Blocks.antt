@@ -15,7 +15,7 @@ use Rattle.translator.specs.Laws.Put.{Put, PutInstr, PutBlock, Onto, Wri
 use Rattle.translator.specs.Laws.Sources.{Low, Copies, Sited, ExprOf, LoadsOf, InPlaceI, InPlace, Plain, PlainIf}
 use Rattle.translator.specs.Laws.Sources.{InsideInstr, InsideBlock, Branch, From, Asks}
 use Rattle.translator.specs.declared.exprs.Copied.{Copied}
-use Rattle.translator.specs.declared.pieces.Site.{Site}
+use Rattle.translator.specs.declared.layout.Site.{Site}
 use Rattle.translator.proofs.Puts.{put-then, put-cons, onto-start}
 use Rattle.translator.proofs.Coding.{writes-instr, writes-then, writes-block, block-end}
 use Rattle.translator.proofs.Plainly.{low-more}

@@ -14,7 +14,7 @@ use Rattle.translator.specs.Layout.{Layout}
 use Rattle.translator.specs.Code.{_then_, num, loc, tid, tmp, aux, moved, mentions, keep, variables, load, loadAll, loads, pc, returns}
 use Rattle.translator.specs.Laws.Put.{Put, PutExpr, PutInstr, PutBlock, Onto, Writes}
 use Rattle.translator.specs.Laws.Sources.{Sited, Takes, Loads, LoadsIf, Flags, LoadsAll, Loading, Goes, Returns}
-use Rattle.translator.specs.declared.pieces.Site.{Site}
+use Rattle.translator.specs.declared.layout.Site.{Site}
 use Rattle.translator.proofs.Puts.{put-none, put-then, put-cons, onto-start, onto-next}
 
 module _ {o o′ : List ℕ} {p q : ℕ} where

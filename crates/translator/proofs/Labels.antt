@@ -18,7 +18,7 @@ use Rattle.translator.specs.Laws.Put.{Put, PutInstr, PutBlock, Onto, Wri
 use Rattle.translator.specs.Laws.Sources.{Low, Sited, ExprOf, LoadsOf, Stores, Goes, Asks, InPlaceI, InPlace, Plain, PlainIf, InsideBlock}
 use Rattle.translator.specs.Laws.Sources.{Ways, Questions, Tests, ExprsOf, LoadsEach, Passes, Passing, Marks, Calls, OneLabel, Steps}
 use Rattle.translator.specs.declared.exprs.Copied.{Copied}
-use Rattle.translator.specs.declared.pieces.Site.{Site}
+use Rattle.translator.specs.declared.layout.Site.{Site}
 use Rattle.translator.proofs.Puts.{put-then, put-cons, put-same, onto-start}
 use Rattle.translator.proofs.Coding.{writes-instr, writes-then, writes-block, block-end}
 use Rattle.translator.proofs.Plainly.{low-more}

@@ -10,3 +10,5 @@ pub mod Plainly
 pub mod Blocks
 -- and through the code of a label
 pub mod Labels
+-- and through the layout's code
+pub mod Placing

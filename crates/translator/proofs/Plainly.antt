@@ -13,7 +13,7 @@ use Rattle.translator.specs.Code.{num, loc, tid, tmp, moved, shift, load
 use Rattle.translator.specs.Laws.Put.{Put, PutExpr, PutInstr, Writes}
 use Rattle.translator.specs.Laws.Sources.{Low, Skips, Copies, Sited, Loads, ExprOf, LoadsOf, Stores, Holds, LoadsWrite, Sets, Gets, InPlaceI, Plain, PlainIf}
 use Rattle.translator.specs.declared.exprs.Copied.{Copied}
-use Rattle.translator.specs.declared.pieces.Site.{Site}
+use Rattle.translator.specs.declared.layout.Site.{Site}
 use Rattle.translator.proofs.Puts.{put-then, put-cons}
 use Rattle.translator.proofs.Coding.{writes-instr, writes-then, kept}
 

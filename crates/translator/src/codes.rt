@@ -1,8 +1,8 @@
 // The code of one label: report RR-2017-03, figures 3 to 11. A block ends with it.
 use crate::inside::put_ask;
 use crate::inside::put_inside;
-use crate::pieces::Site;
-use crate::pieces::home;
+use crate::layout::Site;
+use crate::layout::home;
 use crate::pieces::put_goto;
 use crate::pieces::put_loads;
 use crate::pieces::put_locate;

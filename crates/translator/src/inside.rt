@@ -1,7 +1,7 @@
 // The code of an atomic block: "its instructions in place without pc". Block and instruction call each other, the depth falling.
 use crate::exprs::Copied;
 use crate::exprs::put_expr;
-use crate::pieces::Site;
+use crate::layout::Site;
 use crate::plain::put_loads_of;
 use crate::plain::put_plain;
 use crate::writer::put;

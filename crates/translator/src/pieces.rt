@@ -1,6 +1,8 @@
 // The pieces of generated code that do not read the source: loads, stores and labels.
 use crate::exprs::LOCAL;
 use crate::exprs::moved;
+use crate::layout::Site;
+use crate::layout::home;
 use crate::writer::put;
 use crate::writer::put_four;
 use crate::writer::put_three;
@@ -9,9 +11,7 @@ use reader::block::ASSIGN;
 use reader::block::END;
 use reader::block::READ;
 use reader::block::WRITE;
-ghost use mathlib.Core.Path.{_≡_};
 ghost use mathlib.Core.List.{[], _∷_};
-ghost use Prim.Native.Nat.{_+_};
 ghost use Rattle.reader.specs.Syntax.{local, assign, write, read};
 ghost use Rattle.translator.specs.Code.{tid, tmp, num, loc};
 ghost use Rattle.translator.specs.Laws.Put.{Put, PutExpr, PutInstr};
@@ -28,15 +28,6 @@ pub const TID: u8 = 0;
 pub const TMP: u8 = 1;
 
 pub const AUX: u8 = 2;
-
-// What the code of a procedure's labels must know: how many locals the procedure has, and where the copy keeps the program counters,
-// the procedure's "from" and its first local.
-pub struct Site {
-    pub locals: u8,
-    pub pct: u16,
-    pub from: u16,
-    pub home: u16,
-}
 
 // tmp := location l
 pub fn put_locate(out: &mut [u8], at: usize, l: usize) -> usize
@@ -77,13 +68,6 @@ pub fn put_goto(out: &mut [u8], at: usize, label: usize) -> usize
 {
     let p = put_keep(out, at);
     put_number(out, p, label)
-}
-
-// The location of local x.
-pub fn home(s: Site, x: u8) -> usize
-    ensures { λ r. ⌜ r ≡ s .home + x ⌝ }
-{
-    s.home as usize + x as usize
 }
 
 // tmp := location l; x := tmp[tid]

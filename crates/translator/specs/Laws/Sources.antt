@@ -13,7 +13,7 @@ use Rattle.translator.specs.Code.{_then_, tid, tmp, num, loc, moved, shi
 use Rattle.translator.specs.Layout.{Layout}
 use Rattle.translator.specs.Laws.Put.{Put, PutInstr, PutBlock, Onto, Writes}
 use Rattle.translator.specs.declared.exprs.Copied.{Copied}
-use Rattle.translator.specs.declared.pieces.Site.{Site}
+use Rattle.translator.specs.declared.layout.Site.{Site}
 
 -- each local of an expression is below n
 abbrev pub Low : ℕ → Expr → Type 0
