@@ -1,12 +1,13 @@
 -- The label map: of each label its position, its procedure, the code that remains there, and the labels it leads to.
-use Prim.Native.Nat.{ℕ, zero, suc, _+_, _-_}
+use Prim.Native.Nat.{ℕ, zero, suc, _+_, _*_, _-_, _<_}
+use mathlib.Core.Path.{_≡_}
 use mathlib.Core.List.{List, [], _∷_, _++_}
-use lib.ListN.{length}
-use Rattle.value.specs.Maybe.{Maybe, nothing}
+use lib.ListN.{length, getD}
+use Rattle.value.specs.Maybe.{Maybe, is, nothing}
 use Rattle.value.specs.Lists.{at}
 use Rattle.reader.specs.Syntax.{Instr, assign, write, read, while, if, call, atomic, select, Block, end, step, _⊕_, Proc, Program}
-use Rattle.reader.specs.Encode.{expr, instr, block, each}
-use Rattle.reader.specs.Labels.{first, labelled, endOf}
+use Rattle.reader.specs.Encode.{expr, instr, block}
+use Rattle.reader.specs.Labels.{first, labelled, endsOf, begins}
 
 -- a label's place in the bytes, its procedure, and the code that remains there: none at an end label
 pub record Node : Type 0 where
@@ -72,9 +73,18 @@ other k (step l (call q es) c) = 0
 other k (step l (atomic b) c) = 0
 other k (step l (select x y) c) = 0
 
--- ---- the map as numbers: four for each label
+-- ---- the map as numbers
 
--- position, procedure and the labels it leads to
+-- four for each label: position, procedure and the labels it leads to
 abbrev pub words : (ℕ → ℕ) → List Node → List ℕ
 words ends [] = []
 words ends (n ∷ ns) = n .place ∷ n .proc ∷ next (ends (n .proc)) (n .code) ∷ other (ends (n .proc)) (n .code) ∷ words ends ns
+
+-- what a filled map holds: the numbers of label l from 4 * l on, and the first and the last label of procedure m at 2 * m
+pub record Mapped {A : Type 0} (p : Program A) (map bounds : List ℕ) : Type 0 where
+  pub place : (l : ℕ) (n : Node) → nodeOf p l ≡ is n → getD map (4 * l) 0 ≡ n .place
+  pub proc : (l : ℕ) (n : Node) → nodeOf p l ≡ is n → getD map (4 * l + 1) 0 ≡ n .proc
+  pub next : (l : ℕ) (n : Node) → nodeOf p l ≡ is n → getD map (4 * l + 2) 0 ≡ next (endsOf p (n .proc)) (n .code)
+  pub other : (l : ℕ) (n : Node) → nodeOf p l ≡ is n → getD map (4 * l + 3) 0 ≡ other (endsOf p (n .proc)) (n .code)
+  pub begins : (m : ℕ) → m < length (p .procs) → getD bounds (2 * m) 0 ≡ begins p m
+  pub ends : (m : ℕ) → m < length (p .procs) → getD bounds (2 * m + 1) 0 ≡ endsOf p m
