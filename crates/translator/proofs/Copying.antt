@@ -5,7 +5,7 @@ use native.Mathlib.Nat.{pos-of-ne-zero}
 use mathlib.Core.Path.{_≡_, refl, sym, ap, subst, _∙_}
 use mathlib.Core.List.{List, [], _∷_, _++_, append-nil}
 use mathlib.Core.Bool.{true, false}
-use lib.ListN.{length, getD, take, drop, length-drop}
+use lib.ListN.{length, getD, take, drop}
 use lib.Seq.{slice, slice-empty}
 use borrow.Author.Tests.{eqb-true}
 use Rattle.value.specs.Values.{One, not, neg, Two, add, sub, mul, less, equal, and}
@@ -16,13 +16,9 @@ use Rattle.reader.specs.Syntax.{Expr, constant, local, one, two}
 use Rattle.reader.specs.Encode.{expr}
 use Rattle.reader.specs.Laws.Stands.{Stands, first, in-take}
 use Rattle.reader.specs.Laws.Grammar.{ExprAt, OneAt, TwoAt, one-here, two-here, none-here, local-here, expr-inside, expr-deep}
-use Rattle.reader.specs.Laws.Positions.{expr-read}
-use Rattle.reader.specs.Ends.{endOf, ReadsExpr}
-use Rattle.reader.specs.declared.Ends.{Ends}
-use Rattle.reader.specs.declared.Ends.the-variants.{At, Nothing}
 use Rattle.translator.specs.Code.{shift}
 use Rattle.translator.specs.Laws.Put.{Put}
-use Rattle.translator.specs.Laws.Sources.{Low, Skips, Copies}
+use Rattle.translator.specs.Laws.Sources.{Low, Copies}
 use Rattle.translator.specs.declared.exprs.Copied.{Copied}
 use Rattle.translator.proofs.Puts.{put-then, put-cons}
 
@@ -195,31 +191,9 @@ module _ {t : List ℕ} {i d : ℕ} where
           let mid : x .next ≡ w .k = X .ends (w .a) (w .k) (w .left) (lows .0) in
           Y .ends (w .b) j (rw mid (w .right)) (lows .1)
 
--- ---- where an expression ends
-
--- what the reader of expressions answers where one stands
-read-there : {t : List ℕ} {i : ℕ} {r : Ends} (e : Expr) (j : ℕ) → ReadsExpr t i 16 r → ExprAt t i 16 e j → r ≡ At j
-read-there {t} {i} {r} e j R h =
-    let long : length t - length (drop j t) ≡ j = rw length-drop (omega (arith, expr-inside h .1)) in
-    R .same ∙ ap (endOf t) (expr-read h) ∙ ap At long
-
--- it ends where the reader says
-pub skip-there : {t : List ℕ} {i k : ℕ} {r : Ends} → ReadsExpr t i 16 r → r ≡ At k → Skips t i k
-skip-there R q = record { ends = λ e j h. at-one (sym q ∙ read-there e j R h) }
-  where
-    at-one : {k j : ℕ} → At k ≡ At j → k ≡ j
-    at-one e = cc
-
--- where the reader finds none, none stands
-pub skip-none : {t : List ℕ} {i k : ℕ} {r : Ends} → ReadsExpr t i 16 r → r ≡ Nothing → Skips t i k
-skip-none R q = record { ends = λ e j h. absurd (apart (sym q ∙ read-there e j R h)) }
-  where
-    apart : {j : ℕ} → Nothing ≡ At j → ⊥
-    apart e = let z : _≡_ {A = ℕ} 0 1 = cc in omega arith
-
 -- the byte of a local is there
 pub local-inside : (t : List ℕ) (i m : ℕ) {n : ℕ} → n ≡ payloadOf m → m ≡ 5 → i + 1 + n ≤ length t → i + 1 < length t
 local-inside t i m long e l = let one : payloadOf m ≡ 1 = rw e refl in omega arith
 
 -- one law for each way
-pub ruleset copy-ways = (skip-there, skip-none, local-inside, copy-deep, copy-past, copy-cut, copy-local, copy-constant, copy-one, copy-two)
+pub ruleset copy-ways = (local-inside, copy-deep, copy-past, copy-cut, copy-local, copy-constant, copy-one, copy-two)

@@ -5,18 +5,25 @@ use native.Mathlib.Nat.{sub-zero}
 use native.Mathlib.Numerals.{add-one}
 use mathlib.Core.Path.{_≡_, refl, sym, ap, subst, _∙_}
 use mathlib.Core.List.{List, [], _∷_, _++_, append-assoc}
-use lib.ListN.{length, getD}
+use mathlib.Core.Bool.{Bool, true, false}
+use lib.ListN.{length, getD, replicate}
+use Rattle.value.specs.Maybe.{either}
 use Rattle.value.specs.Laws.Lists.{Each}
+use Rattle.value.specs.Laws.Tests.{either-false}
 use Rattle.reader.specs.Syntax.{Expr, local, Instr, assign, write, read, while, if, call, atomic, select, Block, end, step}
 use Rattle.reader.specs.Syntax as S
 use Rattle.reader.specs.Encode.{expr, instr, block}
 use Rattle.reader.specs.Laws.Grammar.{ExprAt, ExprsAt, InstrAt, BlockAt, MoreAt, exprs-none, exprs-more, AtomicAt, atomic-here}
 use Rattle.reader.specs.Laws.Stands.{first}
+use Rattle.reader.specs.Walks.{Gathers}
+use Rattle.reader.specs.Variables.{flags, joined}
+use Rattle.reader.specs.Laws.Variables.{flag-at}
+use Rattle.reader.specs.declared.variables.Gathered.{Gathered}
 use Rattle.translator.specs.Layout.{Layout}
-use Rattle.translator.specs.Code.{_then_, num, loc, tid, tmp, shift, loads, put, goto, tests, passes, calls, pc, insideI, inside, code}
+use Rattle.translator.specs.Code.{_then_, num, loc, tid, tmp, mentioned, mentions, shift, loads, put, goto, tests, passes, calls, pc, insideI, inside, code}
 use Rattle.translator.specs.Laws.Put.{Put, PutInstr, PutBlock, Onto, Writes}
 use Rattle.translator.specs.Laws.Sources.{Low, Sited, ExprOf, LoadsOf, Stores, Goes, Asks, InPlaceI, InPlace, Plain, PlainIf, InsideBlock}
-use Rattle.translator.specs.Laws.Sources.{Ways, Questions, Tests, ExprsOf, LoadsEach, Passes, Passing, Marks, Calls, OneLabel, Steps}
+use Rattle.translator.specs.Laws.Sources.{LoadsAll, Ways, Questions, Tests, ExprsOf, GathersMore, GathersEach, Gathering, LoadsEach, Passes, Passing, Marks, Calls, OneLabel, Steps}
 use Rattle.translator.specs.declared.exprs.Copied.{Copied}
 use Rattle.translator.specs.declared.layout.Site.{Site}
 use Rattle.translator.proofs.Puts.{put-then, put-cons, put-same, onto-start}
@@ -28,6 +35,17 @@ use Rattle.translator.proofs.Plainly.{low-more}
 -- a branch
 pub way : {label : ℕ} {o o₁ o₂ : List ℕ} {p p₁ p₂ : ℕ} → PutInstr o p (write tmp (local tid) (num label)) o₁ p₁ → Put o₁ p₁ (0 ∷ []) o₂ p₂ → Ways label o p o₂ p₂
 way A B = record { gives = λ G m n. writes-block (writes-instr A) (block-end B) }
+
+-- no flag of an empty row is set
+none-set : (n x : ℕ) → getD (replicate n false) x false ≡ false
+none-set zero x = refl
+none-set (suc n) zero = refl
+none-set (suc n) (suc x) = none-set n x
+
+-- one or two others
+either-assoc : (a b c : Bool) → either (either a b) c ≡ either a (either b c)
+either-assoc true b c = refl
+either-assoc false b c = refl
 
 -- the bytes of an if, part by part
 if-bytes : (a b c z : List ℕ) → (0x24 ∷ a) ++ (b ++ (c ++ z)) ≡ (0x24 ∷ a ++ (b ++ c)) ++ z
@@ -63,6 +81,46 @@ module _ {t : List ℕ} where
   }
 
   -- ---- calls
+
+  -- before the first argument
+  pub gather-start : {i k : ℕ} → Gathering t i k (replicate 16 false) i k
+  gather-start {i} {k} = record {
+    back = λ M. record { gives = λ es j at x l. M .gives es j at x l ∙ ap (λ (b : Bool). either b (mentions x es)) (no-flag x) };
+  }
+    where
+      no-flag : (x : ℕ) → getD (replicate 16 false) x false ≡ false
+      no-flag x = none-set 16 x
+
+  -- an argument more
+  pub gather-next : {i k i′ left : ℕ} {set more : List Bool} {g : Gathered} → Gathering t i k set i′ left → 0 < left → Gathers t i′ 16 g
+      → more ≡ joined set (g .set) → Gathering t i k more (g .next) (left - 1)
+  gather-next {i} {k} {i′} {left} {set} {more} {g} F some A e = record { back = λ M. F .back (record { gives = λ es j at x l. one es j x l (exprs-more at some) M }) }
+    where
+      one : {r : List Bool} (es : List Expr) (j x : ℕ) → x < 16 → MoreAt t i′ left es j → GathersMore t (g .next) (left - 1) more r
+          → getD r x false ≡ either (getD set x false) (mentions x es)
+      one {r} es j x l w M =
+          let found : g .set ≡ flags (λ (y : ℕ). mentioned y (w .e)) = A .set (w .e) (w .k) (w .here) in
+          let next : g .next ≡ w .k = A .ends (w .e) (w .k) (w .here) in
+          let here : getD more x false ≡ either (getD set x false) (mentioned x (w .e)) =
+              ap (λ (f : List Bool). getD f x false) e ∙ flag-at (λ (y : ℕ). either (getD set y false) (getD (g .set) y false)) x false l
+              ∙ ap (λ (f : List Bool). either (getD set x false) (getD f x false)) found
+              ∙ ap (either (getD set x false)) (flag-at (λ (y : ℕ). mentioned y (w .e)) x false l)
+          in
+          let rest : getD r x false ≡ either (getD more x false) (mentions x (w .rest)) = M .gives (w .rest) j (rw next (w .after)) x l in
+          rest ∙ ap (λ (b : Bool). either b (mentions x (w .rest))) here ∙ either-assoc (getD set x false) (mentioned x (w .e)) (mentions x (w .rest))
+          ∙ ap (λ (fs : List Expr). either (getD set x false) (mentions x fs)) (sym (w .is))
+
+  -- after the last
+  pub gather-end : {i k i′ left : ℕ} {set : List Bool} → Gathering t i k set i′ left → left ≤ 0 → GathersEach t i k set
+  gather-end {set = set} F none = F .back (record {
+    gives = λ es j at x l.
+        let empty : es ≡ [] = exprs-none at (omega arith) .0 in
+        sym (ap (λ (fs : List Expr). either (getD set x false) (mentions x fs)) empty ∙ either-false (getD set x false));
+  })
+
+  -- the loads of all arguments' variables
+  pub loads-each : {i k : ℕ} {set : List Bool} {s : Site} {o o′ : List ℕ} {p r : ℕ} → GathersEach t i k set → LoadsAll s set o p o′ r → LoadsEach t i k s o p o′ r
+  loads-each A L = record { gives = λ G m n es j h at. L .gives G m n es h (A .gives es j (at .stand)) }
 
   -- at the first argument
   pub passing-start : {i k : ℕ} {c : Site} {o : List ℕ} {p : ℕ} → Passing t i k c o p i 0 o p
@@ -158,4 +216,4 @@ module _ {t : List ℕ} where
       gives G m n begin l (select x y) j h at ok = absurd ok
 
 -- one law for each way
-pub ruleset label-ways = (way, question, tested, passing-start, passing-next, passing-end, marks, called, atomically, plainly)
+pub ruleset label-ways = (way, question, tested, gather-start, gather-next, gather-end, loads-each, passing-start, passing-next, passing-end, marks, called, atomically, plainly)

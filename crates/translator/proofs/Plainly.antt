@@ -3,15 +3,20 @@ use Prim.Native.Nat.{ℕ, suc, _+_, _%_, _≤_, _<_}
 use native.Mathlib.Omega.{arith}
 use mathlib.Core.Path.{_≡_, refl, sym, ap, subst, _∙_}
 use mathlib.Core.List.{List, [], _∷_, _++_}
+use mathlib.Core.Bool.{Bool, false}
 use lib.ListN.{length, getD}
 use Rattle.reader.specs.Syntax.{Expr, constant, local, one, two, Instr, assign, write, read, while, if, call, atomic, select}
 use Rattle.reader.specs.Encode.{expr}
 use Rattle.reader.specs.Laws.Stands.{first}
 use Rattle.reader.specs.Laws.Grammar.{ExprAt, InstrAt, AssignAt, WriteAt, ReadAt, assign-here, write-here, read-here}
+use Rattle.reader.specs.Walks.{Gathers, ExprEnds}
+use Rattle.reader.specs.Variables.{flags}
+use Rattle.reader.specs.Laws.Variables.{flag-at, flags-one}
+use Rattle.reader.specs.declared.variables.Gathered.{Gathered}
 use Rattle.translator.specs.Layout.{Layout}
-use Rattle.translator.specs.Code.{num, loc, tid, tmp, moved, shift, load, loads, put, keepIn, insideI}
+use Rattle.translator.specs.Code.{num, loc, tid, tmp, moved, mentions, shift, load, loads, put, keepIn, insideI}
 use Rattle.translator.specs.Laws.Put.{Put, PutExpr, PutInstr, Writes}
-use Rattle.translator.specs.Laws.Sources.{Low, Skips, Copies, Sited, Loads, ExprOf, LoadsOf, Stores, Holds, LoadsWrite, Sets, Gets, InPlaceI, Plain, PlainIf}
+use Rattle.translator.specs.Laws.Sources.{Low, Copies, Sited, Loads, LoadsAll, ExprOf, LoadsOf, Stores, Holds, LoadsWrite, Sets, Gets, InPlaceI, Plain, PlainIf}
 use Rattle.translator.specs.declared.exprs.Copied.{Copied}
 use Rattle.translator.specs.declared.layout.Site.{Site}
 use Rattle.translator.proofs.Puts.{put-then, put-cons}
@@ -39,6 +44,16 @@ held {s} {x} {l} {y} e A B C f D = record {
 }
 
 module _ {t : List ℕ} where
+  -- ---- loads
+
+  -- those of an expression's variables
+  pub loads-of : {i : ℕ} {g : Gathered} {s : Site} {o o′ : List ℕ} {p r : ℕ} → Gathers t i 16 g → LoadsAll s (g .set) o p o′ r → LoadsOf t i s o p o′ r
+  loads-of {g = g} A L = record {
+    gives = λ G m n e j h at.
+        let same : g .set ≡ flags (λ (x : ℕ). mentions x (e ∷ [])) = A .set e j (at .stands) ∙ flags-one e in
+        L .gives G m n (e ∷ []) h (λ x l. ap (λ (f : List Bool). getD f x false) same ∙ flag-at (λ (x : ℕ). mentions x (e ∷ [])) x false l);
+  }
+
   -- ---- stores
 
   -- tmp := location l; tmp[tid] := e
@@ -98,7 +113,7 @@ module _ {t : List ℕ} where
   }
 
   -- write
-  pub written : {i k y : ℕ} {s : Site} {o o₁ o₂ : List ℕ} {p p₁ : ℕ} {r : Copied} → getD t i 0 ≡ 0x21 → y ≡ getD t (i + 1) 0 → Skips t (i + 2) k
+  pub written : {i k y : ℕ} {s : Site} {o o₁ o₂ : List ℕ} {p p₁ : ℕ} {r : Copied} → getD t i 0 ≡ 0x21 → y ≡ getD t (i + 1) 0 → ExprEnds t (i + 2) k
       → LoadsWrite t (i + 2) k s y o p o₁ p₁ → Sets t (i + 2) y o₁ p₁ o₂ r → Plain t i s o p o₂ r
   written {i} {k} {y} {s} {o} {o₁} {o₂} {p} {p₁} {r} b same K L S = record {
     gives = λ G m n d a j h at ok. gives G m n d a j h ok (write-here at b);
@@ -193,4 +208,4 @@ module _ {t : List ℕ} where
       never n d (select x y) j at ok b = ok
 
 -- one law for each way
-pub ruleset plain-ways = (store, assigned, write-loads, set-one, written, get-one, held, got, plain-one, plain-none)
+pub ruleset plain-ways = (loads-of, store, assigned, write-loads, set-one, written, get-one, held, got, plain-one, plain-none)

@@ -13,9 +13,12 @@ use crate::plain::put_store;
 use crate::writer::put;
 use reader::block::ATOMIC;
 use reader::block::END;
+use reader::expression::DEPTH;
+use reader::variables::gather;
+use reader::variables::join;
 ghost use Prim.Native.Nat.{_<_};
 ghost use lib.ListN.{length};
-ghost use Rattle.translator.specs.Laws.Sources.{Ways, Questions, Tests, LoadsEach, Passes, Marks, Calls, Steps};
+ghost use Rattle.translator.specs.Laws.Sources.{Ways, Questions, Tests, GathersEach, LoadsEach, Passes, Marks, Calls, Steps};
 
 // The depth of a body.
 const BLOCKS: u8 = 16;
@@ -47,11 +50,29 @@ fn put_test(t: &[u8], at: usize, s: Site, yes: usize, no: usize, out: &mut [u8],
     put(out, u, END)
 }
 
+// The variables of `count` expressions from `at` on, as flags.
+fn gather_each(t: &[u8], at: usize, count: u8) -> [bool; 16]
+    ensures { λ r. ⌜ GathersEach (now (t .entry)) at count r ⌝ }
+{
+    let mut set = [false; 16];
+    let mut i = at;
+    let mut left = count;
+    while 0 < left {
+        let found = gather(t, i, DEPTH);
+        let more = found.set;
+        let both = join(set, more);
+        set = both;
+        i = found.next;
+        left -= 1;
+    }
+    set
+}
+
 // The loads of the variables of `count` expressions from `at` on, "of all arguments together".
 fn put_loads_each(t: &[u8], at: usize, count: u8, s: Site, out: &mut [u8], to: usize) -> usize
     ensures { λ r. ⌜ LoadsEach (now (t .entry)) at count s (now (out .entry)) to (now (out .exit)) r ⌝ }
 {
-    put_loads(s, [false; 16], out, to)
+    put_loads(s, gather_each(t, at, count), out, to)
 }
 
 // "store each argument in its parameter"

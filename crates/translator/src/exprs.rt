@@ -1,12 +1,9 @@
 // Expressions of the source, written into the copy: local x becomes local 3 + x.
 use crate::writer::put;
-use reader::Ends;
-use reader::expression::DEPTH;
-use reader::expression::read_expr;
 use crate::writer::put_part;
 ghost use mathlib.Core.Path.{_≡_};
 ghost use Prim.Native.Nat.{_+_, _%_};
-ghost use Rattle.translator.specs.Laws.Sources.{Skips, Copies};
+ghost use Rattle.translator.specs.Laws.Sources.{Copies};
 
 // What was copied: where the source goes on, and where the copy does.
 pub struct Copied {
@@ -16,16 +13,6 @@ pub struct Copied {
 
 // The mark of a local variable.
 pub const LOCAL: u8 = 0x05;
-
-// Where the expression at `at` ends.
-pub fn skip(t: &[u8], at: usize) -> usize
-    ensures { λ r. ⌜ Skips (now (t .entry)) at r ⌝ }
-{
-    let Ends::At(next) = read_expr(t, at, DEPTH) else {
-        return at;
-    };
-    next
-}
 
 // "local i as 3+i"
 pub fn moved(x: u8) -> u8

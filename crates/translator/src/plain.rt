@@ -3,7 +3,6 @@ use crate::exprs::Copied;
 use crate::exprs::LOCAL;
 use crate::exprs::moved;
 use crate::exprs::put_expr;
-use crate::exprs::skip;
 use crate::layout::Site;
 use crate::layout::home;
 use crate::pieces::put_keep;
@@ -16,6 +15,8 @@ use reader::block::ASSIGN;
 use reader::block::READ;
 use reader::block::WRITE;
 use reader::expression::DEPTH;
+use reader::labels::after_expr;
+use reader::variables::gather;
 use value::bytes::byte_at;
 ghost use mathlib.Core.Path.{_≡_};
 ghost use Prim.Native.Nat.{_+_, _<_};
@@ -26,7 +27,9 @@ ghost use Rattle.translator.specs.Laws.Sources.{LoadsOf, Stores, Holds, 
 pub fn put_loads_of(t: &[u8], at: usize, s: Site, out: &mut [u8], to: usize) -> usize
     ensures { λ r. ⌜ LoadsOf (now (t .entry)) at s (now (out .entry)) to (now (out .exit)) r ⌝ }
 {
-    put_loads(s, [false; 16], out, to)
+    let found = gather(t, at, DEPTH);
+    let set = found.set;
+    put_loads(s, set, out, to)
 }
 
 // tmp := location l; tmp[tid] := the expression at `at`
@@ -84,7 +87,7 @@ fn put_write(t: &[u8], at: usize, s: Site, out: &mut [u8], to: usize) -> Copied
     ensures { λ r. ⌜ Plain (now (t .entry)) at s (now (out .entry)) to (now (out .exit)) r ⌝ }
 {
     let y = byte_at(t, at + 1);
-    let p = put_write_loads(t, at + 2, skip(t, at + 2), s, y, out, to);
+    let p = put_write_loads(t, at + 2, after_expr(t, at + 2), s, y, out, to);
     put_set(t, at + 2, y, out, p)
 }
 

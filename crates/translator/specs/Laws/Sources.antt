@@ -4,6 +4,7 @@ use mathlib.Core.Path.{_≡_}
 use mathlib.Core.List.{List, [], _∷_, _++_}
 use mathlib.Core.Bool.{Bool, false}
 use lib.ListN.{length, getD}
+use Rattle.value.specs.Maybe.{either}
 use Rattle.value.specs.Laws.Lists.{Each}
 use Rattle.reader.specs.Syntax.{Expr, constant, local, one, two, Instr, assign, write, read, while, if, call, atomic, select, Block, end, step}
 use Rattle.reader.specs.Syntax as S
@@ -21,10 +22,6 @@ Low n (constant v) = Unit {0}
 Low n (local x) = x < n
 Low n (one o a) = Low n a
 Low n (two o a b) = Low n a × Low n b
-
--- where an expression ends
-pub record Skips (t : List ℕ) (i r : ℕ) : Type 0 where
-  pub ends : (e : Expr) (j : ℕ) → ExprAt t i 16 e j → r ≡ j
 
 -- whatever expression stands at i, at most d deep, is written over the moved locals
 pub record Copies (t : List ℕ) (i d : ℕ) (o : List ℕ) (p : ℕ) (o′ : List ℕ) (r : Copied) : Type 0 where
@@ -196,6 +193,18 @@ pub record Tests (t : List ℕ) (i : ℕ) (s : Site) (l k : ℕ) (o : List ℕ) 
 pub record ExprsOf (t : List ℕ) (i k n : ℕ) (es : List Expr) (j : ℕ) : Type 0 where
   pub stand : ExprsAt t i k es j
   pub low : Each (Low n) es
+
+-- the flags that are set, and those of k expressions from i on
+pub record GathersMore (t : List ℕ) (i k : ℕ) (set r : List Bool) : Type 0 where
+  pub gives : (es : List Expr) (j : ℕ) → ExprsAt t i k es j → (x : ℕ) → x < 16 → getD r x false ≡ either (getD set x false) (mentions x es)
+
+-- the flags of k expressions
+pub record GathersEach (t : List ℕ) (i k : ℕ) (r : List Bool) : Type 0 where
+  pub gives : (es : List Expr) (j : ℕ) → ExprsAt t i k es j → Flags r es
+
+-- what is gathered from there on is gathered from here on
+pub record Gathering (t : List ℕ) (i k : ℕ) (set : List Bool) (i′ left : ℕ) : Type 0 where
+  pub back : {r : List Bool} → GathersMore t i′ left set r → GathersEach t i k r
 
 -- the loads of the variables of several expressions
 pub record LoadsEach (t : List ℕ) (i k : ℕ) (s : Site) (o : List ℕ) (p : ℕ) (o′ : List ℕ) (r : ℕ) : Type 0 where

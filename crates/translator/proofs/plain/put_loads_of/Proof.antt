@@ -9,5 +9,6 @@ put-loads-of-spec =
     tie.close
     (tie.spec
     (λ c κs. search needs)
+    (λ c κs. search needs)
     (λ c. search needs)
-    (λ c. ?))
+    (λ c. search plain-ways))
