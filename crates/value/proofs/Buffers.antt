@@ -1,6 +1,6 @@
 -- Values written into a buffer.
-use mathlib.Core.Path.{_≡_, refl, sym, _∙_}
-use mathlib.Core.Bool.{Bool, true, false}
+use mathlib.Core.Path.{_≡_, refl}
+use mathlib.Core.Bool.{true, false}
 use mathlib.Core.List.{List, [], _∷_}
 use Prim.Native.Nat.{ℕ, suc, _+_, _≤_, _<_}
 use native.Mathlib.Numerals.{add-one}
@@ -8,7 +8,7 @@ use native.Mathlib.Omega.{arith}
 use lib.ListN.{length, set}
 use lib.Seq.{sets}
 use borrow.Author.Tests.{le-leb, lt-leb}
-use Rattle.value.specs.Values.{bytes, cellBytes, cellKind, cellNumber, room, withValue}
+use Rattle.value.specs.Values.{bytes, cellKind, cellNumber, room, withValue}
 use Rattle.value.specs.Laws.Cells.{cell-parts}
 use Rattle.value.specs.declared.Value.{Value}
 

@@ -5,16 +5,16 @@ use mathlib.Core.Bool.{Bool, true, false, _&&_}
 use mathlib.Core.List.{List, [], _∷_}
 use Prim.Native.Nat.{ℕ, suc, _-_, _^_}
 use native.Mathlib.Omega.{arith}
-use lib.IntN.{ℤ, pos, negsuc, negℤ}
+use lib.IntN.{ℤ, pos, negsuc}
 use lib.Signed.{mag, ltZ}
-use lib.Dec.{T, leb, ltb, eqb}
+use lib.Dec.{T, leb, eqb}
 use borrow.Author.Tests.{ne-eqb, eq-eqb, eqb-true, eqb-false, ltb-true, ltb-false, le-ltb, lt-ltb, le-leb, lt-leb, leb-true}
 use mir.Syntax.{w32, w64}
 use mir.Val.{SFits, ofZ, toZ, hasKey}
 use types.Run.{OneOf, miss}
 use denote.Enum.Declared.{tagOf}
 use Rattle.value.proofs.Value.{the-type}
-use Rattle.value.specs.Maybe.{Maybe, is, nothing, when, both}
+use Rattle.value.specs.Maybe.{Maybe, is, nothing, both}
 use Rattle.value.specs.Values.{whole, wholes, truths, same, sameZ, sameB, apply₁, not, neg}
 use Rattle.value.specs.Marks.{kindOf, ofKind}
 use Rattle.value.specs.Laws.Tests.{by-test, never}

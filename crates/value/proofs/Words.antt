@@ -1,6 +1,6 @@
 -- Two's complement in 32 bits, as the code computes it at 64.
 use mathlib.Core.Path.{_≡_, refl, sym, ap, _∙_}
-use mathlib.Core.Bool.{Bool, true, false, cond}
+use mathlib.Core.Bool.{true, false}
 use Prim.Native.Nat.{ℕ, suc, _-_, _^_, _≤_, _<_}
 use native.Mathlib.Nat.{not-suc-le-zero}
 use native.Mathlib.Omega.{arith}
@@ -9,9 +9,8 @@ use lib.Signed.{ltZ}
 use lib.Dec.{ltb}
 use borrow.Author.Tests.{ltb-true, le-ltb, lt-ltb}
 use mir.Syntax.{w32, w64}
-use mir.Val.{SFits, Fits, ofZ, toZ, sel}
+use mir.Val.{SFits, Fits, toZ}
 use mir.ValLaws.{toZ-pos, toZ-fits}
-use Rattle.value.specs.Maybe.{pick}
 use Rattle.value.specs.Values.{word, unword}
 use Rattle.value.specs.Laws.Tests.{by-test, never}
 use Rattle.value.specs.Laws.Bytes.{word-fits}

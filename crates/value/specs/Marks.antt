@@ -8,7 +8,6 @@ use Rattle.value.specs.Maybe.{Maybe, nothing, either}
 use Rattle.value.specs.Values.{One, not, neg, Two, add, sub, mul, less, equal, and, apply₁, apply₂}
 use Rattle.value.specs.declared.Value.{Value}
 use Rattle.value.specs.declared.Value.the-variants.{Whole, Location, Truth}
-use Rattle.value.specs.declared.marks.Row.{Row}
 
 -- "10, 11, 12: add, subtract, multiply; 13 less; 14 equal; 15 and"
 abbrev pub mark₂ : Two → ℕ
@@ -76,11 +75,18 @@ kindOf (Truth b) = 3
 abbrev pub ofKind : ℕ → Value → Bool
 ofKind k v = either (eqb k 0) (eqb (kindOf v) k)
 
+-- a mark's operands, their kind, the kind of the result, and the bytes that follow the mark before any operand
+pub record Row : Type 0 where
+  pub operands : ℕ
+  pub takes : ℕ
+  pub gives : ℕ
+  pub payload : ℕ
+
 -- a row of the table
 abbrev pub row : ℕ → ℕ → ℕ → ℕ → Row
 row count taken given after = record { operands = count; takes = taken; gives = given; payload = after }
 
--- a mark's operands, their kind, the kind of the result, and the bytes that follow the mark before any operand; 9 operands: no mark
+-- the row of a mark; 9 operands: no mark
 abbrev pub rowOf : Mark → Row
 rowOf wholeMark = row 0 0 1 4
 rowOf locationMark = row 0 0 2 2

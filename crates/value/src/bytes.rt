@@ -39,14 +39,14 @@ pub fn byte_at(t: &[u8], at: usize) -> u8
 }
 
 // The number of two bytes, the low one first.
-fn pair(low: u8, high: u8) -> u16
+pub fn pair(low: u8, high: u8) -> u16
     ensures { λ r. ⌜ r ≡ low + 256 * high ⌝ }
 {
     (low as u16) + 256 * (high as u16)
 }
 
 // The number of two pairs of bytes, the low one first.
-fn join(low: u16, high: u16) -> u32
+pub fn join(low: u16, high: u16) -> u32
     ensures { λ r. ⌜ r ≡ low + 65536 * high ⌝ }
 {
     (low as u32) + 65536 * (high as u32)

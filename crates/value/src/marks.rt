@@ -1,7 +1,7 @@
-// The table of marks, by mark byte 00 to 17.
+// The constant table by mark byte, 00 to 17: operand count, operand kind, result kind and payload, a column each.
 use super::Value;
 ghost use mathlib.Core.Path.{_≡_};
-ghost use Rattle.value.specs.Marks.{markOf, rowOf, operandsOf, takesOf, givesOf, payloadOf, kindOf, ofKind};
+ghost use Rattle.value.specs.Marks.{operandsOf, takesOf, givesOf, payloadOf, kindOf, ofKind};
 
 // The kinds of values. ANY is the operand kind of "equal (two of one kind)", and of a mark without operands.
 pub const ANY: u8 = 0;
@@ -15,166 +15,156 @@ pub const TRUTH: u8 = 3;
 // The operand count of a byte that is no mark.
 pub const NO_MARK: u8 = 9;
 
-// What the table says of a mark: operand count, operand kind, result kind, and the bytes that follow the mark before any operand.
-pub struct Row {
-    pub operands: u8,
-    pub takes: u8,
-    pub gives: u8,
-    pub payload: u8,
-}
-
-// A byte that is no mark.
-const OTHER: Row = Row {
-    operands: NO_MARK,
-    takes: ANY,
-    gives: ANY,
-    payload: 0,
-};
-
-// 01: four bytes follow.
-const NUMBER: Row = Row {
-    operands: 0,
-    takes: ANY,
-    gives: WHOLE,
-    payload: 4,
-};
-
-// 02: two bytes follow.
-const PLACE: Row = Row {
-    operands: 0,
-    takes: ANY,
-    gives: LOCATION,
-    payload: 2,
-};
-
-// 03, 04.
-const FLAG: Row = Row {
-    operands: 0,
-    takes: ANY,
-    gives: TRUTH,
-    payload: 0,
-};
-
-// 05: one byte follows.
-const LOCAL: Row = Row {
-    operands: 0,
-    takes: ANY,
-    gives: ANY,
-    payload: 1,
-};
-
-// 10, 11, 12: add, subtract, multiply.
-const ARITHMETIC: Row = Row {
-    operands: 2,
-    takes: WHOLE,
-    gives: WHOLE,
-    payload: 0,
-};
-
-// 13.
-const LESS: Row = Row {
-    operands: 2,
-    takes: WHOLE,
-    gives: TRUTH,
-    payload: 0,
-};
-
-// 14.
-const EQUAL: Row = Row {
-    operands: 2,
-    takes: ANY,
-    gives: TRUTH,
-    payload: 0,
-};
-
-// 15.
-const AND: Row = Row {
-    operands: 2,
-    takes: TRUTH,
-    gives: TRUTH,
-    payload: 0,
-};
-
-// 16.
-const NOT: Row = Row {
-    operands: 1,
-    takes: TRUTH,
-    gives: TRUTH,
-    payload: 0,
-};
-
-// 17.
-const NEGATE: Row = Row {
-    operands: 1,
-    takes: WHOLE,
-    gives: WHOLE,
-    payload: 0,
-};
-
-// By mark byte, 00 to 17.
-const ROWS: [Row; 24] = [
-    OTHER,
-    NUMBER,
-    PLACE,
-    FLAG,
-    FLAG,
-    LOCAL,
-    OTHER,
-    OTHER,
-    OTHER,
-    OTHER,
-    OTHER,
-    OTHER,
-    OTHER,
-    OTHER,
-    OTHER,
-    OTHER,
-    ARITHMETIC,
-    ARITHMETIC,
-    ARITHMETIC,
-    LESS,
-    EQUAL,
-    AND,
-    NOT,
-    NEGATE,
+// How many operands each mark has.
+pub const OPERANDS: [u8; 24] = [
+    NO_MARK,
+    0,
+    0,
+    0,
+    0,
+    0,
+    NO_MARK,
+    NO_MARK,
+    NO_MARK,
+    NO_MARK,
+    NO_MARK,
+    NO_MARK,
+    NO_MARK,
+    NO_MARK,
+    NO_MARK,
+    NO_MARK,
+    2,
+    2,
+    2,
+    2,
+    2,
+    2,
+    1,
+    1,
 ];
 
-// The row of a byte.
-pub fn row_of(mark: u8) -> Row
-    ensures { λ r. ⌜ r ≡ rowOf (markOf mark) ⌝ }
-{
-    if mark < 24 {
-        return ROWS[mark as usize];
-    }
-    OTHER
-}
+// The kind of its operands.
+pub const TAKES: [u8; 24] = [
+    ANY,
+    ANY,
+    ANY,
+    ANY,
+    ANY,
+    ANY,
+    ANY,
+    ANY,
+    ANY,
+    ANY,
+    ANY,
+    ANY,
+    ANY,
+    ANY,
+    ANY,
+    ANY,
+    WHOLE, // add
+    WHOLE, // subtract
+    WHOLE, // multiply
+    WHOLE, // less
+    ANY, // equal
+    TRUTH, // and
+    TRUTH, // not
+    WHOLE, // negate
+];
 
-// How many operands a mark has: NO_MARK of a byte that is none.
+// The kind of its result.
+pub const GIVES: [u8; 24] = [
+    ANY,
+    WHOLE,
+    LOCATION,
+    TRUTH,
+    TRUTH,
+    ANY,
+    ANY,
+    ANY,
+    ANY,
+    ANY,
+    ANY,
+    ANY,
+    ANY,
+    ANY,
+    ANY,
+    ANY,
+    WHOLE,
+    WHOLE,
+    WHOLE,
+    TRUTH,
+    TRUTH,
+    TRUTH,
+    TRUTH,
+    WHOLE,
+];
+
+// The bytes that follow it before any operand.
+pub const PAYLOAD: [u8; 24] = [
+    0,
+    4,
+    2,
+    0,
+    0,
+    1,
+    0,
+    0,
+    0,
+    0,
+    0,
+    0,
+    0,
+    0,
+    0,
+    0,
+    0,
+    0,
+    0,
+    0,
+    0,
+    0,
+    0,
+    0,
+];
+
+// How many operands a byte has as a mark: NO_MARK, if it is none.
 pub fn operands(mark: u8) -> u8
     ensures { λ r. ⌜ r ≡ operandsOf mark ⌝ }
 {
-    row_of(mark).operands
+    if mark < 24 {
+        return OPERANDS[mark as usize];
+    }
+    NO_MARK
 }
 
 // The kind of its operands.
 pub fn takes(mark: u8) -> u8
     ensures { λ r. ⌜ r ≡ takesOf mark ⌝ }
 {
-    row_of(mark).takes
+    if mark < 24 {
+        return TAKES[mark as usize];
+    }
+    ANY
 }
 
 // The kind of its result.
 pub fn gives(mark: u8) -> u8
     ensures { λ r. ⌜ r ≡ givesOf mark ⌝ }
 {
-    row_of(mark).gives
+    if mark < 24 {
+        return GIVES[mark as usize];
+    }
+    ANY
 }
 
 // The bytes that follow it before any operand.
 pub fn payload(mark: u8) -> u8
     ensures { λ r. ⌜ r ≡ payloadOf mark ⌝ }
 {
-    row_of(mark).payload
+    if mark < 24 {
+        return PAYLOAD[mark as usize];
+    }
+    0
 }
 
 // The kind of a value.

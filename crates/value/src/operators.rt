@@ -9,7 +9,7 @@ const LOWEST: i64 = -2147483648;
 
 const HIGHEST: i64 = 2147483647;
 
-// The whole number, where it is in the range.
+// The whole number, where it is in the range: "nothing wraps and nothing is clamped".
 fn narrow(x: i64) -> Answer
     ensures { λ r. ⌜ given r ≡ whole x ⌝ }
 {
@@ -17,7 +17,7 @@ fn narrow(x: i64) -> Answer
         return Answer::Nothing;
     }
     if HIGHEST < x {
-        return Answer::Nothing;
+        return Answer::Nothing; // not HIGHEST
     }
     Answer::Is(Value::Whole(x as i32))
 }
@@ -85,7 +85,7 @@ pub fn equal(left: Value, right: Value) -> Answer
     match left {
         Value::Whole(a) => {
             let Value::Whole(b) = right else {
-                return Answer::Nothing;
+                return Answer::Nothing; // not false
             };
             Answer::Is(Value::Truth(a == b))
         }

@@ -2,16 +2,17 @@
 -- Refusals.antt shows that a number is answered exactly if it is the smallest that applies.
 use Prim.Native.Nat.{ℕ, zero, suc, _-_, _≤_}
 use mathlib.Core.Path.{_≡_}
-use mathlib.Core.Bool.{true}
 use mathlib.Core.List.{List, [], _∷_, _++_}
 use lib.ListN.{length}
 use Rattle.value.specs.Lists.{sum}
 use Rattle.value.specs.Laws.Lists.{Each}
 use Rattle.reader.specs.Syntax.{Program, Plain, Kind}
 use Rattle.reader.specs.Encode.{Head, Middle, middle, Trailer, trailer, kindMark, distance, table, bodiesOf}
-use Rattle.reader.specs.Rules.{limits, starts, allAllowed, allNamed, fewLabels, noCycle, setFirst, Verdict, accepted, require}
+use Rattle.reader.specs.Rules.{limits, starts, allNamed, fewLabels, noCycle, setFirst, Verdict, accepted, require}
 use Rattle.reader.specs.Laws.Names.{Takes, AllNames}
 use Rattle.reader.specs.Laws.Depths.{BodyRight}
+use Rattle.reader.specs.Laws.Permits.{AllPermitted}
+use Rattle.reader.specs.Laws.SetFirst.{SetFirst}
 use Rattle.reader.specs.Laws.Fits.{BlockFits}
 use Rattle.reader.specs.Laws.Sections.{MiddleFits, TrailerFits}
 use Rattle.reader.specs.Laws.Sound.{Within, LocalsRight, FewLabels, NoCycle}
@@ -65,7 +66,7 @@ pub record Formed (k : Kind) (t : List ℕ) (p : Program Plain) : Type 0 where
   pub cells : sum (p .sizes) ≤ limits k .cells
   pub mains : Each (λ m. Takes (p .procs) m 0) (starts k (p .mains))
   pub bodies : Each BodyRight (bodiesOf (p .procs))
-  pub allowed : allAllowed k 0 (bodiesOf (p .procs)) ≡ true
+  pub allowed : AllPermitted k 0 (bodiesOf (p .procs))
   -- beyond Sound: each number fits its bytes, so p is the one program of this table
   pub fits : Each (BlockFits 16) (bodiesOf (p .procs))
 
@@ -79,7 +80,7 @@ pub data Upto (k : Kind) (t : List ℕ) : ℕ → Type 0 where
   upto5 : {p : Program Plain} → Formed k t p → AllNames p → Upto k t 5
   upto6 : {p : Program Plain} → Formed k t p → AllNames p → FewLabels k p → Upto k t 6
   upto7 : {p : Program Plain} → Formed k t p → AllNames p → FewLabels k p → NoCycle p → Upto k t 7
-  upto8 : {p : Program Plain} → Formed k t p → AllNames p → FewLabels k p → NoCycle p → setFirst p ≡ true → Upto k t 8
+  upto8 : {p : Program Plain} → Formed k t p → AllNames p → FewLabels k p → NoCycle p → SetFirst p → Upto k t 8
 
 -- what rules 1 to 4 leave of the verdict: 5 to 8
 abbrev pub judged : Kind → Program Plain → Verdict

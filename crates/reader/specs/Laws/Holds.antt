@@ -13,7 +13,7 @@ use Rattle.reader.specs.Syntax.{Block, Program, Plain, Kind}
 use Rattle.reader.specs.Encode.{each, Middle, Trailer, heads, bodiesOf, middleOf, front, trailerOf, block, kindMark, distance}
 use Rattle.reader.specs.Encode as E
 use Rattle.reader.specs.Decode.{but, last}
-use Rattle.reader.specs.Rules.{limits, starts, placed, bind, allAllowed, program, setFirst, rightRecords, Verdict, accepted, refused, demand, require, verdict}
+use Rattle.reader.specs.Rules.{limits, starts, placed, bind, program, rightRecords, Verdict, accepted, refused, demand, require, verdict}
 use Rattle.value.specs.Laws.Bytes.{Bytes}
 use Rattle.reader.specs.Laws.Ranges.{body-right}
 use Rattle.reader.specs.Laws.Reading.{If, so, none, chain, tested}
@@ -22,6 +22,8 @@ use Rattle.reader.specs.Laws.Fits.{BlockFits}
 use Rattle.reader.specs.Laws.Blocks.{bodies-exact}
 use Rattle.reader.specs.Laws.Sections.{All, finish-only, MiddleFits, middle-exact, TrailerFits, trailer-exact, but-last, bytes-but, bytes-last}
 use Rattle.reader.specs.Laws.Calls.{no-cycle?}
+use Rattle.reader.specs.Laws.Permits.{AllPermitted, all-permitted?}
+use Rattle.reader.specs.Laws.SetFirst.{SetFirst, set-first?}
 use Rattle.reader.specs.Laws.Sound.{Within, FewLabels, NoCycle}
 use Rattle.reader.specs.Laws.Formed.{RightTrailer, RightCounts, HeadRight, Begun, RightRecords, Formed}
 use Rattle.reader.specs.Laws.Formed.{Upto, upto0, upto1, upto2, upto3, upto4, upto5, upto6, upto7}
@@ -33,13 +35,13 @@ record Made (k : Kind) (code : List ℕ) (m : Middle) (p : Program Plain) : Type
   bodies : code ≡ each block (bodiesOf (p .procs))
   middle : m ≡ middleOf p
   fit : Each (BlockFits 16) (bodiesOf (p .procs))
-  allowed : allAllowed k 0 (bodiesOf (p .procs)) ≡ true
+  allowed : AllPermitted k 0 (bodiesOf (p .procs))
 
 -- what is read as the program of these bodies and records is made of them
 program-only : (k : Kind) (code : List ℕ) (m : Middle) → Bytes code → If (Made k code m) (program k code m)
 program-only k code m h =
     chain _ (finish-only (bodies-exact (length (m .heads))) code h) λ bs read.
-    tested _ (itself (placed 0 (m .heads) bs) and itself (allAllowed k 0 bs)) λ right.
+    tested _ (itself (placed 0 (m .heads) bs) and all-permitted? k 0 bs) λ right.
     let same : bodiesOf (bind (m .heads) bs) ≡ bs = bodies-bind (m .heads) bs (read .fits .0) in
     so (made bs same (read .same) (heads-bind 0 (m .heads) bs (right .0)) (read .fits .1) (right .1))
   where
@@ -47,7 +49,7 @@ program-only k code m h =
     of bs = record { procs = bind (m .heads) bs; sizes = m .sizes; mains = m .mains }
 
     made : (bs : List (Block Plain)) → bodiesOf (bind (m .heads) bs) ≡ bs → code ≡ each block bs → heads 0 (bind (m .heads) bs) ≡ m .heads
-        → Each (BlockFits 16) bs → allAllowed k 0 bs ≡ true → Made k code m (of bs)
+        → Each (BlockFits 16) bs → AllPermitted k 0 bs → Made k code m (of bs)
     made bs same bytes heads fit allowed = record { bodies = rw same bytes; middle = rw heads; fit = rw same fit; allowed = rw same allowed }
 
 -- two parts, joined
@@ -125,7 +127,7 @@ formed-by k t {rest} {code} {r} {m} {p} closed counts records made =
 module _ (k : Kind) (t : List ℕ) where
   -- the rules that hold of t, by its verdict
   pub data Holds : Verdict → Type 0 where
-    passes : {p : Program Plain} → Formed k t p → AllNames p → FewLabels k p → NoCycle p → setFirst p ≡ true → Holds (accepted p)
+    passes : {p : Program Plain} → Formed k t p → AllNames p → FewLabels k p → NoCycle p → SetFirst p → Holds (accepted p)
     stops : {n : ℕ} → Upto k t n → Holds (refused (suc n))
 
   -- through a step that may be missing
@@ -158,5 +160,5 @@ module _ (k : Kind) (t : List ℕ) where
       required 4 _ (upto4 formed) (all-names? p) λ named.
       required 5 _ (upto5 formed named) (labels? k p) λ labels.
       required 6 _ (upto6 formed named labels) (no-cycle? p) λ calls.
-      required 7 _ (upto7 formed named labels calls) (itself (setFirst p)) λ set.
+      required 7 _ (upto7 formed named labels calls) (set-first? p) λ set.
       passes formed named labels calls set

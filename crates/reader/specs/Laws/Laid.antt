@@ -17,7 +17,9 @@ use Rattle.reader.specs.Encode.{each, block, bodiesOf, table}
 use Rattle.reader.specs.Tokens.{twoAt, fourAt, tokens}
 use Rattle.reader.specs.Laws.Fits.{BlockFits}
 use Rattle.reader.specs.Laws.Formed.{Formed}
-use Rattle.reader.specs.Rules.{limits}
+use Rattle.reader.specs.Rules.{limits, allNamed}
+use Rattle.reader.specs.Laws.Names.{Names, all-names?}
+use Rattle.reader.specs.Laws.Sound.{LocalsRight}
 use Rattle.reader.specs.Laws.Grammar.{BlockAt}
 use Rattle.reader.specs.Laws.Stands.{Stands, first, others, four-bytes}
 use Rattle.reader.specs.Laws.Procs.{body-at}
@@ -30,6 +32,11 @@ pub record Laid (t : List ℕ) (P R : ℕ) (p : Program Plain) : Type 0 where
   pub formed : Formed kind t p
   pub procs : P ≡ length (p .procs)
   pub records : R ≡ recordsAt p
+
+-- and each name means something
+pub record Named (t : List ℕ) (P R : ℕ) (p : Program Plain) : Type 0 where
+  pub laid : Laid t P R p
+  pub named : allNamed p ≡ true
 
 -- the records are in the table
 pub record Room (t : List ℕ) (P R : ℕ) : Type 0 where
@@ -104,6 +111,28 @@ module _ {t : List ℕ} {P R : ℕ} {p : Program Plain} (laid : Laid t P R p) {m
   -- as tokens
   pub body-row : Row t (bodyAt (p .procs) m) (tokens (procOf p m .body)) (bodyAt (p .procs) (m + 1))
   body-row = row (procOf p m .body) (body-here .fits .1) (body-here .stands)
+
+-- at most 32 locals
+few-locals : (k : Kind) → limits k .locals ≤ 32
+few-locals concurrent = omega arith
+few-locals sequential = omega arith
+
+-- what rules 3 and 5 say of procedure m
+pub record ProcNamed (p : Program Plain) (m : ℕ) : Type 0 where
+  pub params : procOf p m .params ≤ procOf p m .locals
+  pub locals : procOf p m .locals ≤ 32
+  pub names : Names p (procOf p m .locals) (procOf p m .body)
+
+-- they say it
+pub proc-named : {t : List ℕ} {P R : ℕ} {p : Program Plain} → Named t P R p → {m : ℕ} → m < P → ProcNamed p m
+proc-named {p = p} named {m} below = record {
+  params = right .params;
+  locals = omega (arith, right .locals, few-locals (named .laid .kind));
+  names = each-at (λ q. Names p (q .locals) (q .body)) (p .procs) m (all-names? p .so (named .named)) (proc-at (named .laid) below);
+}
+  where
+    right : LocalsRight (limits (named .laid .kind) .locals) (procOf p m)
+    right = each-at (LocalsRight (limits (named .laid .kind) .locals)) (p .procs) m (named .laid .formed .locals) (proc-at (named .laid) below)
 
 -- ---- where a body ends, as the code finds it
 

@@ -159,12 +159,12 @@ module _ (t : List ℕ) (P M R X i e : ℕ) where
 -- ---- all tokens of a body together
 
 -- both, in another grouping
-both-both : (a b c : Bool) → both (both a b) c ≡ both a (both b c)
+pub both-both : (a b c : Bool) → both (both a b) c ≡ both a (both b c)
 both-both true b c = refl
 both-both false b c = refl
 
 -- nothing more
-both-true : (a : Bool) → both a true ≡ a
+pub both-true : (a : Bool) → both a true ≡ a
 both-true true = refl
 both-true false = refl
 

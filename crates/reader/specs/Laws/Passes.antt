@@ -14,12 +14,13 @@ use Rattle.reader.specs.Encode.{each, Middle, Trailer, heads, bodiesOf, 
 use Rattle.reader.specs.Encode as E
 use Rattle.reader.specs.Decode.{times, finish, but, last}
 use Rattle.reader.specs.Decode as D
-use Rattle.reader.specs.Rules.{Limits, limits, rightCounts, rightRecords, placed, starts, allAllowed, program, Verdict, demand, require, verdict}
+use Rattle.reader.specs.Rules.{Limits, limits, rightCounts, rightRecords, placed, starts, program, Verdict, demand, require, verdict}
 use Rattle.reader.specs.Laws.Reading.{test-passed}
 use Rattle.reader.specs.Laws.Names.{Takes}
 use Rattle.reader.specs.Laws.Blocks.{bodies-exact}
 use Rattle.reader.specs.Laws.Sections.{finish-undoes, HeadFits, middle-exact, trailer-exact, but-append, last-append}
 use Rattle.reader.specs.Laws.Sections.{length-middle}
+use Rattle.reader.specs.Laws.Permits.{all-permitted?}
 use Rattle.reader.specs.Laws.Sound.{Within, LocalsRight}
 use Rattle.reader.specs.Laws.Formed.{RightTrailer, RightCounts, HeadRight, Begun, RightRecords, Formed, judged}
 use Rattle.reader.specs.Laws.Heads.{placed-heads, bind-heads, length-heads, length-bodies}
@@ -174,7 +175,7 @@ module _ (k : Kind) (t : List ℕ) (p : Program Plain) (formed : Formed k t p) w
       let bodies : finish (times (D.block 16) (length (heads 0 (p .procs))) (each block (bodiesOf (p .procs)))) ≡ is (bodiesOf (p .procs))
       = finish-undoes (bodies-exact _) (bodiesOf (p .procs)) (length-bodies (p .procs) ∙ sym (length-heads 0 (p .procs)), formed .fits) in
       rw (cut-code k t formed-trailer formed-records, bodies)
-      (test-passed _ (itself (placed 0 (heads 0 (p .procs)) (bodiesOf (p .procs))) and itself (allAllowed k 0 (bodiesOf (p .procs))))
+      (test-passed _ (itself (placed 0 (heads 0 (p .procs)) (bodiesOf (p .procs))) and all-permitted? k 0 (bodiesOf (p .procs)))
       (placed-heads 0 (p .procs), formed .allowed)
       ∙ rw (bind-heads 0 (p .procs)))
 

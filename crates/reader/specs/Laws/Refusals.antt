@@ -24,6 +24,7 @@ use Rattle.reader.specs.Laws.Places.{middleAt, middle-there}
 use Rattle.reader.specs.Laws.Judged.{trailer?, labels?}
 use Rattle.reader.specs.Laws.Names.{all-names?}
 use Rattle.reader.specs.Laws.Calls.{no-cycle?}
+use Rattle.reader.specs.Laws.SetFirst.{set-first?}
 use Rattle.reader.specs.Laws.Passes.{left1, left2, left3, passes1, passes2, passes3, formed-judged}
 use Rattle.reader.specs.Laws.Passes.{trailer-read, middle-read, program-read, formed-trailer, formed-counts, formed-records}
 use Rattle.reader.specs.Laws.Holds.{Holds, passes, stops, holds}
@@ -123,7 +124,7 @@ up-to-later k t (upto6 {p = p} formed named labels) =
 up-to-later k t (upto7 {p = p} formed named labels calls) =
     rw (formed-judged k t formed, all-names? p .of named, labels? k p .of labels, no-cycle? p .of calls) (later8 k p (omega arith))
 up-to-later k t (upto8 {p = p} formed named labels calls set) =
-    rw (formed-judged k t formed, all-names? p .of named, labels? k p .of labels, no-cycle? p .of calls, set) none
+    rw (formed-judged k t formed, all-names? p .of named, labels? k p .of labels, no-cycle? p .of calls, set-first? p .of set) none
 
 -- ---- which number is answered
 

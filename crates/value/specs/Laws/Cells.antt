@@ -1,21 +1,20 @@
 -- The five bytes of a value: reading undoes writing, and accepts nothing else.
-use Prim.Native.Nat.{ℕ, suc, _+_, _*_, _^_, _≤_, _<_}
+use Prim.Native.Nat.{ℕ, suc, _+_, _^_, _≤_, _<_}
 use native.Mathlib.Omega.{arith}
 use native.Mathlib.Numerals.{add-one}
-use mathlib.Core.Path.{_≡_, refl, sym, ap, subst, _∙_}
+use mathlib.Core.Path.{_≡_, refl, sym, subst}
 use mathlib.Core.List.{List, [], _∷_, _++_, append-assoc}
-use mathlib.Core.Bool.{Bool, true, false}
-use lib.ListN.{length, getD, take, drop, length-take, length-drop}
-use lib.Seq.{drop-cons, length-take-le, take-all, sets, sets-eq, take-at, drop-at}
-use lib.IntN.{ℤ}
+use mathlib.Core.Bool.{true, false}
+use lib.ListN.{length, getD, take, drop, length-drop}
+use lib.Seq.{drop-cons, length-take-le, take-all, sets-eq, take-at, drop-at}
 use lib.Signed.{mag}
-use lib.Dec.{eqb, ltb, leb}
-use borrow.Author.Tests.{eqb-true, eq-eqb, ne-eqb, ltb-true, lt-ltb, le-leb}
-use Rattle.value.specs.Maybe.{is, nothing, when, pick}
-use Rattle.value.specs.Values.{bytes, unbytes, word, unword, cellBytes, cellKind, cellNumber, valueOf, unCell, numberAt, withValue}
+use lib.Dec.{eqb, ltb}
+use borrow.Author.Tests.{eqb-true, ne-eqb, ltb-true, lt-ltb, le-leb}
+use Rattle.value.specs.Maybe.{is, nothing, pick}
+use Rattle.value.specs.Values.{bytes, unbytes, cellBytes, cellKind, cellNumber, valueOf, unCell, numberAt, withValue}
 use Rattle.value.specs.Laws.Maybes.{is-inj, missing, when-is}
 use Rattle.value.specs.Laws.Tests.{by-test}
-use Rattle.value.specs.Laws.Bytes.{Bytes, bytes-unbytes, unbytes-bytes, unbytes-fits, length-bytes, word-fits, unword-word, word-unword, number-at}
+use Rattle.value.specs.Laws.Bytes.{Bytes, bytes-unbytes, unbytes-bytes, unbytes-fits, word-fits, unword-word, word-unword, number-at}
 use Rattle.value.specs.declared.Value.{Value}
 use Rattle.value.specs.declared.Value.the-variants.{Whole, Location, Truth}
 

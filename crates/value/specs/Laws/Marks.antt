@@ -1,8 +1,7 @@
 -- The table of marks: each byte is the mark that the table says, and what each row says of an operator is so.
 use Prim.Native.Nat.{ℕ, zero, suc, _≤_, _<_}
 use native.Mathlib.Nat.{le-of-suc-le-suc, not-suc-le-zero}
-use native.Mathlib.Omega.{arith}
-use mathlib.Core.Path.{_≡_, refl, sym, ap, _∙_}
+use mathlib.Core.Path.{_≡_, refl, sym, ap}
 use mathlib.Core.Logic.{_≢_}
 use mathlib.Core.List.{List, [], _∷_, map}
 use mathlib.Core.Bool.{Bool, true, false}
@@ -11,16 +10,15 @@ use lib.IntN.{ℤ, negℤ, _+ℤ_, _-ℤ_, _*ℤ_}
 use lib.Signed.{mag}
 use lib.Dec.{eqb, ltb}
 use borrow.Author.Tests.{eqb-true}
-use Rattle.value.specs.Maybe.{Maybe, is, nothing, when, both}
+use Rattle.value.specs.Maybe.{Maybe, is, nothing, both}
 use Rattle.value.specs.Values.{One, not, neg, Two, add, sub, mul, less, equal, and, whole, wholes, same, truths, apply₁, apply₂}
 use Rattle.value.specs.Marks.{mark₁, mark₂, Mark, wholeMark, locationMark, noMark, yesMark, localMark, oneMark, twoMark, noExpr, marks, markOf}
-use Rattle.value.specs.Marks.{applied₁, applied₂, kindOf, ofKind, rowOf}
+use Rattle.value.specs.Marks.{applied₁, applied₂, kindOf, ofKind, Row, rowOf}
 use Rattle.value.specs.Laws.Maybes.{is-inj, missing, when-is}
 use Rattle.value.specs.Laws.Tests.{never}
 use Rattle.value.specs.Laws.Tables.{looked-up}
 use Rattle.value.specs.declared.Value.{Value}
 use Rattle.value.specs.declared.Value.the-variants.{Whole, Location, Truth}
-use Rattle.value.specs.declared.marks.Row.{Row}
 
 -- ---- each mark has its byte
 
@@ -89,15 +87,20 @@ no-two m v w n₁ n₂ n₃ n₄ n₅ n₆ = go (markOf m) (mark-right m)
 
 -- ---- the rows
 
--- the table by its rows: what f says of each mark stands at its byte
-pub mapped : {A B : Type 0} (f : A → B) (xs : List A) (d : A) (e : B) (n : ℕ) → n < length xs → getD (map f xs) n e ≡ f (getD xs n d)
+-- what is computed of each thing of a list stands at its place
+mapped : {A B : Type 0} (f : A → B) (xs : List A) (d : A) (e : B) (n : ℕ) → n < length xs → getD (map f xs) n e ≡ f (getD xs n d)
 mapped f [] d e n h = absurd (not-suc-le-zero h)
 mapped f (x ∷ xs) d e zero h = refl
 mapped f (x ∷ xs) d e (suc n) h = mapped f xs d e n (le-of-suc-le-suc h)
 
--- past the table there is no mark
-pub past-table : (m : ℕ) → 24 ≤ m → markOf m ≡ noExpr
-past-table m h = List·getD-eq-default marks noExpr h
+module _ (f : Row → ℕ) (m : ℕ) where
+  -- a column of the table, one entry after the other, is right at each
+  pub column : m < 24 → getD (map (λ k. f (rowOf k)) marks) m 0 ≡ f (rowOf (markOf m))
+  column h = mapped (λ k. f (rowOf k)) marks noExpr 0 m h
+
+  -- past the table there is no mark
+  pub past-table : 24 ≤ m → f (rowOf noExpr) ≡ f (rowOf (markOf m))
+  past-table h = ap (λ (k : Mark). f (rowOf k)) (sym (List·getD-eq-default marks noExpr h))
 
 -- what a row says of an operator on one value: one operand; "of the wrong kind, has none itself"; and the kind of a result
 pub record Says₁ (o : One) (r : Row) : Type 0 where

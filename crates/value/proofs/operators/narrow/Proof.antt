@@ -1,10 +1,8 @@
 -- `value::operators::narrow` meets its contract. The code reads its argument back from its bits.
-use mathlib.Core.Path.{_≡_, sym, ap, subst, _∙_}
-use mathlib.Core.Bool.{Bool, true, false}
-use lib.IntN.{ℤ, pos, negsuc}
-use lib.Signed.{ltZ}
+use mathlib.Core.Path.{ap, _∙_}
+use lib.IntN.{ℤ}
 use mir.Syntax.{w32, w64}
-use mir.Val.{SFits}
+use mir.Val.{SFits, ofZ, toZ}
 use mir.Facts.{toZ-ofZ}
 use Rattle.value.specs.Maybe.{is}
 use Rattle.value.specs.declared.Value.the-variants.{Whole}
@@ -18,8 +16,9 @@ fits c =
     let back = toZ-ofZ (c .before .before .fits .x) in
     within-fits (c .before .before .args .x) (rw back at (c .before .if1 .left)) (rw back at (c .if2 .left))
 
-cast-t3 : tie.Need-cast-t3
-cast-t3 c = rw (toZ-ofZ (c .before .before .fits .x)) (fits c)
+-- so has what the code reads of it
+read-fits : (c : tie.Else2) → SFits w32 (toZ w64 (ofZ w64 (c .before .before .args .x)))
+read-fits c = rw (toZ-ofZ (c .before .before .fits .x)) (fits c)
 
 pub narrow-spec : {M : Type 1} → statement M
 narrow-spec =
@@ -27,5 +26,5 @@ narrow-spec =
     (tie.spec
     (λ c. too-low (c .before .args .x) (rw (toZ-ofZ (c .before .fits .x)) at (c .if1 .taken)))
     (λ c. too-high (c .before .before .args .x) (rw (toZ-ofZ (c .before .before .fits .x)) at (c .if2 .taken)))
-    cast-t3
-    (λ c. ap (λ (z : ℤ). is (Whole z)) (toZ-ofZ (cast-t3 c) ∙ toZ-ofZ (c .before .before .fits .x)) ∙ within (fits c)))
+    read-fits
+    (λ c. ap (λ (z : ℤ). is (Whole z)) (toZ-ofZ (read-fits c) ∙ toZ-ofZ (c .before .before .fits .x)) ∙ within (fits c)))

@@ -1,6 +1,6 @@
 -- `value::operators::negate` meets its contract: the number is negated at 64 bits, and narrowed.
 use borrow.Author.Needs.{needs}
-use mathlib.Core.Path.{_≡_, sym, ap, _∙_}
+use mathlib.Core.Path.{sym, ap, _∙_}
 use mir.Syntax.{w32}
 use mir.Val.{SFits}
 use Rattle.value.specs.Values.{whole, apply₁, neg}

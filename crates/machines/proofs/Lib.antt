@@ -1,0 +1,4 @@
+-- What the proofs of this crate share.
+
+-- the range of a value that the code holds
+pub mod Values

@@ -1,0 +1,12 @@
+-- `reader::calls::body_leads` meets its contract.
+use borrow.Author.Needs.{needs}
+use Rattle.reader.specs.Laws.CallScans.{ways}
+use Rattle.reader.proofs.calls.body_leads.Statement.{statement}
+use Rattle.reader.proofs.calls.body_leads.Tie as tie
+
+pub body-leads-spec : {M : Type 1} → statement M
+body-leads-spec = tie.close (tie.spec
+    (λ c κs. search needs)
+    (λ c κs. search needs)
+    (λ c κs. search needs)
+    (λ c. search ways))

@@ -1,0 +1,15 @@
+use borrow.Author.Needs.{needs}
+use Rattle.reader.proofs.Rule3.{begun-ways}
+use borrow.Author.Needs.{needs}
+use Rattle.reader.proofs.records.begun.Statement.{statement}
+use Rattle.reader.proofs.records.begun.Tie as tie
+use Rattle.reader.proofs.records.begun.Reads as reads
+use Rattle.reader.proofs.records.begun.Lts as lts
+
+pub begun-spec : {M : Type 1} → statement M
+begun-spec = tie.close (tie.spec
+    (λ c. search needs)
+    (λ c. search needs)
+    (λ c. search needs)
+    (λ c. search begun-ways)
+    (λ c. search begun-ways))

@@ -1,0 +1,26 @@
+use borrow.Author.Needs.{needs}
+use Rattle.reader.proofs.Rule3.{MainsFrom, mains-ways}
+use Rattle.reader.proofs.records.right_mains.Statement.{statement}
+use Rattle.reader.proofs.records.right_mains.Tie as tie
+use Rattle.reader.proofs.records.right_mains.Reads as reads
+use Rattle.reader.proofs.records.right_mains.Lts as lts
+use Rattle.reader.proofs.records.begun.Reads as begun-reads
+use Rattle.value.proofs.bytes.two_bytes.Reads as two-bytes-reads
+
+abbrev Inv-loop : tie.InvT-loop
+Inv-loop body at count records procedures position₀ left₀ position left = MainsFrom body at count records procedures position left
+
+abbrev μ-loop : tie.MeasureT-loop
+μ-loop body at count records procedures position₀ left₀ position left = left
+
+pub right-mains-spec : {M : Type 1} → statement M
+right-mains-spec = tie.close (tie.spec Inv-loop μ-loop
+    (λ c. search mains-ways)
+    (λ c κs. search needs)
+    (λ c κs. search needs)
+    (λ c. search needs)
+    (λ c. search needs)
+    (λ c. search needs)
+    (λ c. search mains-ways)
+    (λ c. search mains-ways)
+    (λ c. search mains-ways))

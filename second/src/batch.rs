@@ -1,0 +1,201 @@
+//! Batches of cases: how a case is written down and which line answers it.
+//!
+//! A case is a header of 36 bytes, a table and a schedule. The header is: op (1 byte), 3 zero
+//! bytes, table length (4), schedule length (4), budget (8), h (4), cell buffer length (4), event
+//! buffer length (4), out buffer length (4), low byte first. A header whose op is 0 ends the batch.
+
+use crate::calls::*;
+use crate::line::line;
+
+pub const READ_CONCURRENT: u8 = 1;
+pub const READ_SEQUENTIAL: u8 = 2;
+pub const TRANSLATE: u8 = 3;
+pub const RUN_CONCURRENT: u8 = 4;
+pub const RUN_SEQUENTIAL: u8 = 5;
+/// The table is the run program's whole standard input.
+pub const LINE: u8 = 6;
+
+/// The lengths that a program without a heap has to be ready for.
+pub const LONGEST_TABLE: usize = 66_000;
+pub const LONGEST_SCHEDULE: usize = 5_000;
+pub const LONGEST_CELLS: u32 = 45_000;
+pub const LONGEST_EVENTS: u32 = 20_000;
+pub const LONGEST_OUT: u32 = 70_000;
+
+#[derive(Clone, PartialEq, Eq, Debug, Default)]
+pub struct Case {
+    pub op: u8,
+    pub table: Vec<u8>,
+    pub schedule: Vec<u8>,
+    pub budget: u64,
+    pub h: u32,
+    pub cells: u32,
+    pub events: u32,
+    pub out: u32,
+}
+
+impl Case {
+    /// Header, table and schedule.
+    pub fn bytes(&self) -> Vec<u8> {
+        let mut bytes = vec![self.op, 0, 0, 0];
+        bytes.extend((self.table.len() as u32).to_le_bytes());
+        bytes.extend((self.schedule.len() as u32).to_le_bytes());
+        bytes.extend(self.budget.to_le_bytes());
+        bytes.extend(self.h.to_le_bytes());
+        bytes.extend(self.cells.to_le_bytes());
+        bytes.extend(self.events.to_le_bytes());
+        bytes.extend(self.out.to_le_bytes());
+        bytes.extend(&self.table);
+        bytes.extend(&self.schedule);
+        bytes
+    }
+
+    /// True if the case keeps to the lengths above.
+    pub fn keeps_limits(&self) -> bool {
+        self.table.len() <= LONGEST_TABLE
+            && self.schedule.len() <= LONGEST_SCHEDULE
+            && self.cells <= LONGEST_CELLS
+            && self.events <= LONGEST_EVENTS
+            && self.out <= LONGEST_OUT
+    }
+
+    /// The line that answers the case, without its newline: op and the answer's numbers, then the
+    /// hash of each lent buffer.
+    pub fn answer(&self) -> String {
+        match self.op {
+            READ_CONCURRENT => read_line(self.op, read_concurrent(&self.table)),
+            READ_SEQUENTIAL => read_line(self.op, read_sequential(&self.table)),
+            TRANSLATE => self.translate_line(),
+            RUN_CONCURRENT | RUN_SEQUENTIAL => self.run_line(),
+            _ => format!("{} {}", self.op, line(&self.table)),
+        }
+    }
+
+    fn translate_line(&self) -> String {
+        let mut out = lent(self.out);
+        let answer = translate(&self.table, &mut out);
+        let hash = fnv(&out);
+        format!(
+            "{} {} {} {hash:016x}",
+            self.op, answer.number, answer.length
+        )
+    }
+
+    fn run_line(&self) -> String {
+        let mut cells = lent(self.cells);
+        let mut events = lent(self.events);
+        let answer = if self.op == RUN_CONCURRENT {
+            run_concurrent(&self.table, &self.schedule, &mut cells, &mut events)
+        } else {
+            run_sequential(
+                &self.table,
+                &self.schedule,
+                self.budget,
+                self.h,
+                &mut cells,
+                &mut events,
+            )
+        };
+        format!(
+            "{} {} {} {} {} {} {:016x} {:016x}",
+            self.op,
+            answer.number,
+            answer.end,
+            answer.steps,
+            answer.unused,
+            answer.events,
+            fnv(&cells),
+            fnv(&events)
+        )
+    }
+}
+
+/// The header that ends a batch.
+pub fn last_header() -> Vec<u8> {
+    Case::default().bytes()
+}
+
+fn read_line(op: u8, answer: ReadAnswer) -> String {
+    format!(
+        "{op} {} {} {} {} {} {}",
+        answer.number,
+        answer.procedures,
+        answer.locations,
+        answer.threads,
+        answer.labels,
+        answer.cells
+    )
+}
+
+/// A lent buffer before the call: byte i is (i * 7 + 13) mod 256.
+fn lent(length: u32) -> Vec<u8> {
+    (0..u64::from(length))
+        .map(|i| ((i * 7 + 13) % 256) as u8)
+        .collect()
+}
+
+/// FNV-1a with 64 bits.
+fn fnv(bytes: &[u8]) -> u64 {
+    bytes.iter().fold(0xCBF2_9CE4_8422_2325, |hash, byte| {
+        (hash ^ u64::from(*byte)).wrapping_mul(0x0000_0100_0000_01B3)
+    })
+}
+
+#[cfg(test)]
+mod tests {
+    use super::*;
+    use crate::samples::A;
+
+    #[test]
+    fn known_hashes() {
+        assert_eq!(fnv(b""), 0xCBF2_9CE4_8422_2325);
+        assert_eq!(fnv(b"a"), 0xAF63_DC4C_8601_EC8C);
+        assert_eq!(fnv(b"foobar"), 0x8594_4171_F739_67E8);
+    }
+
+    #[test]
+    fn a_case_in_bytes() {
+        let case = Case {
+            op: RUN_SEQUENTIAL,
+            table: vec![9, 8],
+            schedule: vec![7],
+            budget: 0x0102_0304_0506_0708,
+            h: 6,
+            cells: 5,
+            events: 258,
+            out: 3,
+        };
+        #[rustfmt::skip]
+        let expected = [
+            5, 0, 0, 0, 2, 0, 0, 0, 1, 0, 0, 0, 8, 7, 6, 5, 4, 3, 2, 1, 6, 0, 0, 0, 5, 0, 0, 0,
+            2, 1, 0, 0, 3, 0, 0, 0,
+            9, 8, 7,
+        ];
+        assert_eq!(case.bytes(), expected);
+        assert_eq!(last_header(), [0; 36]);
+    }
+
+    #[test]
+    fn lines_of_each_op() {
+        let case = |op| Case {
+            op,
+            table: A.to_vec(),
+            schedule: vec![0],
+            ..Case::default()
+        };
+        let empty = "cbf29ce484222325";
+        assert_eq!(case(READ_CONCURRENT).answer(), "1 0 1 0 1 1 0");
+        assert_eq!(case(READ_SEQUENTIAL).answer(), "2 1 0 0 0 0 0");
+        assert_eq!(case(TRANSLATE).answer(), format!("3 10 0 {empty}"));
+        assert_eq!(
+            case(RUN_CONCURRENT).answer(),
+            format!("4 0 0 1 0 0 {empty} {empty}")
+        );
+        assert_eq!(
+            case(RUN_SEQUENTIAL).answer(),
+            format!("5 1 0 0 0 0 {empty} {empty}")
+        );
+        assert_eq!(case(LINE).answer(), "6 refused 1");
+        assert_eq!(lent(3), [13, 20, 27]);
+    }
+}

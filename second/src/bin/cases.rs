@@ -1,0 +1,691 @@
+//! Writes a batch of cases and the lines that answer them.
+//!
+//! Usage: cases STDIN STDOUT. The batch goes to the file STDIN, the lines to the file STDOUT, and
+//! a summary to standard error. The seed is fixed, so both files are always the same.
+
+use second::batch::*;
+use second::builder::*;
+use second::calls::{read_concurrent, read_sequential, run_sequential, translate};
+use second::concurrent::Concurrent;
+use second::line::BUDGET;
+use second::program::{Instruction, Kind, Program};
+use second::random::{damaged, program_of, schedule_for, Random, Scale};
+use second::run_samples::{ran, Ran};
+use second::samples::{b, judged, number_9, one_thread, sequential, translating_to, Judged, A};
+use second::verdict::verdict;
+use second::write;
+use std::collections::BTreeMap;
+use std::fs;
+
+const SEED: u64 = 20_170_301;
+const RANDOM_PROGRAMS: usize = 500;
+const LARGE_PROGRAMS: usize = 4;
+const RANDOM_SEQUENTIAL_PROGRAMS: usize = 200;
+const LARGE_SEQUENTIAL_PROGRAMS: usize = 10;
+const DAMAGED_TABLES: usize = 500;
+
+fn main() -> std::io::Result<()> {
+    let paths: Vec<String> = std::env::args().skip(1).collect();
+    let [stdin, stdout] = paths.as_slice() else {
+        eprintln!("usage: cases STDIN STDOUT");
+        std::process::exit(2);
+    };
+    let batch = whole_batch();
+    fs::write(stdin, &batch.input)?;
+    fs::write(stdout, &batch.lines)?;
+    batch.print_summary();
+    Ok(())
+}
+
+fn whole_batch() -> Batch {
+    let mut batch = Batch {
+        section: "worked",
+        ..Batch::default()
+    };
+    worked(&mut batch);
+    batch.section = "judged tables";
+    judged_tables(&mut batch);
+    batch.section = "long copies";
+    long_copies(&mut batch);
+    batch.section = "runs";
+    runs(&mut batch);
+    batch.section = "schedules and cell buffers";
+    schedules(&mut batch);
+    cell_buffers(&mut batch);
+    batch.section = "inputs of the run program";
+    inputs(&mut batch);
+    let mut random = Random::new(SEED);
+    batch.section = "random programs";
+    for _ in 0..RANDOM_PROGRAMS {
+        random_program(Scale::Small, &mut batch, &mut random);
+    }
+    for _ in 0..LARGE_PROGRAMS {
+        random_program(Scale::Large, &mut batch, &mut random);
+    }
+    batch.section = "random sequential programs";
+    for _ in 0..RANDOM_SEQUENTIAL_PROGRAMS {
+        random_sequential_program(Scale::Small, &mut batch, &mut random);
+    }
+    for _ in 0..LARGE_SEQUENTIAL_PROGRAMS {
+        random_sequential_program(Scale::Large, &mut batch, &mut random);
+    }
+    batch.section = "damaged tables";
+    for number in 0..DAMAGED_TABLES {
+        damaged_table(number, &mut batch, &mut random);
+    }
+    batch.input.extend(last_header());
+    batch
+}
+
+/// The cases so far, their lines, and counts for the summary.
+#[derive(Default)]
+struct Batch {
+    input: Vec<u8>,
+    lines: String,
+    section: &'static str,
+    cases: BTreeMap<&'static str, usize>,
+    outcomes: BTreeMap<String, usize>,
+}
+
+impl Batch {
+    fn add(&mut self, case: Case) {
+        assert!(case.keeps_limits(), "a case is over a limit");
+        let line = case.answer();
+        *self.cases.entry(self.section).or_insert(0) += 1;
+        self.note(outcome(&line));
+        self.input.extend(case.bytes());
+        self.lines.push_str(&line);
+        self.lines.push('\n');
+    }
+
+    fn note(&mut self, what: String) {
+        *self.outcomes.entry(what).or_insert(0) += 1;
+    }
+
+    fn print_summary(&self) {
+        let cases: usize = self.cases.values().sum();
+        eprintln!("{cases} cases, {} bytes", self.input.len());
+        for (section, count) in &self.cases {
+            eprintln!("{count:6}  {section}");
+        }
+        eprintln!();
+        for (outcome, count) in &self.outcomes {
+            eprintln!("{count:6}  {outcome}");
+        }
+    }
+}
+
+/// What a line tells, for the summary.
+fn outcome(line: &str) -> String {
+    let words: Vec<&str> = line.split(' ').collect();
+    let name = match words[0] {
+        "1" => "read_concurrent",
+        "2" => "read_sequential",
+        "3" => "translate",
+        "4" => "run_concurrent",
+        "5" => "run_sequential",
+        _ => "line",
+    };
+    let result = match (words[0], words[1], words[2]) {
+        ("6", "refused", number) => format!("refused {number:>2}"),
+        ("6", end, _) => end.to_string(),
+        ("4" | "5", "0", end) => end_name(end).to_string(),
+        (_, "0", _) => "accepted".to_string(),
+        (_, number, _) => format!("refused {number:>2}"),
+    };
+    format!("{name}: {result}")
+}
+
+fn end_name(end: &str) -> &'static str {
+    match end {
+        "0" => "finished",
+        "1" => "used",
+        "2" => "blocked",
+        _ => "at its budget",
+    }
+}
+
+// ---- makers of one case ----
+
+fn read_case(kind: Kind, table: &[u8]) -> Case {
+    Case {
+        op: match kind {
+            Kind::Concurrent => READ_CONCURRENT,
+            Kind::Sequential => READ_SEQUENTIAL,
+        },
+        table: table.to_vec(),
+        ..Case::default()
+    }
+}
+
+fn translate_case(table: &[u8], out: u32) -> Case {
+    Case {
+        op: TRANSLATE,
+        table: table.to_vec(),
+        out,
+        ..Case::default()
+    }
+}
+
+fn run_case(kind: Kind, table: &[u8], schedule: &[u8], cells: u32, events: u32) -> Case {
+    Case {
+        op: match kind {
+            Kind::Concurrent => RUN_CONCURRENT,
+            Kind::Sequential => RUN_SEQUENTIAL,
+        },
+        table: table.to_vec(),
+        schedule: schedule.to_vec(),
+        budget: 1_000,
+        h: 1,
+        cells,
+        events,
+        ..Case::default()
+    }
+}
+
+fn line_case(schedule: &[u8], table: &[u8]) -> Case {
+    let mut input = (schedule.len() as u16).to_le_bytes().to_vec();
+    input.extend(schedule);
+    input.extend(table);
+    input_case(&input)
+}
+
+fn input_case(input: &[u8]) -> Case {
+    Case {
+        op: LINE,
+        table: input.to_vec(),
+        ..Case::default()
+    }
+}
+
+/// The copy of an accepted table whose copy is not too long.
+fn copy_of(table: &[u8]) -> Option<Vec<u8>> {
+    let mut out = vec![0; 65_536];
+    let answer = translate(table, &mut out);
+    out.truncate(answer.length as usize);
+    (answer.number == 0).then_some(out)
+}
+
+/// The bytes that the cells of a table need; 100 where it is refused.
+fn cell_bytes(kind: Kind, table: &[u8]) -> u32 {
+    let answer = match kind {
+        Kind::Concurrent => read_concurrent(table),
+        Kind::Sequential => read_sequential(table),
+    };
+    match answer.number {
+        0 => 5 * answer.cells as u32,
+        _ => 100,
+    }
+}
+
+// ---- cases written by hand ----
+
+/// The paper's worked cases; labels, depths and schedules stand among the judged tables and runs.
+fn worked(batch: &mut Batch) {
+    let b = table(&b());
+    let cases: [(&[u8], &[u8]); 5] = [
+        (&A, &[0]),
+        (&A, &[0, 0]),
+        (&b, &[0, 0, 0, 0, 1, 1, 1, 1]),
+        (&b, &[0, 0, 1, 1, 0, 1, 0, 1]),
+        (&b, &[]),
+    ];
+    for (source, schedule) in cases {
+        let copy = copy_of(source).expect("a worked table has a copy");
+        let cells = cell_bytes(Kind::Concurrent, source);
+        batch.add(read_case(Kind::Concurrent, source));
+        batch.add(read_case(Kind::Sequential, &copy));
+        batch.add(translate_case(source, copy.len() as u32));
+        batch.add(run_case(Kind::Concurrent, source, schedule, cells, 44));
+        batch.add(Case {
+            budget: BUDGET,
+            h: read_concurrent(source).locations as u32,
+            ..run_case(Kind::Sequential, &copy, schedule, 200, 44)
+        });
+        batch.add(line_case(schedule, source));
+    }
+    ranges(batch);
+}
+
+/// Both ends of the range of numbers.
+fn ranges(batch: &mut Batch) {
+    for expression in [
+        add(number(i32::MAX), number(1)),
+        negate(number(i32::MIN)),
+        number(i32::MIN),
+        add(number(i32::MIN), number(-1)),
+        subtract(number(i32::MIN), number(1)),
+        subtract(number(0), number(i32::MIN)),
+        multiply(number(-65_536), number(32_768)),
+        multiply(number(65_536), number(32_768)),
+        multiply(number(i32::MIN), number(-1)),
+        add(number(i32::MAX), number(i32::MIN)),
+        negate(number(i32::MAX)),
+    ] {
+        let body = vec![assign(0, location(0)), write(0, number(1), expression)];
+        let concurrent = table(&one_thread(1, body.clone()));
+        let sequential = table(&sequential(1, body));
+        batch.add(run_case(Kind::Concurrent, &concurrent, &[0; 3], 10, 11));
+        batch.add(run_case(Kind::Sequential, &sequential, &[], 10, 11));
+        batch.add(line_case(&[0; 3], &concurrent));
+    }
+}
+
+/// Every table written by hand, given to every call of its kind unless it is long.
+fn judged_tables(batch: &mut Batch) {
+    for Judged { kind, table, .. } in judged() {
+        batch.add(read_case(kind, &table));
+        if table.len() > 20_000 {
+            continue;
+        }
+        let schedule: &[u8] = match read_concurrent(&table).threads {
+            1 => &[0, 0, 0],
+            _ => &[0, 0, 0, 1, 0, 0, 1, 0],
+        };
+        let cells = cell_bytes(kind, &table);
+        batch.add(run_case(kind, &table, schedule, cells, 30));
+        if kind == Kind::Concurrent && table.len() < 12_000 {
+            batch.add(translate_case(&table, 30_000));
+            batch.add(line_case(schedule, &table));
+        }
+        if table.len() < 100 {
+            batch.add(read_case(other(kind), &table));
+        }
+    }
+}
+
+fn other(kind: Kind) -> Kind {
+    match kind {
+        Kind::Concurrent => Kind::Sequential,
+        Kind::Sequential => Kind::Concurrent,
+    }
+}
+
+/// Copies of about 65,536 bytes, and out buffers too short by one byte, exact and longer.
+fn long_copies(batch: &mut Batch) {
+    for sample in number_9() {
+        batch.add(translate_case(&sample.table, 70_000));
+        batch.add(line_case(&[0], &sample.table));
+    }
+    // 9 comes before 10 and 11.
+    let too_long = &number_9()[0].table;
+    batch.add(translate_case(too_long, 10));
+    batch.add(line_case(&[9], too_long));
+    let longest = translating_to(65_536);
+    let copy = copy_of(&longest).expect("65,536 bytes are not too long");
+    batch.add(read_case(Kind::Sequential, &copy));
+    batch.add(line_case(&[0; 5], &longest));
+    for out in [65_535, 65_536, 65_537] {
+        batch.add(translate_case(&longest, out));
+    }
+    for source in [A.to_vec(), table(&b())] {
+        let length = copy_of(&source).map_or(0, |copy| copy.len() as u32);
+        for out in [0, 1, length - 1, length, length + 1, length + 300] {
+            batch.add(translate_case(&source, out));
+        }
+    }
+}
+
+/// Every run written by hand, with buffers too short by one byte, exact and longer.
+fn runs(batch: &mut Batch) {
+    for sample in ran() {
+        let cells = cell_bytes(sample.kind, &sample.table);
+        let events = 11 * sample.answer.events as u32;
+        let mut lengths = vec![(cells, events), (cells + 3, events + 10)];
+        if cells > 0 {
+            lengths.push((cells - 1, events));
+        }
+        if events > 0 {
+            lengths.push((cells + 1, events - 1));
+            lengths.push((cells, events / 2));
+            lengths.push((cells, 0));
+        }
+        for (cells, events) in lengths {
+            batch.add(case_of(&sample, cells, events));
+        }
+        if sample.kind == Kind::Concurrent {
+            batch.add(line_case(&sample.schedule, &sample.table));
+            copy_run(batch, &sample);
+        }
+    }
+}
+
+fn case_of(sample: &Ran, cells: u32, events: u32) -> Case {
+    let case = run_case(sample.kind, &sample.table, &sample.schedule, cells, events);
+    Case {
+        budget: sample.budget,
+        h: sample.h,
+        ..case
+    }
+}
+
+/// The same run of the copy.
+fn copy_run(batch: &mut Batch, sample: &Ran) {
+    let copy = copy_of(&sample.table).expect("the runs are of accepted tables");
+    let cells = cell_bytes(Kind::Sequential, &copy);
+    batch.add(Case {
+        budget: BUDGET,
+        h: sample.h,
+        ..run_case(Kind::Sequential, &copy, &sample.schedule, cells, 200)
+    });
+}
+
+/// Number 11, and schedules of 4,096 entries.
+fn schedules(batch: &mut Batch) {
+    let b = table(&b());
+    let refused: [&[u8]; 6] = [
+        &[0; 4_097],
+        &[0; 5_000],
+        &[2],
+        &[0, 1, 255],
+        &[0, 0, 0, 0, 1, 1, 1, 1, 2],
+        &[9; 4_097],
+    ];
+    for schedule in refused {
+        for cells in [4, 5] {
+            batch.add(run_case(Kind::Concurrent, &b, schedule, cells, 44));
+        }
+        batch.add(line_case(schedule, &b));
+    }
+    let copy = copy_of(&b).expect("B has a copy");
+    let cells = cell_bytes(Kind::Sequential, &copy);
+    for schedule in [
+        vec![0; 4_096],
+        vec![0; 4_097],
+        vec![255; 4_097],
+        vec![0; 5_000],
+    ] {
+        for cells in [0, cells - 1, cells] {
+            batch.add(run_case(Kind::Sequential, &copy, &schedule, cells, 44));
+        }
+    }
+    long_runs(batch);
+}
+
+/// 4,096 entries and 8 threads, with few labels and with 400.
+fn long_runs(batch: &mut Batch) {
+    let spin = vec![while_do(truth(true), vec![])];
+    let few = program(vec![procedure(0, 0, spin)], &[1], &[0; 8]);
+    let count = assign(0, add(local(0), number(1)));
+    let body = vec![
+        assign(0, number(0)),
+        while_do(truth(true), vec![count; 397]),
+    ];
+    let many = program(vec![procedure(0, 1, body)], &[1], &[0; 8]);
+    let entries: Vec<u8> = (0..4_096).map(|i| (i % 8) as u8).collect();
+    for source in [table(&few), table(&many)] {
+        let copy = copy_of(&source).expect("an accepted table");
+        let cells = cell_bytes(Kind::Sequential, &copy);
+        batch.add(read_case(Kind::Concurrent, &source));
+        batch.add(run_case(Kind::Concurrent, &source, &entries, 5, 0));
+        batch.add(line_case(&entries, &source));
+        for budget in [50_000, BUDGET] {
+            let case = run_case(Kind::Sequential, &copy, &entries[..1_000], cells, 0);
+            batch.add(Case { budget, ..case });
+        }
+    }
+    many_events(batch);
+}
+
+/// More events than the longest event buffer holds.
+fn many_events(batch: &mut Batch) {
+    let mut inner = vec![read(1, 0, number(1)); 9];
+    inner.push(write(0, number(1), add(local(1), number(1))));
+    let body = vec![
+        assign(0, location(0)),
+        while_do(truth(true), vec![atomic(inner)]),
+    ];
+    let source = table(&one_thread(2, body));
+    let copy = copy_of(&source).expect("an accepted table");
+    let cells = cell_bytes(Kind::Sequential, &copy);
+    for events in [0, 19_998, 20_000] {
+        batch.add(run_case(Kind::Concurrent, &source, &[0; 600], 10, events));
+        let case = run_case(Kind::Sequential, &copy, &[0; 600], cells, events);
+        batch.add(Case {
+            budget: BUDGET,
+            ..case
+        });
+    }
+    batch.add(line_case(&[0; 600], &source));
+}
+
+/// Number 12.
+fn cell_buffers(batch: &mut Batch) {
+    for sizes in [vec![1], vec![2, 3], vec![256; 8], vec![32; 64]] {
+        for kind in [Kind::Concurrent, Kind::Sequential] {
+            let mains: &[u16] = match kind {
+                Kind::Concurrent => &[0],
+                Kind::Sequential => &[],
+            };
+            let table = table(&program(vec![procedure(0, 0, vec![])], &sizes, mains));
+            let enough = cell_bytes(kind, &table);
+            for cells in [0, enough - 5, enough - 1, enough, enough + 1] {
+                batch.add(run_case(kind, &table, &[0], cells, 5));
+            }
+        }
+    }
+}
+
+/// Inputs of the run program that end early, say a wrong length or are too long.
+fn inputs(batch: &mut Batch) {
+    let b = table(&b());
+    for input in [
+        &[][..],
+        &[0],
+        &[0, 0],
+        &[1, 0],
+        &[2, 0, 0],
+        &[255, 255],
+        &[0; 18],
+    ] {
+        batch.add(input_case(input));
+    }
+    let whole = line_case(&[0, 0, 1, 1], &b).table;
+    for length in 0..=whole.len() {
+        batch.add(input_case(&whole[..length]));
+    }
+    for (place, byte) in [(0, 3), (0, 5), (0, 61), (0, 62), (1, 1), (1, 16), (1, 255)] {
+        let mut input = whole.clone();
+        input[place] = byte;
+        batch.add(input_case(&input));
+    }
+    // A right table that the length takes for the schedule, wholly or in part.
+    for length in [1, 16, 41, 56, 57, 58, 200, 4_096, 65_535] {
+        let input = [u16::to_le_bytes(length).to_vec(), b.clone()].concat();
+        batch.add(input_case(&input));
+    }
+    for length in [20_481, 20_482, 20_483, 20_484] {
+        batch.add(input_case(&vec![0; length]));
+        let schedule = vec![0; length - 2 - b.len()];
+        batch.add(line_case(&schedule, &b));
+    }
+}
+
+// ---- random cases ----
+
+/// A random program given to every call, its copy among them.
+fn random_program(scale: Scale, batch: &mut Batch, random: &mut Random) {
+    let program = program_of(Kind::Concurrent, scale, random);
+    let source = write::table(&program, Kind::Concurrent);
+    let most = random.pick(&[40, 80, 150]);
+    let is_accepted = verdict(&source, Kind::Concurrent).is_ok();
+    let schedule = if is_accepted {
+        schedule_for(&program, most, random)
+    } else {
+        vec![0; 5]
+    };
+    if is_accepted {
+        note_blocked_step(batch, &program, &schedule);
+    }
+    batch.add(read_case(Kind::Concurrent, &source));
+    let cells = about(cell_bytes(Kind::Concurrent, &source), random);
+    let events = event_room(random);
+    batch.add(run_case(
+        Kind::Concurrent,
+        &source,
+        &schedule,
+        cells,
+        events,
+    ));
+    batch.add(line_case(&schedule, &source));
+    match copy_of(&source) {
+        None => batch.add(translate_case(&source, 500)),
+        Some(copy) => {
+            batch.add(translate_case(&source, about(copy.len() as u32, random)));
+            let locations = program.sizes.len() as u32;
+            batch.add(copy_case(&copy, locations, &schedule, random));
+        }
+    }
+}
+
+/// Notes at which kind of step a run is blocked.
+fn note_blocked_step(batch: &mut Batch, program: &Program, schedule: &[u8]) {
+    let mut machine = Concurrent::new(program);
+    for thread in schedule {
+        if machine.is_finished() {
+            return;
+        }
+        let thread = usize::from(*thread);
+        let next = machine.threads[thread].last().and_then(|f| f.next());
+        if machine.step(thread).is_none() {
+            let name = next.map_or("finished thread", name_of);
+            batch.note(format!("random programs blocked at: {name}"));
+            return;
+        }
+    }
+}
+
+fn name_of(instruction: &Instruction) -> &'static str {
+    match instruction {
+        Instruction::Assign { .. } => "assign",
+        Instruction::Write { .. } => "write",
+        Instruction::Read { .. } => "read",
+        Instruction::While { .. } | Instruction::If { .. } => "test",
+        Instruction::Call { .. } => "call",
+        Instruction::Atomic { .. } => "atomic",
+        Instruction::Select { .. } => "select",
+    }
+}
+
+/// Most often exactly this length; sometimes one less or some more.
+fn about(length: u32, random: &mut Random) -> u32 {
+    match random.below(12) {
+        0 => length.saturating_sub(1),
+        1 => length + random.between(1, 40) as u32,
+        _ => length,
+    }
+}
+
+fn event_room(random: &mut Random) -> u32 {
+    match random.below(4) {
+        0 => random.below(60) as u32,
+        1 => 11 * random.below(12) as u32,
+        _ => random.between(300, 700) as u32,
+    }
+}
+
+/// A run of a copy: most often with demand 3's budget and h = M, sometimes with a budget near its
+/// steps or another h.
+fn copy_case(copy: &[u8], locations: u32, schedule: &[u8], random: &mut Random) -> Case {
+    let cells = cell_bytes(Kind::Sequential, copy);
+    let mut buffer = vec![0; cells as usize];
+    let steps = run_sequential(copy, schedule, BUDGET, 0, &mut buffer, &mut []).steps;
+    let budget = match random.below(10) {
+        0 => steps,
+        1 => steps.saturating_sub(1),
+        2 => random.below(steps as usize + 1) as u64,
+        _ => BUDGET,
+    };
+    let h = match random.below(8) {
+        0 => random.below(locations as usize + 8) as u32,
+        _ => locations,
+    };
+    let (cells, events) = (about(cells, random), event_room(random));
+    Case {
+        budget,
+        h,
+        ..run_case(Kind::Sequential, copy, schedule, cells, events)
+    }
+}
+
+/// A random program in the sequential language itself.
+fn random_sequential_program(scale: Scale, batch: &mut Batch, random: &mut Random) {
+    let program = program_of(Kind::Sequential, scale, random);
+    let source = write::table(&program, Kind::Sequential);
+    batch.add(read_case(Kind::Sequential, &source));
+    batch.add(sequential_case(&source, program.sizes.len(), random));
+}
+
+fn sequential_case(source: &[u8], locations: usize, random: &mut Random) -> Case {
+    let length = random.below(8);
+    let schedule: Vec<u8> = (0..length).map(|_| random.below(3) as u8).collect();
+    let cells = about(cell_bytes(Kind::Sequential, source), random);
+    let events = event_room(random);
+    Case {
+        budget: random.pick(&[0, 1, 10, 30, 100, 1_000, 3_000, 3_000]),
+        h: random.below(locations + 2) as u32,
+        ..run_case(Kind::Sequential, source, &schedule, cells, events)
+    }
+}
+
+/// A damaged table: concurrent, a copy, or any sequential one, in turn.
+fn damaged_table(number: usize, batch: &mut Batch, random: &mut Random) {
+    match number % 4 {
+        0 | 1 => damaged_concurrent(batch, random),
+        2 => damaged_copy(batch, random),
+        _ => damaged_sequential(batch, random),
+    }
+}
+
+fn damaged_concurrent(batch: &mut Batch, random: &mut Random) {
+    let program = program_of(Kind::Concurrent, Scale::Small, random);
+    let good = write::table(&program, Kind::Concurrent);
+    let bytes = damaged(&good, random);
+    let schedule = match verdict(&good, Kind::Concurrent) {
+        Ok(program) => schedule_for(&program, 60, random),
+        Err(_) => vec![0; 5],
+    };
+    let cells = about(cell_bytes(Kind::Concurrent, &bytes), random);
+    let events = event_room(random);
+    batch.add(read_case(Kind::Concurrent, &bytes));
+    batch.add(translate_case(&bytes, 8_000));
+    batch.add(run_case(Kind::Concurrent, &bytes, &schedule, cells, events));
+    if random.percent(15) {
+        let input = line_case(&schedule, &good).table;
+        batch.add(input_case(&damaged(&input, random)));
+    } else {
+        batch.add(line_case(&schedule, &bytes));
+    }
+}
+
+/// A damaged copy of a small program.
+fn damaged_copy(batch: &mut Batch, random: &mut Random) {
+    let (program, copy) = small_copy(random);
+    let schedule = schedule_for(&program, 60, random);
+    let bytes = damaged(&copy, random);
+    let cells = about(cell_bytes(Kind::Sequential, &bytes), random);
+    let events = event_room(random);
+    batch.add(read_case(Kind::Sequential, &bytes));
+    batch.add(Case {
+        budget: 5_000,
+        h: program.sizes.len() as u32,
+        ..run_case(Kind::Sequential, &bytes, &schedule, cells, events)
+    });
+}
+
+fn small_copy(random: &mut Random) -> (Program, Vec<u8>) {
+    loop {
+        let program = program_of(Kind::Concurrent, Scale::Small, random);
+        match copy_of(&write::table(&program, Kind::Concurrent)) {
+            Some(copy) if copy.len() < 1_500 => return (program, copy),
+            _ => {}
+        }
+    }
+}
+
+fn damaged_sequential(batch: &mut Batch, random: &mut Random) {
+    let program = program_of(Kind::Sequential, Scale::Small, random);
+    let bytes = damaged(&write::table(&program, Kind::Sequential), random);
+    batch.add(read_case(Kind::Sequential, &bytes));
+    batch.add(sequential_case(&bytes, program.sizes.len(), random));
+}

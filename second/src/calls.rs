@@ -1,0 +1,173 @@
+//! The public calls: what they answer and what they write into lent memory.
+//!
+//! "A refusal returns its number and zeros and writes nothing."
+
+use crate::machine::End;
+use crate::program::{Kind, Program};
+use crate::record::{write_cells, Events, Run};
+use crate::verdict::verdict;
+use crate::{concurrent, labels, sequential, translate, write};
+
+/// "An accepted read answers 0 with P, M, T, the number of labels (sequential: 0) and of cells."
+#[derive(Clone, Copy, PartialEq, Eq, Debug, Default)]
+pub struct ReadAnswer {
+    pub number: u8,
+    pub procedures: u64,
+    pub locations: u64,
+    pub threads: u64,
+    pub labels: u64,
+    pub cells: u64,
+}
+
+/// "An accepted translation writes its length of bytes and no more."
+#[derive(Clone, Copy, PartialEq, Eq, Debug, Default)]
+pub struct TranslateAnswer {
+    pub number: u8,
+    pub length: u64,
+}
+
+/// "A run answers 0 with its end, its steps, its unused entries and its events, those not written
+/// included."
+#[derive(Clone, Copy, PartialEq, Eq, Debug, Default)]
+pub struct RunAnswer {
+    pub number: u8,
+    pub end: u8,
+    pub steps: u64,
+    pub unused: u64,
+    pub events: u64,
+}
+
+pub fn read_concurrent(table: &[u8]) -> ReadAnswer {
+    read(table, Kind::Concurrent)
+}
+
+pub fn read_sequential(table: &[u8]) -> ReadAnswer {
+    read(table, Kind::Sequential)
+}
+
+fn read(table: &[u8], kind: Kind) -> ReadAnswer {
+    match verdict(table, kind) {
+        Err(number) => ReadAnswer {
+            number,
+            ..ReadAnswer::default()
+        },
+        Ok(program) => ReadAnswer {
+            number: 0,
+            procedures: program.procedures.len() as u64,
+            locations: program.sizes.len() as u64,
+            threads: program.mains.len() as u64,
+            labels: match kind {
+                Kind::Concurrent => labels::of_program(&program) as u64,
+                Kind::Sequential => 0,
+            },
+            cells: program.cells() as u64,
+        },
+    }
+}
+
+pub fn translate(table: &[u8], out: &mut [u8]) -> TranslateAnswer {
+    match copy_table(table).and_then(|copy| put(&copy, out)) {
+        Ok(length) => TranslateAnswer { number: 0, length },
+        Err(number) => TranslateAnswer { number, length: 0 },
+    }
+}
+
+/// "9: translator: the sequential table would pass 65,536 bytes"
+fn copy_table(table: &[u8]) -> Result<Vec<u8>, u8> {
+    let program = verdict(table, Kind::Concurrent)?;
+    let copy = write::table(&translate::translate(&program), Kind::Sequential);
+    if copy.len() > 65_536 {
+        return Err(9);
+    }
+    Ok(copy)
+}
+
+/// "10: translator, and each later call that writes a table or text: output buffer too short for
+/// it"
+fn put(copy: &[u8], out: &mut [u8]) -> Result<u64, u8> {
+    let room = out.get_mut(..copy.len()).ok_or(10)?;
+    room.copy_from_slice(copy);
+    Ok(copy.len() as u64)
+}
+
+pub fn run_concurrent(
+    table: &[u8],
+    schedule: &[u8],
+    cells: &mut [u8],
+    events: &mut [u8],
+) -> RunAnswer {
+    let judged = verdict(table, Kind::Concurrent).and_then(|program| {
+        schedule_fits(schedule)?;
+        entries_are_threads(schedule, &program)?;
+        cells_fit(&program, cells)?;
+        Ok(program)
+    });
+    let run = judged.map(|program| concurrent::run(&program, schedule, &mut Events::new(events)));
+    run_answer(run, cells)
+}
+
+pub fn run_sequential(
+    table: &[u8],
+    schedule: &[u8],
+    budget: u64,
+    h: u32,
+    cells: &mut [u8],
+    events: &mut [u8],
+) -> RunAnswer {
+    let judged = verdict(table, Kind::Sequential).and_then(|program| {
+        schedule_fits(schedule)?;
+        cells_fit(&program, cells)?;
+        Ok(program)
+    });
+    let run = judged
+        .map(|program| sequential::run(&program, schedule, budget, h, &mut Events::new(events)));
+    run_answer(run, cells)
+}
+
+/// "11: run: schedule over 4,096 entries, or (concurrent) an entry not below T". The whole
+/// schedule is judged, entries behind the run's end too.
+fn schedule_fits(schedule: &[u8]) -> Result<(), u8> {
+    if schedule.len() > 4_096 {
+        return Err(11);
+    }
+    Ok(())
+}
+
+fn entries_are_threads(schedule: &[u8], program: &Program) -> Result<(), u8> {
+    let threads = program.mains.len();
+    if schedule.iter().any(|entry| usize::from(*entry) >= threads) {
+        return Err(11);
+    }
+    Ok(())
+}
+
+/// "12: run: cell buffer shorter than 5 bytes a cell"
+fn cells_fit(program: &Program, cells: &[u8]) -> Result<(), u8> {
+    if cells.len() < 5 * program.cells() {
+        return Err(12);
+    }
+    Ok(())
+}
+
+fn run_answer(run: Result<Run, u8>, cells: &mut [u8]) -> RunAnswer {
+    match run {
+        Err(number) => RunAnswer {
+            number,
+            ..RunAnswer::default()
+        },
+        Ok(run) => {
+            write_cells(&run.heap, cells);
+            RunAnswer {
+                number: 0,
+                end: end_number(run.end),
+                steps: run.steps,
+                unused: run.unused,
+                events: run.events,
+            }
+        }
+    }
+}
+
+fn end_number(end: End) -> u8 {
+    end as u8
+}

@@ -1,0 +1,25 @@
+//! Zarukohen's second implementation, written from the paper: tables are read into trees, and the
+//! rules, the translation and both machines walk these trees.
+
+pub mod batch;
+pub mod bodies;
+pub mod builder;
+pub mod calls;
+pub mod concurrent;
+pub mod expression;
+pub mod head;
+pub mod labels;
+pub mod line;
+pub mod machine;
+pub mod price;
+pub mod program;
+pub mod random;
+pub mod record;
+pub mod rules;
+pub mod run_samples;
+pub mod samples;
+pub mod sequential;
+pub mod translate;
+pub mod value;
+pub mod verdict;
+pub mod write;
