@@ -12,3 +12,7 @@ pub mod Blocks
 pub mod Labels
 -- and through the layout's code
 pub mod Placing
+-- what the label map says of the source's code
+pub mod Nodes
+-- one law for each way through the procedures that simulate the labels
+pub mod Simulating
