@@ -16,3 +16,5 @@ pub mod Placing
 pub mod Nodes
 -- one law for each way through the procedures that simulate the labels
 pub mod Simulating
+-- and through procedure 0
+pub mod Rounding
