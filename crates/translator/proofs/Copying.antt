@@ -71,7 +71,7 @@ two-operands equal = refl
 two-operands and = refl
 
 -- what stands between two positions is that part of the table
-slice-is : {t : List ℕ} {i : ℕ} {bs : List ℕ} {j : ℕ} → Stands t i bs j → slice i j t ≡ bs
+pub slice-is : {t : List ℕ} {i : ℕ} {bs : List ℕ} {j : ℕ} → Stands t i bs j → slice i j t ≡ bs
 slice-is {t} {i} {bs} {j} s = in-take t j (omega arith) s .same ∙ rw slice-empty (append-nil bs)
 
 -- a leaf: it is as long as the row says, and a constant stays as it is

@@ -18,3 +18,5 @@ pub mod Nodes
 pub mod Simulating
 -- and through procedure 0
 pub mod Rounding
+-- and through the whole table
+pub mod Tabling

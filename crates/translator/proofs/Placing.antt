@@ -2,9 +2,9 @@
 use Prim.Native.Nat.{ℕ, zero, suc, _+_, _*_, _-_, _≤_, _<_}
 use native.Mathlib.Omega.{arith}
 use native.Mathlib.Numerals.{add-one}
-use mathlib.Core.Path.{_≡_, refl, sym, ap, subst, _∙_}
-use mathlib.Core.List.{List, [], _∷_}
-use lib.ListN.{length, getD}
+use mathlib.Core.Path.{_≡_, refl, sym, ap, ap₂, subst, _∙_}
+use mathlib.Core.List.{List, [], _∷_, _++_}
+use lib.ListN.{length, getD, replicate}
 use Rattle.value.specs.Maybe.{Maybe, is, nothing}
 use Rattle.value.specs.Values.{numberAt}
 use Rattle.value.specs.Lists.{at}
@@ -18,7 +18,7 @@ use Rattle.reader.specs.Laws.Names.{Takes}
 use Rattle.reader.specs.Laws.TablePlaces.{recordsAt, record-stands, main-stands}
 use Rattle.translator.specs.Layout.{layout, localsOf, before}
 use Rattle.translator.specs.Laws.Sources.{Sited}
-use Rattle.translator.specs.Laws.Shapes.{Shaped, LocalsAt, Summed, BeforeAt, MainAt, Hubbed, HubAt, SiteAt}
+use Rattle.translator.specs.Laws.Shapes.{Shaped, LocalsAt, Summed, BeforeAt, MainAt, Hubbed, HubAt, SiteAt, RowsAt}
 use Rattle.translator.specs.declared.layout.Shape.{Shape}
 use Rattle.translator.specs.declared.layout.Hub.{Hub}
 use Rattle.translator.specs.declared.layout.Site.{Site}
@@ -147,5 +147,14 @@ module _ {t : List ℕ} {h : Shape} where
     };
   }
 
+  -- the locations of size T
+  pub rows : {b : ℕ} → BeforeAt t h (h .procedures) b → RowsAt t h (1 + h .procedures + b)
+  rows {b} B = record {
+    gives = λ p w.
+        let same : before (p .procs) (length (p .procs)) ≡ b = ap (before (p .procs)) (sym (w .procedures)) ∙ sym (B .gives p w) in
+        ap₂ (λ (n k : ℕ). p .sizes ++ (1 ∷ replicate (1 + n + k) (length (p .mains)))) (sym (w .procedures)) same;
+    most = omega (arith, B .most);
+  }
+
 -- one law for each way
-pub ruleset place-ways = (locals-past, locals-in, sum-start, sum-next, sum-all, sum-past, main-past, main-in, hub, site-past, site)
+pub ruleset place-ways = (rows, locals-past, locals-in, sum-start, sum-next, sum-all, sum-past, main-past, main-in, hub, site-past, site)

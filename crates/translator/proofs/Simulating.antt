@@ -27,6 +27,7 @@ use Rattle.reader.specs.Laws.Stands as St
 use Rattle.reader.specs.Laws.Grammar.{ExprAt, InstrAt, WhileAt, IfAt, CallAt, while-here, if-here, call-here, no-instr, instr-inside}
 use Rattle.reader.specs.Laws.Fits.{BlockFits, InstrFits}
 use Rattle.reader.specs.Laws.Names.{Names, Takes, names?}
+use Rattle.reader.specs.Laws.Sound.{Sound}
 use Rattle.reader.specs.Laws.Labelled.{named-label, allowed-label}
 use Rattle.reader.specs.Laws.Ranges.{body-fits}
 use Rattle.reader.specs.Laws.Procs.{takes-at, ProcSound, proc-sound}
@@ -287,15 +288,22 @@ module _ {t : List ℕ} {h : Shape} {map bounds : List ℕ} where
               coded some
               (N .gives q (d .proc) n k (first K (rest ⊕ v .after)) _ a w (record { begins = mapped .begins }) here at ok lead)
 
+-- the locals of a label's procedure are few
+pub node-locals : (q : Program S.Plain) (l : ℕ) {d : Node} → Sound concurrent q → nodeOf q l ≡ is d → localsOf (at (q .procs) (d .proc)) ≤ 16
+node-locals q l {d} sound e =
+    let v = node-of q l e in
+    let found = labels-found (q .procs) 1 (d .proc) (v .spot .found) in
+    rw (found .2) (proc-sound sound (d .proc) (found .0) (found .2) .locals)
+
 -- ---- all labels
 
 -- the bodies of two rows of procedures
-bodies-append : (ps qs : List (Proc S.Plain)) → bodies (ps ++ qs) ≡ bodies ps ++ bodies qs
+pub bodies-append : (ps qs : List (Proc S.Plain)) → bodies (ps ++ qs) ≡ bodies ps ++ bodies qs
 bodies-append [] qs = refl
 bodies-append (p ∷ ps) qs = ap (block (p .body) ++_) (bodies-append ps qs) ∙ sym (append-assoc (block (p .body)) (bodies ps) (bodies qs))
 
 -- one more of a list
-take-more : {A : Type 0} (xs : List A) (i : ℕ) {x : A} → at xs i ≡ is x → take (i + 1) xs ≡ take i xs ++ (x ∷ [])
+pub take-more : {A : Type 0} (xs : List A) (i : ℕ) {x : A} → at xs i ≡ is x → take (i + 1) xs ≡ take i xs ++ (x ∷ [])
 take-more xs i {x} e = rw add-one (go xs i e)
   where
     go : (xs : List _) (i : ℕ) → at xs i ≡ is x → take (suc i) xs ≡ take i xs ++ (x ∷ [])
@@ -304,7 +312,7 @@ take-more xs i {x} e = rw add-one (go xs i e)
     go (y ∷ xs) (suc i) e = ap (y ∷_) (go xs i e)
 
 -- the procedure of label k + 1
-later-at : (q : Program S.Plain) (k : ℕ) {d : Node} → nodeOf q (suc k) ≡ is d → at (later q) k ≡ is (simulated q d)
+pub later-at : (q : Program S.Plain) (k : ℕ) {d : Node} → nodeOf q (suc k) ≡ is d → at (later q) k ≡ is (simulated q d)
 later-at q k e = rw (later-nodes q) (at-map (simulated q) (allNodes 0 0 (labelled q .procs)) k e)
   where
     at-map : {A B : Type 0} (f : A → B) (xs : List A) (i : ℕ) {x : A} → at xs i ≡ is x → at (map f xs) i ≡ is (f x)
@@ -313,7 +321,7 @@ later-at q k e = rw (later-nodes q) (at-map (simulated q) (allNodes 0 0 (labelle
     at-map f (y ∷ xs) (suc i) e = at-map f xs i e
 
 -- as many as labels
-length-later : (q : Program S.Plain) → length (later q) ≡ counts (q .procs)
+pub length-later : (q : Program S.Plain) → length (later q) ≡ counts (q .procs)
 length-later q = ap length (later-nodes q) ∙ length-map (allNodes 0 0 (labelled q .procs)) (simulated q) ∙ length-nodes q
 
 module _ {t : List ℕ} {h : Shape} {map bounds : List ℕ} where

@@ -3,7 +3,7 @@ use value::bytes::byte_at;
 use value::bytes::two_bytes;
 ghost use mathlib.Core.Path.{_≡_};
 ghost use Prim.Native.Nat.{_+_};
-ghost use Rattle.translator.specs.Laws.Shapes.{LocalsAt, BeforeAt, MainAt, HubAt, SiteAt};
+ghost use Rattle.translator.specs.Laws.Shapes.{LocalsAt, BeforeAt, MainAt, HubAt, SiteAt, RowsAt};
 
 // What is known of an accepted concurrent table: where its procedure records begin, and its counts.
 pub struct Shape {
@@ -99,6 +99,14 @@ pub fn site_of(t: &[u8], shape: Shape, m: usize) -> Site
         from: (first + 2 + m) as u32,
         home: (homes + before(t, shape, m)) as u32,
     }
+}
+
+// How many locations have size T: pct, one "from" per procedure, one per local.
+pub fn rows_of(t: &[u8], shape: Shape) -> usize
+    ensures { λ r. ⌜ RowsAt (now (t .entry)) shape r ⌝ }
+{
+    let procedures = shape.procedures as usize;
+    1 + procedures + before(t, shape, procedures)
 }
 
 // The location of local x.

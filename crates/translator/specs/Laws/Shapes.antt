@@ -1,8 +1,8 @@
 -- What is known of the source's table, and what the layout's code promises of it.
 use Prim.Native.Nat.{ℕ, _+_, _*_, _≤_, _<_}
 use mathlib.Core.Path.{_≡_}
-use mathlib.Core.List.{List}
-use lib.ListN.{length}
+use mathlib.Core.List.{List, _∷_, _++_}
+use lib.ListN.{length, replicate}
 use Rattle.value.specs.Maybe.{is}
 use Rattle.value.specs.Lists.{at}
 use Rattle.reader.specs.Syntax.{Proc, Program, Plain, concurrent}
@@ -10,7 +10,7 @@ use Rattle.reader.specs.Encode.{table}
 use Rattle.reader.specs.Labels.{counts}
 use Rattle.reader.specs.Laws.Sound.{Sound}
 use Rattle.reader.specs.Laws.TablePlaces.{recordsAt}
-use Rattle.translator.specs.Layout.{Layout, layout, localsOf, before}
+use Rattle.translator.specs.Layout.{Layout, layout, localsOf, before, sizes}
 use Rattle.translator.specs.Laws.Sources.{Sited}
 use Rattle.translator.specs.declared.layout.Shape.{Shape}
 use Rattle.translator.specs.declared.layout.Hub.{Hub}
@@ -58,3 +58,8 @@ pub record HubAt (h : Shape) (r : Hub) : Type 0 where
 -- the site of procedure m
 pub record SiteAt (t : List ℕ) (h : Shape) (m : ℕ) (r : Site) : Type 0 where
   pub gives : (p : Program Plain) (q : Proc Plain) → Shaped t h p → at (p .procs) m ≡ is q → Sited (layout p) m (q .locals) r
+
+-- how many locations have size T
+pub record RowsAt (t : List ℕ) (h : Shape) (r : ℕ) : Type 0 where
+  pub gives : (p : Program Plain) → Shaped t h p → sizes p ≡ p .sizes ++ (1 ∷ replicate r (length (p .mains)))
+  pub most : r ≤ 1 + 256 * h .procedures
