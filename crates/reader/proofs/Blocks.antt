@@ -1,20 +1,20 @@
 -- One law for each way through the readers of blocks and instructions.
 use Prim.Native.Nat.{ℕ, zero, suc, _+_, _-_, _≤_, _<_}
 use native.Mathlib.Omega.{arith}
-use mathlib.Core.Path.{_≡_, refl, sym, ap, ap₂, _∙_}
+use mathlib.Core.Path.{_≡_, refl, sym, _∙_}
 use mathlib.Core.List.{List, [], _∷_}
 use mathlib.Core.Bool.{Bool, true, false}
 use lib.ListN.{length, getD, drop, length-drop, drop-of-length-le}
 use lib.Seq.{drop-cons}
-use Rattle.value.specs.Maybe.{is, nothing, _>>=_, both}
+use Rattle.value.specs.Maybe.{is, _>>=_, both}
 use Rattle.value.specs.Laws.Tests.{never}
-use Rattle.reader.specs.Syntax.{Expr, while, if, atomic, Instr, Block, end, step, Plain}
-use Rattle.reader.specs.Decode.{Read, expr, forms, noForm, formed, instr, block}
+use Rattle.reader.specs.Syntax.{Expr, while, if, atomic, step}
+use Rattle.reader.specs.Decode.{expr, instr, block}
 use Rattle.reader.specs.Rules.{Here, allowed, allowedI, plainly, isConcurrent}
 use Rattle.reader.specs.Ends.{endOf, check, insideOf, ReadsExpr, ReadsInstr, ReadsBlock, ReadsPlain}
 use Rattle.reader.specs.Laws.Reading.{known-is}
 use Rattle.reader.specs.Laws.Rests.{expr-leaves, instr-leaves, instr-takes, block-leaves, block-goes-on}
-use Rattle.reader.proofs.Chains.{went-on, ends-then, ends-none, bind-assoc, end-inside, passed-at, passed-none, passed-made, never-passes, fails-behind}
+use Rattle.reader.proofs.Chains.{ends-then, ends-none, bind-assoc, passed-at, passed-none, passed-made, never-passes, fails-behind}
 use Rattle.reader.proofs.Plain.{instr-at}
 use Rattle.reader.specs.declared.Ends.{Ends}
 use Rattle.reader.specs.declared.Ends.the-variants.{At, Nothing}
@@ -34,13 +34,17 @@ atomic-may true false x e = absurd (never e)
 atomic-may true true x e = refl
 
 module _ (t : List ℕ) (i d : ℕ) (h : Here) where
+  -- past the end
   pub instr-past : length t ≤ i → ReadsInstr t i d h Nothing
   instr-past l = let none : drop i t ≡ [] = drop-of-length-le t {i = i} l in record { same = rw none }
 
-  pub instr-plain : {r : Ends} → ReadsPlain t i h r → (getD t i 0 ≡ 0x23 → ⊥) → (getD t i 0 ≡ 0x24 → ⊥) → (getD t i 0 ≡ 0x26 → ⊥) → ReadsInstr t i d h r
+  -- without blocks
+  pub instr-plain : {r : Ends} → ReadsPlain t i h r → (getD t i 0 ≡ 0x23 → ⊥) → (getD t i 0 ≡ 0x24 → ⊥) → (getD t i 0 ≡ 0x26 → ⊥)
+      → ReadsInstr t i d h r
   instr-plain R n₃ n₄ n₆ = R .gives d n₃ n₄ n₆
 
   module _ (inside : i < length t) where
+    -- a while inside an atomic block
     pub while-inside : getD t i 0 ≡ 0x23 → h .inside ≡ true → ReadsInstr t i d h Nothing
     while-inside q out = record {
       same = sym
@@ -48,11 +52,13 @@ module _ (t : List ℕ) (i d : ℕ) (h : Here) where
           (fails-behind t (expr 16 (drop (i + 1) t)) _ (allowedI h) λ e r. never-passes t (block d r) (while e) (allowedI h) (λ b. rw out)));
     }
 
+    -- one without a test
     pub while-cut : {f : Ends} → getD t i 0 ≡ 0x23 → f ≡ Nothing → ReadsExpr t (i + 1) 16 f → ReadsInstr t i d h Nothing
     while-cut q e R = record {
       same = rw (instr-at t i d 0x23 inside q, bind-assoc (expr 16 (drop (i + 1) t))) (ends-none t (expr 16 (drop (i + 1) t)) _ (sym e ∙ R .same));
     }
 
+    -- one
     pub reads-while : {f r : Ends} {k : ℕ} → getD t i 0 ≡ 0x23 → h .inside ≡ false → f ≡ At k → ReadsExpr t (i + 1) 16 f → ReadsBlock t k d h r
         → ReadsInstr t i d h r
     reads-while {k = k} q out e F R = record {
@@ -62,6 +68,7 @@ module _ (t : List ℕ) (i d : ℕ) (h : Here) where
           (λ e. R .same ∙ sym (passed-made (allowed h) t (block d (drop k t)) (while e) (allowedI h) (λ b. rw out))));
     }
 
+    -- an if without a test
     pub if-cut : {f : Ends} → getD t i 0 ≡ 0x24 → f ≡ Nothing → ReadsExpr t (i + 1) 16 f → ReadsInstr t i d h Nothing
     if-cut q e R = record {
       same = rw (instr-at t i d 0x24 inside q, bind-assoc (expr 16 (drop (i + 1) t))) (ends-none t (expr 16 (drop (i + 1) t)) _ (sym e ∙ R .same));
@@ -77,6 +84,7 @@ module _ (t : List ℕ) (i d : ℕ) (h : Here) where
           (ends-then t (i + 1) (expr 16 (drop (i + 1) t)) _ (expr-leaves 16 (drop (i + 1) t)) (sym e ∙ F .same) next);
     }
 
+    -- without a first block
     pub then-cut : {f g : Ends} {k : ℕ} → getD t i 0 ≡ 0x24 → f ≡ At k → ReadsExpr t (i + 1) 16 f → g ≡ Nothing → ReadsBlock t k d h g
         → ReadsInstr t i d h Nothing
     then-cut {k = k} q e F n G = if-then q e F λ e.
@@ -84,12 +92,14 @@ module _ (t : List ℕ) (i d : ℕ) (h : Here) where
         (λ missed. rw missed)
         (λ b r found bad. rw found (sym (never-passes t (block d r) (if e b) (allowedI h) (λ c. rw bad))))
 
+    -- one
     pub reads-if : {f g r : Ends} {k l : ℕ} → getD t i 0 ≡ 0x24 → f ≡ At k → ReadsExpr t (i + 1) 16 f → g ≡ At l → ReadsBlock t k d h g
         → ReadsBlock t l d h r → ReadsInstr t i d h r
     reads-if {k = k} {l} q e F n G R = if-then q e F λ e.
         let first = passed-at (allowed h) t k (block d (drop k t)) (block-leaves d (drop k t)) (sym n ∙ G .same) in
         rw (first .1) (R .same ∙ sym (passed-made (allowed h) t (block d (drop l t)) (if e (first .0)) (allowedI h) (λ c. rw (first .2))))
 
+    -- atomic where it may not stand
     pub no-atomic : {b : Bool} → getD t i 0 ≡ 0x26 → b ≡ both (isConcurrent (h .kind)) (plainly h) → b ≡ false → ReadsInstr t i d h Nothing
     no-atomic q e f = record {
       same = sym
@@ -97,6 +107,7 @@ module _ (t : List ℕ) (i d : ℕ) (h : Here) where
           (never-passes t (block d (drop (i + 1) t)) atomic (allowedI h) (λ b. atomic-not (isConcurrent (h .kind)) (plainly h) _ (sym e ∙ f))));
     }
 
+    -- and where it may
     pub reads-atomic : {b : Bool} {g : Here} {r : Ends} → getD t i 0 ≡ 0x26 → b ≡ both (isConcurrent (h .kind)) (plainly h) → b ≡ true
         → g ≡ insideOf h → ReadsBlock t (i + 1) d g r → ReadsInstr t i d h r
     reads-atomic {g = g} q e f n R = record {
@@ -122,6 +133,7 @@ block-none t zero h = refl
 block-none t (suc d) h = refl
 
 module _ (t : List ℕ) (d : ℕ) (h : Here) (i : ℕ) where
+  -- no depth is left
   pub block-shallow : d ≡ 0 → ReadsBlock t i d h Nothing
   block-shallow e = record { same = rw e }
 
@@ -134,6 +146,7 @@ module _ (t : List ℕ) (d : ℕ) (h : Here) (i : ℕ) where
     bytes-at : drop i t ≡ getD t i 0 ∷ drop (i + 1) t
     bytes-at = let next : i + 1 ≡ suc i = omega arith in drop-cons t i 0 inside ∙ rw next
 
+    -- the byte 00
     ended : getD t i 0 ≡ 0 → ReadsBlock t i d h (At (i + 1))
     ended q =
         let some : d ≡ suc (d - 1) = omega arith in
@@ -145,6 +158,7 @@ module _ (t : List ℕ) (d : ℕ) (h : Here) (i : ℕ) where
       more : block d (drop i t) ≡ (instr (block (d - 1)) (drop i t) >>= λ (s, r). block d r >>= λ (b, q). is (step tt s b, q))
       more = rw bytes-at (goes-on d (getD t i 0) (drop (i + 1) t) deep q)
 
+      -- which is none
       cut : {f : Ends} → f ≡ Nothing → ReadsInstr t i (d - 1) h f → ReadsBlock t i d h Nothing
       cut e R = record {
         same =
@@ -154,34 +168,46 @@ module _ (t : List ℕ) (d : ℕ) (h : Here) (i : ℕ) where
             (λ s r found bad. rw found (sym (never-passes t (block d r) (step tt s) (allowed h) (λ b. rw bad)))));
       }
 
+      -- which ends at k
       next : {f : Ends} {k : ℕ} → f ≡ At k → ReadsInstr t i (d - 1) h f → BlockFrom k
       next {k = k} e R =
-          let first = passed-at (allowedI h) t i (instr (block (d - 1)) (drop i t)) (instr-leaves (block (d - 1)) (block-leaves (d - 1)) (drop i t)) (sym e ∙ R .same) in
+          let rest = instr-leaves (block (d - 1)) (block-leaves (d - 1)) (drop i t) in
+          let first = passed-at (allowedI h) t i (instr (block (d - 1)) (drop i t)) rest (sym e ∙ R .same) in
           record {
             back = λ r S. record {
-              same = rw (more, first .1) (S .same ∙ sym (passed-made (allowed h) t (block d (drop k t)) (step tt (first .0)) (allowed h) (λ b. rw (first .2))));
+              same =
+                  rw (more, first .1)
+                  (S .same ∙ sym (passed-made (allowed h) t (block d (drop k t)) (step tt (first .0)) (allowed h) (λ b. rw (first .2))));
             };
           }
 
+  -- past the end
   past : length t ≤ i → ReadsBlock t i d h Nothing
   past l = let none : drop i t ≡ [] = drop-of-length-le t {i = i} l in record { same = rw none (block-none t d h) }
 
 -- the loop
 module _ (t : List ℕ) (d : ℕ) (h : Here) (i : ℕ) where
+  -- none is read yet
   pub block-start : BlockFrom t d h i i
   block-start = record { back = λ r R. R }
 
   module _ {k : ℕ} (F : BlockFrom t d h i k) where
+    -- the bytes end first
     pub block-past : length t ≤ k → ReadsBlock t i d h Nothing
     block-past l = F .back _ (past t d h k l)
 
+    -- the byte 00
     pub block-end : (d ≡ 0 → ⊥) → k < length t → getD t k 0 ≡ 0 → ReadsBlock t i d h (At (k + 1))
     block-end deep l q = F .back _ (ended t d h k deep l q)
 
-    pub block-cut : {f : Ends} → (d ≡ 0 → ⊥) → k < length t → (getD t k 0 ≡ 0 → ⊥) → f ≡ Nothing → ReadsInstr t k (d - 1) h f → ReadsBlock t i d h Nothing
+    -- no instruction
+    pub block-cut : {f : Ends} → (d ≡ 0 → ⊥) → k < length t → (getD t k 0 ≡ 0 → ⊥) → f ≡ Nothing → ReadsInstr t k (d - 1) h f
+        → ReadsBlock t i d h Nothing
     block-cut deep l q e R = F .back _ (cut t d h k deep l q e R)
 
-    pub block-next : {f : Ends} {n : ℕ} → (d ≡ 0 → ⊥) → k < length t → (getD t k 0 ≡ 0 → ⊥) → f ≡ At n → ReadsInstr t k (d - 1) h f → BlockFrom t d h i n
+    -- one more
+    pub block-next : {f : Ends} {n : ℕ} → (d ≡ 0 → ⊥) → k < length t → (getD t k 0 ≡ 0 → ⊥) → f ≡ At n → ReadsInstr t k (d - 1) h f
+        → BlockFrom t d h i n
     block-next deep l q e R = record { back = λ r S. F .back r (next t d h k deep l q e R .back r S) }
 
 -- an instruction takes a byte, so less is left behind it

@@ -1,8 +1,8 @@
 -- Where chains of readers end, by positions.
-use Prim.Native.Nat.{ℕ, _+_, _-_, _≤_, _<_}
+use Prim.Native.Nat.{ℕ, _+_, _-_, _≤_}
 use native.Mathlib.Omega.{arith}
 use mathlib.Core.Path.{_≡_, refl, sym, ap, _∙_}
-use mathlib.Core.List.{List, [], _∷_}
+use mathlib.Core.List.{List}
 use mathlib.Core.Bool.{Bool, true, false}
 use lib.ListN.{length, drop}
 use lib.Seq.{drop-drop}
@@ -11,8 +11,8 @@ use Rattle.reader.specs.Decode.{Read}
 use Rattle.value.specs.Laws.Maybes.{is-inj}
 use Rattle.value.specs.Laws.Tests.{by-test}
 use Rattle.reader.specs.Ends.{endOf, check}
-use Rattle.reader.specs.Laws.Reading.{If, so, none}
-use Rattle.reader.specs.Laws.Rests.{Leaves, Rest, rest-length}
+use Rattle.reader.specs.Laws.Reading.{so}
+use Rattle.reader.specs.Laws.Rests.{Leaves, rest-length}
 use Rattle.reader.specs.declared.Ends.{Ends}
 use Rattle.reader.specs.declared.Ends.the-variants.{At, Nothing}
 
@@ -33,7 +33,8 @@ went-on t i (is got) (so rest) {k} e =
     (got .0, ap (λ r. is (got .0, r)) (rw same at whole))
 
 -- a reader, and then another from where it ended
-pub ends-then : {A B : Type 0} (t : List ℕ) (i : ℕ) (m : Read A) (f : (A × List ℕ) → Read B) → Leaves (drop i t) m → {k : ℕ} {r : Ends} → At k ≡ endOf t m
+pub ends-then : {A B : Type 0} (t : List ℕ) (i : ℕ) (m : Read A) (f : (A × List ℕ) → Read B) → Leaves (drop i t) m → {k : ℕ} {r : Ends}
+    → At k ≡ endOf t m
     → ((a : A) → r ≡ endOf t (f (a, drop k t))) → r ≡ endOf t (m >>= f)
 ends-then t i m f l e next = let got = went-on t i m l e in rw (got .1) (next (got .0))
 
@@ -54,7 +55,8 @@ ends-made₂ t nothing f g = refl
 ends-made₂ t (is got) f g = ends-made t (f (got .1)) (g (got .0))
 
 -- readers that end alike, behind another
-pub ends-alike : {A B C : Type 0} (t : List ℕ) (m : Read A) (f : List ℕ → Read B) (g : List ℕ → Read C) → ((bs : List ℕ) → endOf t (f bs) ≡ endOf t (g bs))
+pub ends-alike : {A B C : Type 0} (t : List ℕ) (m : Read A) (f : List ℕ → Read B) (g : List ℕ → Read C)
+    → ((bs : List ℕ) → endOf t (f bs) ≡ endOf t (g bs))
     → endOf t (m >>= λ (a, r). f r) ≡ endOf t (m >>= λ (a, r). g r)
 ends-alike t nothing f g same = refl
 ends-alike t (is got) f g same = same (got .1)

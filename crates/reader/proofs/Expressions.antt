@@ -1,6 +1,5 @@
 -- One law for each way through the reader of expressions.
 use Prim.Native.Nat.{ℕ, zero, suc, _+_, _-_, _≤_, _<_}
-use native.Mathlib.Nat.{pos-of-ne-zero}
 use native.Mathlib.Omega.{arith}
 use mathlib.Core.Path.{_≡_, refl, sym, ap, ap₂, _∙_}
 use mathlib.Core.List.{List, [], _∷_}
@@ -11,8 +10,9 @@ use native.Mathlib.Nat.{sub-zero}
 use mathlib.Core.Bool.{Bool, true, false}
 use borrow.Author.Tests.{le-leb, lt-leb}
 use Rattle.value.specs.Maybe.{is, nothing, _>>=_, when, pick}
-use Rattle.value.specs.Values.{One, not, neg, Two, add, sub, mul, less, equal, and}
-use Rattle.value.specs.Marks.{Mark, wholeMark, locationMark, noMark, yesMark, localMark, oneMark, twoMark, noExpr, markOf, rowOf, operandsOf, payloadOf}
+use Rattle.value.specs.Values.{not, neg, Two, add, sub, mul, less, equal, and}
+use Rattle.value.specs.Marks.{Mark, wholeMark, locationMark, noMark, yesMark, localMark, oneMark, twoMark, noExpr, markOf, rowOf}
+use Rattle.value.specs.Marks.{operandsOf, payloadOf}
 use Rattle.reader.specs.Syntax.{Expr, local, one, two}
 use Rattle.reader.specs.Decode.{Read, byte, marked, expr}
 use Rattle.reader.specs.Ends.{endOf, ReadsExpr}
@@ -63,6 +63,7 @@ module _ (t : List ℕ) (inner : List ℕ → Read Expr) where
       go nothing = refl
       go (is got) = ends-made t (inner (got .1)) (two o (got .0))
 
+  -- every mark ends as its row says
   by-row : (k : Mark) (bs : List ℕ) → endOf t (marked inner k bs) ≡ endBy (rowOf k .operands) (rowOf k .payload) bs
   by-row wholeMark bs = number-ends 4 bs _ (leb 4 (length bs)) _
   by-row locationMark bs = number-ends 2 bs _ (leb 2 (length bs)) _
@@ -87,9 +88,11 @@ expr-past t zero = refl
 expr-past t (suc d) = refl
 
 module _ (t : List ℕ) (i d : ℕ) where
+  -- no depth is left
   pub reads-shallow : d ≡ 0 → ReadsExpr t i d Nothing
   reads-shallow e = record { same = rw e }
 
+  -- no bytes are left
   pub reads-past : length t ≤ i → ReadsExpr t i d Nothing
   reads-past l =
       let none : drop i t ≡ [] = drop-of-length-le t {i = i} l in
@@ -97,7 +100,8 @@ module _ (t : List ℕ) (i d : ℕ) where
 
   module _ (deep : d ≡ 0 → ⊥) (inside : i < length t) where
     -- by the mark at i
-    by-mark : (k : ℕ) → k ≡ operandsOf (getD t i 0) → {r : Ends} → r ≡ endBy t (expr (d - 1)) k (payloadOf (getD t i 0)) (drop (i + 1) t) → ReadsExpr t i d r
+    by-mark : (k : ℕ) → k ≡ operandsOf (getD t i 0) → {r : Ends} → r ≡ endBy t (expr (d - 1)) k (payloadOf (getD t i 0)) (drop (i + 1) t)
+        → ReadsExpr t i d r
     by-mark k e {r} h =
         let some : d ≡ suc (d - 1) = omega arith in
         let next : i + 1 ≡ suc i = omega arith in
@@ -109,7 +113,8 @@ module _ (t : List ℕ) (i d : ℕ) where
         record { same = sym (ap₂ (λ d bs. endOf t (expr d bs)) some cons ∙ same) }
 
     -- a leaf
-    pub reads-leaf : {k n : ℕ} → k ≡ operandsOf (getD t i 0) → k ≡ 0 → n ≡ payloadOf (getD t i 0) → n ≤ length t - (i + 1) → ReadsExpr t i d (At (i + 1 + n))
+    pub reads-leaf : {k n : ℕ} → k ≡ operandsOf (getD t i 0) → k ≡ 0 → n ≡ payloadOf (getD t i 0) → n ≤ length t - (i + 1)
+        → ReadsExpr t i d (At (i + 1 + n))
     reads-leaf {k} {n} e z p l =
         by-mark k e
         (rw (z, ← p, length-drop, le-leb n (length t - (i + 1)) l)

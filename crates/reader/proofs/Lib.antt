@@ -26,3 +26,5 @@ pub mod Filling
 pub mod Mapping
 -- one law for each way through the gatherer of variables
 pub mod Gathering
+-- one law for each way through rules 5 to 8, one after the other
+pub mod Verdicts

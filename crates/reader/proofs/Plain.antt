@@ -1,30 +1,31 @@
 -- One law for each way through the reader of an instruction that holds no block.
-use Prim.Native.Nat.{ℕ, zero, suc, _+_, _-_, _≤_, _<_}
+use Prim.Native.Nat.{ℕ, suc, _+_, _≤_, _<_}
 use native.Mathlib.Omega.{arith}
-use mathlib.Core.Path.{_≡_, refl, sym, ap, _∙_}
+use mathlib.Core.Path.{_≡_, refl, sym, _∙_}
 use mathlib.Core.List.{List, [], _∷_}
 use mathlib.Core.Bool.{Bool, true, false}
 use mathlib.Core.Bool as B
-use lib.ListN.{length, getD, take, drop, length-drop, drop-of-length-le}
-use lib.Seq.{drop-cons, drop-drop}
+use lib.ListN.{length, getD, take, drop, drop-of-length-le}
+use lib.Seq.{drop-cons}
 use lib.Dec.{leb, eqb}
-use borrow.Author.Tests.{le-leb, lt-leb, leb-true, leb-false, eqb-true}
+use borrow.Author.Tests.{leb-true, leb-false, eqb-true}
 use Rattle.value.specs.Maybe.{is, nothing, _>>=_, both}
 use Rattle.value.specs.Values.{unbytes}
 use Rattle.value.specs.Laws.Tests.{by-test}
-use Rattle.reader.specs.Syntax.{Expr, assign, write, read, call, select, Instr, Plain}
+use Rattle.reader.specs.Syntax.{Expr, assign, write, read, call, select, Plain}
 use Rattle.reader.specs.Decode.{Read, byte, number, times, expr, Form, assignForm, writeForm, readForm, whileForm, ifForm, callForm, atomicForm}
 use Rattle.reader.specs.Decode.{selectForm, noForm, forms, formed, instr, block}
 use Rattle.reader.specs.Rules.{Here, allowedI, isConcurrent}
-use Rattle.reader.specs.Ends.{endOf, check, ReadsValues, ReadsInstr, ReadsPlain}
+use Rattle.reader.specs.Ends.{endOf, check, ReadsValues, ReadsPlain}
 use Rattle.reader.specs.Laws.Blocks.{forms?, form-right}
 use Rattle.reader.specs.Laws.Positions.{byte-at, byte-past, number-at, number-past}
-use Rattle.reader.proofs.Chains.{ends-then, ends-none, ends-made, ends-made₂, ends-alike, end-inside, bind-assoc, always-passes, never-passes, fails-behind}
+use Rattle.reader.proofs.Chains.{ends-made, ends-made₂, ends-alike, always-passes, never-passes, fails-behind}
 use Rattle.reader.specs.declared.Ends.{Ends}
-use Rattle.reader.specs.declared.Ends.the-variants.{At, Nothing}
+use Rattle.reader.specs.declared.Ends.the-variants.{Nothing}
 
 -- an instruction, by its first byte
-pub instr-at : (t : List ℕ) (i d : ℕ) (b : ℕ) → i < length t → getD t i 0 ≡ b → instr (block d) (drop i t) ≡ formed (block d) (getD forms b noForm) (drop (i + 1) t)
+pub instr-at : (t : List ℕ) (i d : ℕ) (b : ℕ) → i < length t → getD t i 0 ≡ b
+    → instr (block d) (drop i t) ≡ formed (block d) (getD forms b noForm) (drop (i + 1) t)
 instr-at t i d b l e = let next : i + 1 ≡ suc i = omega arith in rw (drop-cons t i 0 l, e, next)
 
 -- a byte that begins no instruction
@@ -50,6 +51,7 @@ module _ (t : List ℕ) (i : ℕ) (h : Here) where
   abbrev here : ℕ → Ends
   here d = endOf t (instr (block d) (drop i t) >>= check (allowedI h))
 
+  -- past the end
   pub plain-past : length t ≤ i → ReadsPlain t i h Nothing
   plain-past l =
       let none : drop i t ≡ [] = drop-of-length-le t {i = i} l in
@@ -72,6 +74,7 @@ module _ (t : List ℕ) (i : ℕ) (h : Here) where
     one-value : (bs : List ℕ) → endOf t (expr 16 bs) ≡ endOf t (times (expr 16) 1 bs)
     one-value bs = sym (ends-made t (expr 16 bs) (_∷ []))
 
+    -- x := e
     pub reads-assign : {r : Ends} → getD t i 0 ≡ 0x20 → ReadsValues t (i + 2) 1 r → ReadsPlain t i h r
     reads-assign q R = bytes-then 2 1 R
         (λ d room.
@@ -80,6 +83,7 @@ module _ (t : List ℕ) (i : ℕ) (h : Here) where
         (always-passes t (expr 16 (drop (i + 2) t)) (assign (getD t (i + 1) 0)) (allowedI h) (λ e. refl) ∙ one-value (drop (i + 2) t)))
         (λ d short. rw (instr-at t i d 0x20 inside q, byte-past t (i + 1) (omega arith)))
 
+    -- y[o] := e
     pub reads-write : {r : Ends} → getD t i 0 ≡ 0x21 → ReadsValues t (i + 2) 2 r → ReadsPlain t i h r
     reads-write q R = bytes-then 2 2 R
         (λ d room.
@@ -91,11 +95,13 @@ module _ (t : List ℕ) (i : ℕ) (h : Here) where
         ∙ sym (ends-made₂ t first (times (expr 16) 1) _∷_)))
         (λ d short. rw (instr-at t i d 0x21 inside q, byte-past t (i + 1) (omega arith)))
       where
+        -- two expressions, and nothing is forbidden
         two-values : (y : ℕ) (m : Read Expr)
             → endOf t ((m >>= λ (o, r). expr 16 r >>= λ (e, r). is (write y o e, r)) >>= check (allowedI {A = Plain} h)) ≡ endOf t (m >>= λ (o, r). expr 16 r)
         two-values y nothing = refl
         two-values y (is got) = always-passes t (expr 16 (got .1)) (write y (got .0)) (allowedI h) (λ e. refl)
 
+    -- x := y[o]
     pub reads-read : {r : Ends} → getD t i 0 ≡ 0x22 → ReadsValues t (i + 3) 1 r → ReadsPlain t i h r
     reads-read q R = bytes-then 3 1 R
         (λ d room.
@@ -123,6 +129,7 @@ module _ (t : List ℕ) (i : ℕ) (h : Here) where
       };
     }
 
+    -- no byte for the count
     pub call-cut : getD t i 0 ≡ 0x25 → length t ≤ i + 3 → ReadsPlain t i h Nothing
     call-cut q l = record {
       gives = λ d n₃ n₄ n₆. record {
@@ -136,7 +143,9 @@ module _ (t : List ℕ) (i : ℕ) (h : Here) where
       };
     }
 
-    pub reads-call : {r : Ends} → getD t i 0 ≡ 0x25 → h .inside ≡ false → i + 3 < length t → ReadsValues t (i + 4) (getD t (i + 3) 0) r → ReadsPlain t i h r
+    -- and these
+    pub reads-call : {r : Ends} → getD t i 0 ≡ 0x25 → h .inside ≡ false → i + 3 < length t → ReadsValues t (i + 4) (getD t (i + 3) 0) r
+        → ReadsPlain t i h r
     reads-call q e l R = bytes-then 4 (getD t (i + 3) 0) R
         (λ d room.
         let next : i + 1 + 2 ≡ i + 3 = omega arith in
@@ -146,7 +155,9 @@ module _ (t : List ℕ) (i : ℕ) (h : Here) where
         (always-passes t args (call (unbytes (take 2 (drop (i + 1) t)))) (allowedI h) (λ es. rw e)))
         (λ d short. absurd (omega arith))
 
-    pub no-select : {b : Bool} → getD t i 0 ≡ 0x27 → b ≡ both (B.not (isConcurrent (h .kind))) (eqb (h .proc) 0) → b ≡ false → ReadsPlain t i h Nothing
+    -- select where it may not stand
+    pub no-select : {b : Bool} → getD t i 0 ≡ 0x27 → b ≡ both (B.not (isConcurrent (h .kind))) (eqb (h .proc) 0) → b ≡ false
+        → ReadsPlain t i h Nothing
     no-select q e f = record {
       gives = λ d n₃ n₄ n₆. record {
         same = sym
@@ -156,6 +167,7 @@ module _ (t : List ℕ) (i : ℕ) (h : Here) where
       };
     }
 
+    -- and where it may
     pub reads-select : {b : Bool} {r : Ends} → getD t i 0 ≡ 0x27 → b ≡ both (B.not (isConcurrent (h .kind))) (eqb (h .proc) 0) → b ≡ true
         → ReadsValues t (i + 5) 0 r → ReadsPlain t i h r
     reads-select q e f R = bytes-then 5 0 R

@@ -1,12 +1,12 @@
 -- One law for each way through rule 4: the bodies, one after the other.
-use Prim.Native.Nat.{ℕ, zero, suc, _+_, _*_, _-_, _≤_, _<_}
+use Prim.Native.Nat.{ℕ, suc, _+_, _*_, _-_, _≤_, _<_}
 use native.Mathlib.Omega.{arith}
 use mathlib.Core.Path.{_≡_, refl, sym, ap, ap₂, _∙_}
 use mathlib.Core.Logic.{_≢_}
 use mathlib.Core.List.{List, [], _∷_}
 use mathlib.Core.Bool.{Bool, true, false}
-use lib.ListN.{length, getD, take, drop, length-drop}
-use lib.Seq.{drop-drop, drop-length}
+use lib.ListN.{length, take, drop, length-drop}
+use lib.Seq.{drop-drop}
 use lib.Dec.{eqb}
 use borrow.Author.Tests.{eq-eqb, ne-eqb, eqb-true, eqb-false}
 use Rattle.value.specs.Maybe.{Maybe, is, nothing, _>>=_, both}
@@ -18,8 +18,8 @@ use Rattle.reader.specs.Syntax.{Kind, Block, Plain}
 use Rattle.reader.specs.Encode.{Head}
 use Rattle.reader.specs.Encode as E
 use Rattle.reader.specs.Decode.{Read, times, finish, block}
-use Rattle.reader.specs.Rules.{Here, allowed, placed, allAllowed}
-use Rattle.reader.specs.Ends.{endOf, check, ReadsBlock}
+use Rattle.reader.specs.Rules.{allowed, placed}
+use Rattle.reader.specs.Ends.{endOf, check}
 use Rattle.reader.specs.Shapes.{headsAt, placedRight, bodiesRight, BodyReads, BodiesTest}
 use Rattle.reader.specs.Laws.Places.{rows, headAt}
 use Rattle.reader.specs.Laws.Procs.{bodyIn}
@@ -107,15 +107,20 @@ pub record BodiesFrom (k : Kind) (code t : List ℕ) (i n p at q m : ℕ) : Type
   pub count : q + m ≡ n
 
 module _ (k : Kind) (code t : List ℕ) (i n : ℕ) where
+  -- all are left
   pub bodies-start : i + 6 * n ≤ length t → BodiesFrom k code t i n 0 i 0 n
   bodies-start l = record { same = λ h. refl; inside = omega arith; room = l; count = omega arith }
 
   module _ {p at q m : ℕ} (F : BodiesFrom k code t i n p at q m) where
+    -- none is left
     pub bodies-end : m ≤ 0 → BodiesTest k code t i n (eqb p (length code))
     bodies-end z = record {
       same = λ h.
           let none : m ≡ 0 = omega arith in
-          sym (F .same h ∙ ap (λ m. bodiesRight k q p (headsAt t at m) (drop p code)) none ∙ no-more k q p (drop p code) ∙ at-end (length code) p (length-drop p code) (F .inside));
+          sym (F .same h
+          ∙ ap (λ m. bodiesRight k q p (headsAt t at m) (drop p code)) none
+          ∙ no-more k q p (drop p code)
+          ∙ at-end (length code) p (length-drop p code) (F .inside));
     }
 
     module _ (some : 0 < m) {o : ℕ} (off : o ≡ numberAt 4 t (at + 2)) where
@@ -127,6 +132,7 @@ module _ (k : Kind) (code t : List ℕ) (i n : ℕ) where
       left : Bytes code → bodiesRight k 0 0 (headsAt t i n) code ≡ placedRight k q p (headAt (drop at t) ∷ headsAt t (at + 6) (m - 1)) read
       left h = F .same h ∙ rw (opened t at m some)
 
+      -- the next does not begin there
       pub bodies-moved : (o ≡ p → ⊥) → BodiesTest k code t i n false
       bodies-moved n = record {
         same = λ h.
@@ -142,6 +148,7 @@ module _ (k : Kind) (code t : List ℕ) (i n : ℕ) where
         more : (b : Block Plain) (r : List ℕ) → block 16 (drop p code) ≡ is (b, r) → read ≡ before b (finish (others r))
         more b r found = rw found (finish-more b (others r))
 
+        -- it is none
         pub bodies-cut : f ≡ Nothing → BodiesTest k code t i n false
         bodies-cut e = record {
           same = λ h.
@@ -151,6 +158,7 @@ module _ (k : Kind) (code t : List ℕ) (i n : ℕ) where
               (λ b r found bad. rw (more b r found) (not-allowed k q p (headAt (drop at t)) (headsAt t (at + 6) (m - 1)) b (finish (others r)) bad)));
         }
 
+        -- it ends at l
         pub bodies-next : {l : ℕ} → f ≡ At l → BodiesFrom k code t i n l (at + 6) (q + 1) (m - 1)
         bodies-next {l} e =
             let ends : At l ≡ endOf code (block 16 (drop p code) >>= check (allowed (bodyIn k q))) = sym e ∙ R .reads .same in

@@ -1,23 +1,25 @@
 -- One law for each way through rules 1 to 4 together.
-use Prim.Native.Nat.{ℕ, zero, suc, _+_, _*_, _-_, _≤_, _<_}
+use Prim.Native.Nat.{ℕ, _+_, _*_, _-_, _≤_, _<_}
 use native.Mathlib.Omega.{arith}
 use mathlib.Core.Path.{_≡_, refl, sym, ap, subst, _∙_}
-use mathlib.Core.List.{List, [], _∷_}
+use mathlib.Core.List.{List}
 use mathlib.Core.Bool.{Bool, true, false}
 use lib.ListN.{length, take, drop}
 use lib.Seq.{length-take-le, take-take, drop-drop}
 use Rattle.value.specs.Maybe.{Maybe, is, nothing, _>>=_, when, both}
 use Rattle.value.specs.Lists.{sum}
-use Rattle.value.specs.Laws.Maybes.{is-inj, missing}
-use Rattle.value.specs.Laws.Tests.{by-test, never}
-use Rattle.value.specs.Laws.Bytes.{Bytes, bytes-take}
+use Rattle.value.specs.Laws.Maybes.{is-inj}
+use Rattle.value.specs.Laws.Tests.{never}
+use Rattle.value.specs.Laws.Bytes.{bytes-take}
 use Rattle.reader.specs.Syntax.{Kind, Block, Program, Plain}
-use Rattle.reader.specs.Encode.{Head, Middle, middleOf, front}
+use Rattle.reader.specs.Encode.{Middle, middleOf, front}
 use Rattle.reader.specs.Encode as E
 use Rattle.reader.specs.Decode.{finish, times, but, last}
 use Rattle.reader.specs.Decode as D
-use Rattle.reader.specs.Rules.{placed, allAllowed, bind, program, rightRecords, allNamed, fewLabels, noCycle, setFirst, Verdict, refused, accepted, require, demand, verdict}
-use Rattle.reader.specs.Shapes.{trailerOf, HeaderFor, HeaderIs, numbersAt, placedRight, Closed, RecordsTest, BodiesTest, CellsAre, FormIs, ShapedAs}
+use Rattle.reader.specs.Rules.{placed, allAllowed, bind, program, rightRecords, allNamed, fewLabels, noCycle, setFirst}
+use Rattle.reader.specs.Rules.{Verdict, refused, require, demand, verdict}
+use Rattle.reader.specs.Shapes.{trailerOf, HeaderFor, HeaderIs, numbersAt, placedRight, Closed, RecordsTest, BodiesTest}
+use Rattle.reader.specs.Shapes.{CellsAre, FormIs, ShapedAs}
 use Rattle.reader.specs.Laws.Formed.{RightTrailer, Formed, judged}
 use Rattle.reader.specs.Laws.Places.{middleAt, middle-there}
 use Rattle.reader.specs.Laws.Passes.{trailer-read, middle-read, formed-trailer, formed-records, formed-judged}
@@ -70,12 +72,15 @@ module _ {k : Kind} {t : List ℕ} {r : Trailer} (closed : Closed k t r) where
   abbrev body : List ℕ
   body = take (length t - 16) t
 
+  -- where the records begin
   abbrev at : ℕ
   at = length t - 16 - r .distance
 
+  -- the records, sizes and mains
   abbrev m : Middle
   m = middleAt (r .procedures) (r .locations) (r .threads) (drop at body)
 
+  -- without the trailer
   long : length body ≡ length t - 16
   long = length-take-le (length t - 16) t (omega arith)
 
@@ -123,10 +128,13 @@ module _ {k : Kind} {t : List ℕ} {r : Trailer} (closed : Closed k t r) where
         cells = C .same ∙ ap sum (placed ∙ sizes);
       }
 
+  -- rule 3 does not let it through
   pub shape-wrong : {b : Bool} → RecordsTest k body at (trailerOf r) b → b ≡ false → FormIs k t (Refused 3)
   shape-wrong R e = record { gives = λ h. after-2 ∙ rw (← R .same, e) }
 
-  module _ {b : Bool} (R : RecordsTest k body at (trailerOf r) b) (right : b ≡ true) {c : Bool} (B : BodiesTest k (take at t) body at (r .procedures) c) where
+  module _ {b : Bool} (R : RecordsTest k body at (trailerOf r) b) (right : b ≡ true) {c : Bool}
+      (B : BodiesTest k (take at t) body at (r .procedures) c) where
+    -- rule 4 does not
     pub shape-bodies : c ≡ false → FormIs k t (Refused 4)
     shape-bodies e = record {
       gives = λ h.
@@ -135,6 +143,7 @@ module _ {k : Kind} {t : List ℕ} {r : Trailer} (closed : Closed k t r) where
           after-2 ∙ rw (← R .same, right, none);
     }
 
+    -- both do
     pub shape-right : {n : ℕ} → c ≡ true → CellsAre body (at + 6 * r .procedures) (r .locations) n
         → FormIs k t (Shaped (record { procedures = r .procedures; locations = r .locations; threads = r .threads; records = at; cells = n }))
     shape-right e C = record {
@@ -149,9 +158,11 @@ module _ {k : Kind} {t : List ℕ} {r : Trailer} (closed : Closed k t r) where
   pub room-records : at + (6 * r .procedures + 2 * r .locations + 2 * r .threads) ≤ length body
   room-records = rw long (omega (arith, closed .back, closed .room))
 
+  -- the records
   pub room-bodies : at + 6 * r .procedures ≤ length body
   room-bodies = omega (arith, room-records)
 
+  -- the sizes
   pub room-sizes : at + 6 * r .procedures + 2 * r .locations ≤ length body
   room-sizes = omega (arith, room-records)
 
@@ -159,6 +170,7 @@ module _ {k : Kind} {t : List ℕ} {r : Trailer} (closed : Closed k t r) where
   pub long-body : length t - 16 ≡ length body
   long-body = sym long
 
+  -- and the code
   pub long-code : at ≡ length (take at t)
   long-code = sym (length-take-le at t (omega arith))
 

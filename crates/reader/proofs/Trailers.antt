@@ -1,11 +1,11 @@
 -- One law for each way through rules 1 and 2.
-use Prim.Native.Nat.{ℕ, zero, suc, _+_, _*_, _-_, _≤_, _<_}
+use Prim.Native.Nat.{ℕ, _+_, _*_, _-_, _≤_, _<_}
 use native.Mathlib.Omega.{arith}
 use mathlib.Core.Path.{_≡_, refl, sym, ap, _∙_}
-use mathlib.Core.List.{List, [], _∷_}
+use mathlib.Core.List.{List}
 use mathlib.Core.Bool.{Bool, true, false}
-use lib.ListN.{length, getD, take, drop, length-drop}
-use lib.Dec.{leb, eqb}
+use lib.ListN.{length, length-drop}
+use lib.Dec.{leb}
 use borrow.Author.Tests.{eq-eqb, ne-eqb, le-leb, lt-leb}
 use lib.Seq.{drop-length}
 use Rattle.value.specs.Maybe.{Maybe, is, nothing, both}
@@ -29,20 +29,24 @@ use Rattle.reader.specs.declared.header.Header.the-variants.{Refused, Is
 -- ---- rule 1
 
 module _ (k : Kind) (t : List ℕ) (r : Trailer) where
+  -- "43 or 53"
   pub kind-wrong : {m : ℕ} → m ≡ kindMark k → (r .kind ≡ m → ⊥) → TrailerTest k t r false
   kind-wrong e n = record { same = rw (ne-eqb (r .kind) (kindMark k) (λ q. n (q ∙ sym e))) }
 
   module _ {m : ℕ} (e : m ≡ kindMark k) (kind : r .kind ≡ m) where
+    -- "50"
     pub mark-wrong : (r .mark ≡ 0x50 → ⊥) → TrailerTest k t r false
     mark-wrong n = record { same = rw (eq-eqb (r .kind) (kindMark k) (kind ∙ e), ne-eqb (r .mark) 0x50 n) }
 
     module _ (mark : r .mark ≡ 0x50) where
+      -- the distance
       pub distance-wrong : (r .back ≡ 6 * r .procs + 2 * r .places + 2 * r .threads → ⊥) → TrailerTest k t r false
       distance-wrong n = record {
         same = rw (eq-eqb (r .kind) (kindMark k) (kind ∙ e), eq-eqb (r .mark) 0x50 mark, ne-eqb (r .back) (6 * r .procs + 2 * r .places + 2 * r .threads) n);
       }
 
       module _ (back : r .back ≡ 6 * r .procs + 2 * r .places + 2 * r .threads) where
+        -- the length
         pub length-wrong : (r .whole ≡ length t → ⊥) → TrailerTest k t r false
         length-wrong n = record {
           same =
@@ -54,6 +58,7 @@ module _ (k : Kind) (t : List ℕ) (r : Trailer) where
               );
         }
 
+        -- "distance over length - 16"
         pub room-left : r .whole ≡ length t → TrailerTest k t r (leb (r .back) (length t - 16))
         room-left whole = record {
           same =
@@ -76,19 +81,23 @@ fails-after true = refl
 fails-after false = refl
 
 module _ (k : Kind) (t : List ℕ) (r : Trailer) {m : L.Limits} (e : limitsOf m ≡ limits k) where
+  -- too many bytes
   pub bytes-over : m .bytes < length t → CountsTest k t r false
   bytes-over h = record { same = rw (← e, lt-leb (length t) (m .bytes) h) }
 
   module _ (bytes : length t ≤ m .bytes) where
+    -- too many locations
     pub places-over : m .locations < r .places → CountsTest k t r false
     places-over h = record {
       same = rw (← e, le-leb (length t) (m .bytes) bytes, lt-leb (r .places) (m .locations) h) (fails-after (within 1 (m .procedures) (r .procs)));
     }
 
     module _ (places : r .places ≤ m .locations) {a : Bool} (procs : a ≡ within 1 (m .procedures) (r .procs)) where
+      -- too few or too many procedures
       pub procs-wrong : a ≡ false → CountsTest k t r false
       procs-wrong h = record { same = rw (← e, le-leb (length t) (m .bytes) bytes, ← procs, h) }
 
+      -- and threads
       pub threads-left : {b : Bool} → a ≡ true → b ≡ within (m .fewest) (m .threads) (r .threads) → CountsTest k t r b
       threads-left h q = record {
         same = rw (← e, le-leb (length t) (m .bytes) bytes, ← procs, h, le-leb (r .places) (m .locations) places) q;
@@ -144,17 +153,21 @@ no-trailer t h l = go (finish (D.trailer (last 16 t))) (finish-only trailer-exac
     go (is r) (so whole) = absurd (omega (arith, ap length (whole .same), length-drop (length t - 16) t))
 
 module _ (k : Kind) (t : List ℕ) where
+  -- "under 16 bytes"
   pub header-short : length t < 16 → HeaderIs k t (Refused 1)
   header-short l = record { gives = λ h. rw (no-trailer t h l) }
 
   module _ {r : H.Trailer} (long : 16 ≤ length t) (at : TrailerAt t r) where
+    -- rule 1 does not let it through
     pub header-wrong : {b : Bool} → TrailerTest k t (trailerOf r) b → b ≡ false → HeaderIs k t (Refused 1)
     header-wrong T e = record { gives = λ h. rw (trailer-there t r long at, ← T .same, e) }
 
     module _ {b : Bool} (T : TrailerTest k t (trailerOf r) b) (right : b ≡ true) where
+      -- rule 2 does not
       pub header-over : {c : Bool} → CountsTest k t (trailerOf r) c → c ≡ false → HeaderIs k t (Refused 2)
       header-over C e = record { gives = λ h. rw (trailer-there t r long at, ← T .same, right, ← C .same, e) }
 
+      -- both do
       pub header-right : {c : Bool} → CountsTest k t (trailerOf r) c → c ≡ true → HeaderIs k t (Is r)
       header-right C e =
           let parts = trailer? k t (trailerOf r) .so (sym (T .same) ∙ right) in

@@ -15,10 +15,12 @@ use Rattle.reader.specs.Decode.{finish, last}
 use Rattle.reader.specs.Decode as D
 use Rattle.reader.specs.Rules.{rightTrailer, rightCounts}
 use Rattle.reader.specs.Rules as R
+use Rattle.reader.specs.Calls.{labelsOf, readCall}
 use Rattle.reader.specs.Laws.Places.{rows, headAt, middleAt}
 use Rattle.reader.specs.Laws.Formed.{Formed, judged}
 use Rattle.reader.specs.Laws.TablePlaces.{recordsAt}
 use Rattle.reader.specs.Ends.{ReadsBlock}
+use Rattle.reader.specs.declared.ReadAnswer.{ReadAnswer}
 use Rattle.reader.specs.declared.Ends.{Ends}
 use Rattle.reader.specs.declared.limits.Limits.{Limits}
 use Rattle.reader.specs.declared.header.Trailer.{Trailer}
@@ -161,11 +163,40 @@ pub record ShapedAs (k : Kind) (t : List ℕ) (s : Shape) (p : Program Plain) : 
   pub records : s .records ≡ recordsAt p
   pub cells : s .cells ≡ sum (p .sizes)
 
+-- of some program
+abbrev pub HasShape : Kind → List ℕ → Shape → Type 0
+HasShape k t s = (p : Program Plain) × ShapedAs k t s p
+
 -- the number that is answered, or the shape
 abbrev pub FormFor : Kind → List ℕ → Form → Type 0
 FormFor k t (F.Refused n) = R.verdict k t ≡ R.refused n
-FormFor k t (Shaped s) = (p : Program Plain) × ShapedAs k t s p
+FormFor k t (Shaped s) = HasShape k t s
 
 -- of any bytes
 pub record FormIs (k : Kind) (t : List ℕ) (f : Form) : Type 0 where
   pub gives : Bytes t → FormFor k t f
+
+-- ---- rules 5 to 8
+
+-- n is the number of labels
+pub record LabelsAre (k : Kind) (t : List ℕ) (s : Shape) (n : ℕ) : Type 0 where
+  pub same : (p : Program Plain) → ShapedAs k t s p → n ≡ labelsOf k p
+
+-- "A refusal returns its number and zeros"
+abbrev pub refusal : ℕ → ReadAnswer
+refusal n = record { number = n; procedures = 0; locations = 0; threads = 0; labels = 0; cells = 0 }
+
+-- "An accepted read answers 0 with P, M, T, the number of labels (sequential: 0) and of cells"
+abbrev pub acceptance : Shape → ℕ → ReadAnswer
+acceptance s n = record {
+  number = 0;
+  procedures = s .procedures;
+  locations = s .locations;
+  threads = s .threads;
+  labels = n;
+  cells = s .cells;
+}
+
+-- what the call answers
+pub record Answers (k : Kind) (t : List ℕ) (r : ReadAnswer) : Type 0 where
+  pub same : r ≡ readCall k t

@@ -1,7 +1,8 @@
 //! Writes a batch of cases and the lines that answer them.
 //!
-//! Usage: cases STDIN STDOUT. The batch goes to the file STDIN, the lines to the file STDOUT, and
-//! a summary to standard error. The seed is fixed, so both files are always the same.
+//! Usage: cases STDIN STDOUT [OPS]. The batch goes to the file STDIN, the lines to the file STDOUT,
+//! and a summary to standard error. With OPS, a word of digits such as `12`, only the cases of those
+//! calls are written. The seed is fixed, so both files are always the same.
 
 use second::batch::*;
 use second::builder::*;
@@ -26,19 +27,24 @@ const DAMAGED_TABLES: usize = 500;
 
 fn main() -> std::io::Result<()> {
     let paths: Vec<String> = std::env::args().skip(1).collect();
-    let [stdin, stdout] = paths.as_slice() else {
-        eprintln!("usage: cases STDIN STDOUT");
-        std::process::exit(2);
+    let (stdin, stdout, ops) = match paths.as_slice() {
+        [stdin, stdout] => (stdin, stdout, "123456"),
+        [stdin, stdout, ops] => (stdin, stdout, ops.as_str()),
+        _ => {
+            eprintln!("usage: cases STDIN STDOUT [OPS]");
+            std::process::exit(2);
+        }
     };
-    let batch = whole_batch();
+    let batch = whole_batch(ops);
     fs::write(stdin, &batch.input)?;
     fs::write(stdout, &batch.lines)?;
     batch.print_summary();
     Ok(())
 }
 
-fn whole_batch() -> Batch {
+fn whole_batch(ops: &str) -> Batch {
     let mut batch = Batch {
+        ops: ops.to_string(),
         section: "worked",
         ..Batch::default()
     };
@@ -80,6 +86,8 @@ fn whole_batch() -> Batch {
 /// The cases so far, their lines, and counts for the summary.
 #[derive(Default)]
 struct Batch {
+    /// The calls whose cases are kept, a digit each.
+    ops: String,
     input: Vec<u8>,
     lines: String,
     section: &'static str,
@@ -90,6 +98,9 @@ struct Batch {
 impl Batch {
     fn add(&mut self, case: Case) {
         assert!(case.keeps_limits(), "a case is over a limit");
+        if !self.ops.contains((b'0' + case.op) as char) {
+            return;
+        }
         let line = case.answer();
         *self.cases.entry(self.section).or_insert(0) += 1;
         self.note(outcome(&line));

@@ -1,13 +1,12 @@
 -- What stands at a position of a table, by the byte there: an expression, an instruction, a block.
-use Prim.Native.Nat.{ℕ, zero, suc, _+_, _-_, _^_, _≤_, _<_}
+use Prim.Native.Nat.{ℕ, suc, _+_, _-_, _≤_, _<_}
 use native.Mathlib.Omega.{arith}
 use mathlib.Core.Path.{_≡_, refl, sym, ap, ap₂, subst, _∙_}
 use mathlib.Core.List.{List, [], _∷_, _++_}
 use mathlib.Core.Bool.{true, false}
 use lib.ListN.{length, getD, take, drop, length-append}
-use lib.Signed.{mag}
 use Rattle.value.specs.Values.{One, Two, bytes, word, unbytes, unword}
-use Rattle.value.specs.Marks.{Mark, wholeMark, locationMark, noMark, yesMark, localMark, oneMark, twoMark, noExpr, marks, mark₁, mark₂}
+use Rattle.value.specs.Marks.{Mark, wholeMark, locationMark, noMark, yesMark, localMark, oneMark, twoMark, noExpr, marks}
 use Rattle.value.specs.declared.Value.the-variants.{Whole, Location, Truth}
 use Rattle.value.specs.Laws.Lists.{Each}
 use Rattle.reader.specs.Syntax.{Expr, constant, local, one, two, Instr, assign, write, read, while, if, call, atomic, select, Block, end, step}
@@ -15,7 +14,6 @@ use Rattle.reader.specs.Encode.{each}
 use Rattle.reader.specs.Encode as E
 use Rattle.reader.specs.Decode.{Form, assignForm, writeForm, readForm, whileForm, ifForm, callForm, atomicForm, selectForm, noForm, forms}
 use Rattle.value.specs.Laws.Bytes.{unword-word, word-fits}
-use Rattle.reader.specs.Laws.Depths.{depth}
 use Rattle.reader.specs.Laws.Fits.{ExprFits, InstrFits, BlockFits}
 use Rattle.value.specs.Laws.Marks.{mark₁-marks, mark₂-marks}
 use Rattle.reader.specs.Laws.Exprs.{depth-pos}
@@ -144,6 +142,7 @@ module _ {t : List ℕ} {i d : ℕ} {e : Expr} {j : ℕ} (h : ExprAt t i d e j) 
   pub no-here : getD t i 0 ≡ 0x03 → (e ≡ constant (Truth false)) × (j ≡ i + 1)
   no-here q = byte-here q
 
+  -- "04: true"
   pub yes-here : getD t i 0 ≡ 0x04 → (e ≡ constant (Truth true)) × (j ≡ i + 1)
   yes-here q = byte-here q
 
@@ -297,7 +296,11 @@ by-form {t = t} {i} (read x y o) {j} h =
     let second : Stands t (i + 2) (y ∷ E.expr o) j = shift (others (others (h .stands))) (omega arith) in
     let after : Stands t (i + 3) (E.expr o) j = shift (others second) (omega arith) in
     rw (first (h .stands))
-    (record { o = o; is = ap₂ (λ x y. read x y o) (sym (first (others (h .stands)))) (sym (first second)); offset = record { stands = after; fits = h .fits .1 .2 } })
+    (record {
+      o = o;
+      is = ap₂ (λ x y. read x y o) (sym (first (others (h .stands)))) (sym (first second));
+      offset = record { stands = after; fits = h .fits .1 .2 };
+    })
 by-form {t = t} {i} (while e b) {j} h =
     let after : Stands t (i + 1) (E.expr e ++ E.block b) j = others (h .stands) in
     rw (first (h .stands))
@@ -356,24 +359,31 @@ module _ {A : Type 0} {t : List ℕ} {i d : ℕ} {s : Instr A} {j : ℕ} (h : In
   pub assign-here : getD t i 0 ≡ 0x20 → AssignAt t i d s j
   assign-here q = form-here q
 
+  -- y[o] := e
   pub write-here : getD t i 0 ≡ 0x21 → WriteAt t i d s j
   write-here q = form-here q
 
+  -- x := y[o]
   pub read-here : getD t i 0 ≡ 0x22 → ReadAt t i d s j
   read-here q = form-here q
 
+  -- while
   pub while-here : getD t i 0 ≡ 0x23 → WhileAt t i d s j
   while-here q = form-here q
 
+  -- if
   pub if-here : getD t i 0 ≡ 0x24 → IfAt t i d s j
   if-here q = form-here q
 
+  -- a call
   pub call-here : getD t i 0 ≡ 0x25 → CallAt t i d s j
   call-here q = form-here q
 
+  -- an atomic block
   pub atomic-here : getD t i 0 ≡ 0x26 → AtomicAt t i d s j
   atomic-here q = form-here q
 
+  -- select
   pub select-here : getD t i 0 ≡ 0x27 → SelectAt t i d s j
   select-here q = form-here q
 

@@ -1,8 +1,8 @@
 -- The readers by positions: what is read from i on stands there, what stands there is read, and one thing stands there.
 use Prim.Native.Nat.{ℕ, suc, _+_, _≤_, _<_}
 use native.Mathlib.Omega.{arith}
-use mathlib.Core.Path.{_≡_, refl, sym, ap, _∙_}
-use mathlib.Core.List.{List, [], _∷_, _++_}
+use mathlib.Core.Path.{_≡_, sym, ap, _∙_}
+use mathlib.Core.List.{List, []}
 use lib.ListN.{length, getD, take, drop, length-drop, length-append, drop-of-length-le}
 use lib.Seq.{drop-cons, drop-drop}
 use borrow.Author.Tests.{le-leb, lt-leb}
@@ -10,12 +10,10 @@ use Rattle.value.specs.Maybe.{is, nothing}
 use Rattle.value.specs.Values.{unbytes}
 use Rattle.value.specs.Laws.Maybes.{is-inj}
 use Rattle.reader.specs.Syntax.{Expr, Instr, Block, Plain}
-use Rattle.reader.specs.Encode as E
 use Rattle.reader.specs.Decode.{Read, byte, number}
 use Rattle.reader.specs.Decode as D
 use Rattle.value.specs.Laws.Bytes.{Bytes, bytes-drop}
 use Rattle.reader.specs.Laws.Reading.{Took, Exact, known-is}
-use Rattle.reader.specs.Laws.Fits.{ExprFits, InstrFits, BlockFits}
 use Rattle.reader.specs.Laws.Exprs.{expr-exact}
 use Rattle.reader.specs.Laws.Blocks.{instr-exact, block-exact}
 use Rattle.reader.specs.Laws.Stands.{Stands, stands-at, rest-at}
@@ -58,9 +56,11 @@ module _ {t : List ℕ} {i d : ℕ} where
   pub expr-read : {e : Expr} {j : ℕ} → ExprAt t i d e j → D.expr d (drop i t) ≡ is (e, drop j t)
   expr-read {e} h = read-at (expr-exact d) e (h .stands) (h .fits)
 
+  -- so is an instruction
   pub instr-read : {s : Instr Plain} {j : ℕ} → InstrAt t i d s j → D.instr (D.block d) (drop i t) ≡ is (s, drop j t)
   instr-read {s} h = read-at (instr-exact d (block-exact d)) s (h .stands) (h .fits)
 
+  -- and a block
   pub block-read : {b : Block Plain} {j : ℕ} → BlockAt t i d b j → D.block d (drop i t) ≡ is (b, drop j t)
   block-read {b} h = read-at (block-exact d) b (h .stands) (h .fits)
 
@@ -72,7 +72,8 @@ module _ {t : List ℕ} {i d : ℕ} where
   -- one instruction
   pub instr-same : {c : ℕ} {s u : Instr Plain} {j k : ℕ} → InstrAt t i d s j → InstrAt t i c u k → (s ≡ u) × (j ≡ k)
   instr-same {c} {s} {u} h g =
-      one-thing (instr-exact (d + c) (block-exact (d + c))) s u (h .stands) (omega (arith, h .fits .0), h .fits .1) (g .stands) (omega (arith, g .fits .0), g .fits .1)
+      one-thing (instr-exact (d + c) (block-exact (d + c))) s u (h .stands) (omega (arith, h .fits .0), h .fits .1)
+      (g .stands) (omega (arith, g .fits .0), g .fits .1)
 
   -- one block
   pub block-same : {c : ℕ} {a b : Block Plain} {j k : ℕ} → BlockAt t i d a j → BlockAt t i c b k → (a ≡ b) × (j ≡ k)
@@ -86,11 +87,13 @@ module _ (t : List ℕ) (i d : ℕ) (h : Bytes t) where
       let f = found-at (expr-exact d) t i h e r (expr-long e) q in
       (f .j, record { stands = f .stands; fits = f .fits }, f .left)
 
+  -- so does an instruction
   pub instr-found : {s : Instr Plain} {r : List ℕ} → D.instr (D.block d) (drop i t) ≡ is (s, r) → (j : ℕ) × InstrAt t i d s j × (r ≡ drop j t)
   instr-found {s} {r} q =
       let f = found-at (instr-exact d (block-exact d)) t i h s r (instr-long s) q in
       (f .j, record { stands = f .stands; fits = f .fits }, f .left)
 
+  -- and a block
   pub block-found : {b : Block Plain} {r : List ℕ} → D.block d (drop i t) ≡ is (b, r) → (j : ℕ) × BlockAt t i d b j × (r ≡ drop j t)
   block-found {b} {r} q =
       let f = found-at (block-exact d) t i h b r (block-long b) q in

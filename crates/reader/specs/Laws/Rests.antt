@@ -1,7 +1,7 @@
 -- What a reader leaves is the rest of the bytes that it was given, whatever numbers these are.
 use Prim.Native.Nat.{ℕ, zero, suc, _+_, _-_, _≤_, _<_}
 use native.Mathlib.Omega.{arith}
-use mathlib.Core.Path.{_≡_, refl, sym, ap, _∙_}
+use mathlib.Core.Path.{_≡_, refl, ap, _∙_}
 use mathlib.Core.List.{List, [], _∷_}
 use lib.ListN.{length, getD, drop, length-drop, drop-of-length-le}
 use lib.Seq.{drop-drop, drop-length}
@@ -44,7 +44,8 @@ abbrev pub Leaves : {A : Type 0} → List ℕ → Read A → Type 0
 Leaves bs m = If (λ got. Rest bs (got .1)) m
 
 -- a reader and then another
-then : {A B : Type 0} {bs : List ℕ} {m : Read A} (f : (A × List ℕ) → Read B) → Leaves bs m → ((a : A) (r : List ℕ) → Leaves r (f (a, r))) → Leaves bs (m >>= f)
+then : {A B : Type 0} {bs : List ℕ} {m : Read A} (f : (A × List ℕ) → Read B) → Leaves bs m → ((a : A) (r : List ℕ) → Leaves r (f (a, r)))
+    → Leaves bs (m >>= f)
 then f l next = chain f l λ (a, r) first. if-so (λ got second. rest-more first second) (next a r)
 
 -- at the end of a chain
@@ -67,6 +68,7 @@ times-leaves read one (suc n) bs = then _ (one bs) λ a r. then _ (times-leaves 
 
 -- an expression
 module _ (inner : List ℕ → Read Expr) (leaves : (bs : List ℕ) → Leaves bs (inner bs)) where
+  -- by its mark
   marked-leaves : (k : Mark) (bs : List ℕ) → Leaves bs (marked inner k bs)
   marked-leaves wholeMark bs = then _ (number-leaves 4 bs) λ n r. done _ r
   marked-leaves locationMark bs = then _ (number-leaves 2 bs) λ n r. done _ r
@@ -77,12 +79,14 @@ module _ (inner : List ℕ → Read Expr) (leaves : (bs : List ℕ) → Leaves b
   marked-leaves (twoMark o) bs = then _ (leaves bs) λ a r. then _ (leaves r) λ b q. done _ q
   marked-leaves noExpr bs = none
 
+-- of any depth
 pub expr-leaves : (d : ℕ) (bs : List ℕ) → Leaves bs (expr d bs)
 expr-leaves zero bs = none
 expr-leaves (suc d) [] = none
 expr-leaves (suc d) (m ∷ bs) = if-so (λ got. rest-after m) (marked-leaves (expr d) (expr-leaves d) (markOf m) bs)
 
 module _ (inner : List ℕ → Read (Block Plain)) (leaves : (bs : List ℕ) → Leaves bs (inner bs)) where
+  -- at most 16 deep
   abbrev e16 : (bs : List ℕ) → Leaves bs (expr 16 bs)
   e16 = expr-leaves 16
 
@@ -98,6 +102,7 @@ module _ (inner : List ℕ → Read (Block Plain)) (leaves : (bs : List ℕ) →
   formed-leaves selectForm bs = then _ (number-leaves 2 bs) λ a r. then _ (number-leaves 2 r) λ b r. done _ r
   formed-leaves noForm bs = none
 
+  -- with its first byte
   pub instr-leaves : (bs : List ℕ) → Leaves bs (instr inner bs)
   instr-leaves [] = none
   instr-leaves (m ∷ bs) = if-so (λ got. rest-after m) (formed-leaves (getD forms m noForm) bs)

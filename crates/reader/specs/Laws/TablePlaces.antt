@@ -1,20 +1,18 @@
 -- What stands where in the table of a program: document 01, "A table".
-use Prim.Native.Nat.{ℕ, zero, suc, _+_, _*_, _-_, _≤_, _<_}
+use Prim.Native.Nat.{ℕ, zero, suc, _+_, _*_, _-_}
 use native.Mathlib.Omega.{arith}
 use mathlib.Core.Path.{_≡_, refl, sym, ap, subst, _∙_}
-use mathlib.Core.List.{List, [], _∷_, _++_, append-assoc}
-use lib.ListN.{length, getD, length-append}
+use mathlib.Core.List.{List, [], _∷_, _++_}
+use lib.ListN.{length, length-append}
 use Rattle.value.specs.Maybe.{is}
 use Rattle.value.specs.Values.{bytes}
 use Rattle.value.specs.Lists.{at}
 use Rattle.value.specs.Laws.Maybes.{is-inj, missing}
-use Rattle.value.specs.Laws.Lists.{at-below}
-use Rattle.reader.specs.Syntax.{Block, Proc, Program, Kind}
-use Rattle.reader.specs.Encode.{each, Head, head, heads, middle, middleOf, bodiesOf, block, front, Trailer, trailer, trailerOf, table, distance}
-use Rattle.value.specs.Laws.Bytes.{length-bytes}
+use Rattle.reader.specs.Syntax.{Proc, Program, Kind}
+use Rattle.reader.specs.Encode.{each, head, heads, middleOf, bodiesOf, block, front, Trailer, trailer, trailerOf, table, distance}
 use Rattle.reader.specs.Laws.Sections.{length-each, length-middle}
 use Rattle.reader.specs.Laws.Heads.{length-heads}
-use Rattle.reader.specs.Laws.Stands.{Stands, first, others, whole, front as left, back as right, part}
+use Rattle.reader.specs.Laws.Stands.{Stands, others, whole, front as left, back as right}
 
 -- ---- where things are
 
@@ -45,7 +43,8 @@ nth-stands item k long (y ∷ xs) (suc n) s e =
     at-position (nth-stands item k long xs n (right (item y) (each item xs) s) e) (omega (arith, long y)) (omega (arith, long y))
 
 -- body m of bodies
-pub bodies-stand : {A : Type 0} (ps : List (Proc A)) (m : ℕ) {q : Proc A} {t : List ℕ} {i j : ℕ} → Stands t i (each block (bodiesOf ps)) j → at ps m ≡ is q
+pub bodies-stand : {A : Type 0} (ps : List (Proc A)) (m : ℕ) {q : Proc A} {t : List ℕ} {i j : ℕ} → Stands t i (each block (bodiesOf ps)) j
+    → at ps m ≡ is q
     → Stands t (i + bodyAt ps m) (block (q .body)) (i + bodyAt ps m + length (block (q .body)))
 bodies-stand [] m s e = missing e
 bodies-stand (p ∷ ps) zero {q} s e =
@@ -73,15 +72,19 @@ module _ {A : Type 0} (k : Kind) (p : Program A) {t : List ℕ} (e : t ≡ table
   abbrev P : ℕ
   P = length (p .procs)
 
+  -- the locations
   abbrev M : ℕ
   M = length (p .sizes)
 
+  -- the bodies
   abbrev bodies : List ℕ
   bodies = each block (bodiesOf (p .procs))
 
+  -- the records
   abbrev records : List ℕ
   records = each head (heads 0 (p .procs))
 
+  -- the sizes and the mains, as numbers
   abbrev numbers : List ℕ
   numbers = each (bytes 2) (p .sizes) ++ each (bytes 2) (p .mains)
 
@@ -133,6 +136,7 @@ module _ {A : Type 0} (k : Kind) (p : Program A) {t : List ℕ} (e : t ≡ table
   pub length-table : length t ≡ length (front p) + 16
   length-table = ap length e ∙ length-append (front p) (trailer (trailerOf k p))
 
+  -- it stands at the end
   pub trailer-stands : Stands t (length t - 16) (trailer (trailerOf k p)) (length t)
   trailer-stands = at-position (right (front p) (trailer (trailerOf k p)) (whole e)) (omega (arith, length-table)) refl
 
@@ -142,6 +146,7 @@ module _ {A : Type 0} (k : Kind) (p : Program A) {t : List ℕ} (e : t ≡ table
 
   -- ---- the fields of the trailer
 
+  -- the trailer
   abbrev z : Trailer
   z = trailerOf k p
 
@@ -154,15 +159,19 @@ module _ {A : Type 0} (k : Kind) (p : Program A) {t : List ℕ} (e : t ≡ table
   pub procs-stand : Stands t (length t - 14) (bytes 2 (length (p .procs))) (length t - 12)
   procs-stand = at-position (left (bytes 2 (z .procs)) _ counts-stand) refl (omega (arith, length-table))
 
+  -- from M on
   places-on : Stands t (length t - 12) (bytes 2 (z .places) ++ (bytes 2 (z .threads) ++ (bytes 4 (z .back) ++ bytes 4 (z .whole)))) (length t)
   places-on = at-position (right (bytes 2 (z .procs)) _ counts-stand) (omega (arith, length-table)) refl
 
+  -- M
   pub places-stand : Stands t (length t - 12) (bytes 2 (length (p .sizes))) (length t - 10)
   places-stand = at-position (left (bytes 2 (z .places)) _ places-on) refl (omega (arith, length-table))
 
+  -- from T on
   threads-on : Stands t (length t - 10) (bytes 2 (z .threads) ++ (bytes 4 (z .back) ++ bytes 4 (z .whole))) (length t)
   threads-on = at-position (right (bytes 2 (z .places)) _ places-on) (omega (arith, length-table)) refl
 
+  -- T
   pub threads-stand : Stands t (length t - 10) (bytes 2 (length (p .mains))) (length t - 8)
   threads-stand = at-position (left (bytes 2 (z .threads)) _ threads-on) refl (omega (arith, length-table))
 
@@ -170,9 +179,11 @@ module _ {A : Type 0} (k : Kind) (p : Program A) {t : List ℕ} (e : t ≡ table
   distance-on : Stands t (length t - 8) (bytes 4 (z .back) ++ bytes 4 (z .whole)) (length t)
   distance-on = at-position (right (bytes 2 (z .threads)) _ threads-on) (omega (arith, length-table)) refl
 
+  -- the distance
   pub distance-stands : Stands t (length t - 8) (bytes 4 (distance (length (p .procs)) (length (p .sizes)) (length (p .mains)))) (length t - 4)
   distance-stands = at-position (left (bytes 4 (z .back)) _ distance-on) refl (omega (arith, length-table))
 
+  -- the whole length
   pub length-stands : Stands t (length t - 4) (bytes 4 (length t)) (length t)
   length-stands =
       subst (λ n. Stands t (length t - 4) (bytes 4 n) (length t)) (sym length-table)

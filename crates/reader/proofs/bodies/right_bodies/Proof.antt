@@ -1,12 +1,9 @@
+-- `reader::bodies::right_bodies` meets its contract.
 use borrow.Author.Needs.{needs}
 use Rattle.reader.specs.Ends.{kindOf}
 use Rattle.reader.proofs.Rule4.{BodiesFrom, bodies-ways}
 use Rattle.reader.proofs.bodies.right_bodies.Statement.{statement}
 use Rattle.reader.proofs.bodies.right_bodies.Tie as tie
-use Rattle.reader.proofs.bodies.right_bodies.Reads as reads
-use Rattle.reader.proofs.bodies.right_bodies.Lts as lts
-use Rattle.reader.proofs.bodies.read_body.Reads as read-body-reads
-use Rattle.value.proofs.bytes.four_bytes.Reads as four-bytes-reads
 
 abbrev Inv-loop : tie.InvT-loop
 Inv-loop code body records count kind position₀ at₀ procedure₀ left₀ position at procedure left = BodiesFrom (kindOf kind) code body records count position at procedure left
