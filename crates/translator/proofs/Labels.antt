@@ -102,9 +102,9 @@ module _ {t : List ℕ} where
           let found : g .set ≡ flags (λ (y : ℕ). mentioned y (w .e)) = A .set (w .e) (w .k) (w .here) in
           let next : g .next ≡ w .k = A .ends (w .e) (w .k) (w .here) in
           let here : getD more x false ≡ either (getD set x false) (mentioned x (w .e)) =
-              ap (λ (f : List Bool). getD f x false) e ∙ flag-at (λ (y : ℕ). either (getD set y false) (getD (g .set) y false)) x false l
-              ∙ ap (λ (f : List Bool). either (getD set x false) (getD f x false)) found
-              ∙ ap (either (getD set x false)) (flag-at (λ (y : ℕ). mentioned y (w .e)) x false l)
+          ap (λ (f : List Bool). getD f x false) e ∙ flag-at (λ (y : ℕ). either (getD set y false) (getD (g .set) y false)) x false l
+          ∙ ap (λ (f : List Bool). either (getD set x false) (getD f x false)) found
+          ∙ ap (either (getD set x false)) (flag-at (λ (y : ℕ). mentioned y (w .e)) x false l)
           in
           let rest : getD r x false ≡ either (getD more x false) (mentions x (w .rest)) = M .gives (w .rest) j (rw next (w .after)) x l in
           rest ∙ ap (λ (b : Bool). either b (mentions x (w .rest))) here ∙ either-assoc (getD set x false) (mentioned x (w .e)) (mentions x (w .rest))

@@ -20,3 +20,5 @@ pub mod Simulating
 pub mod Rounding
 -- and through the whole table
 pub mod Tabling
+-- and through the call
+pub mod Answering

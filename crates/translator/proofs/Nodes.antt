@@ -16,11 +16,10 @@ use Rattle.value.specs.Laws.Lists.{Each, at-below}
 use Rattle.reader.specs.Syntax.{Expr, constant, local, one, two, Instr, assign, write, read, while, if, call, atomic, select, Block, end, step, _⊕_}
 use Rattle.reader.specs.Syntax.{Proc, Program, Plain, concurrent}
 use Rattle.reader.specs.Encode.{expr, instr, block}
-use Rattle.reader.specs.Labels.{first, count, countI, tag, tagI, label, labelI, labels, labelled}
+use Rattle.reader.specs.Labels.{first, count, labels, labelled}
 use Rattle.reader.specs.Rules.{Here, inExpr, takes, named, namedI, allowed, allowedI, plainly}
 use Rattle.reader.specs.LabelMap.{Node, nodes, held, allNodes}
-use Rattle.reader.specs.Laws.Depths.{nesting, nestingI}
-use Rattle.reader.specs.Laws.Fits.{Says, SaysI, BlockFits, InstrFits}
+use Rattle.reader.specs.Laws.Fits.{BlockFits, InstrFits}
 use Rattle.reader.specs.Laws.Names.{Takes, takes?}
 use Rattle.reader.specs.Laws.Procs.{takes-at}
 use Rattle.reader.specs.Laws.Spots.{Inherited}
@@ -30,82 +29,6 @@ use Rattle.translator.specs.Translate.{simulating, heldBy, simulations, 
 use Rattle.translator.specs.Translate as T
 use Rattle.translator.specs.Laws.Sources.{Low, InPlaceI, InPlace}
 use Rattle.translator.specs.Laws.Bodies.{OfLabel, labelCode, simulated}
-
--- ---- labels do not matter to what fits
-
-module _ {A B : Type 0} (k : B) where
-  mutual
-    -- one tag everywhere: the same depth
-    deep-tagI : (j : Instr A) → nestingI (tagI k j) ≡ nestingI j
-    deep-tagI (assign x e) = refl
-    deep-tagI (write y o e) = refl
-    deep-tagI (read x y o) = refl
-    deep-tagI (while e b) = deep-tag b
-    deep-tagI (if e b c) = rw (deep-tag b, deep-tag c)
-    deep-tagI (call m es) = refl
-    deep-tagI (atomic b) = deep-tag b
-    deep-tagI (select a b) = refl
-
-    -- of a block
-    deep-tag : (b : Block A) → nesting (tag k b) ≡ nesting b
-    deep-tag end = refl
-    deep-tag (step a j b) = rw (deep-tagI j, deep-tag b)
-
-  mutual
-    -- and the same numbers
-    says-tagI : (j : Instr A) → SaysI j → SaysI (tagI k j)
-    says-tagI (assign x e) h = h
-    says-tagI (write y o e) h = h
-    says-tagI (read x y o) h = h
-    says-tagI (while e b) h = (h .0, says-tag b (h .1))
-    says-tagI (if e b c) h = (h .0, says-tag b (h .1), says-tag c (h .2))
-    says-tagI (call m es) h = h
-    says-tagI (atomic b) h = says-tag b h
-    says-tagI (select a b) h = h
-
-    -- of a block
-    says-tag : (b : Block A) → Says b → Says (tag k b)
-    says-tag end h = tt
-    says-tag (step a j b) h = (says-tagI j (h .0), says-tag b (h .1))
-
-module _ {A : Type 0} where
-  mutual
-    -- a label at each instruction: the same depth
-    deep-labelI : (j : Instr A) (l : ℕ) → nestingI (labelI l j) ≡ nestingI j
-    deep-labelI (assign x e) l = refl
-    deep-labelI (write y o e) l = refl
-    deep-labelI (read x y o) l = refl
-    deep-labelI (while e b) l = deep-label b (suc l)
-    deep-labelI (if e b c) l = rw (deep-label b (suc l), deep-label c (suc l + count b))
-    deep-labelI (call m es) l = refl
-    deep-labelI (atomic b) l = deep-tag l b
-    deep-labelI (select a b) l = refl
-
-    -- of a block
-    deep-label : (b : Block A) (l : ℕ) → nesting (label l b) ≡ nesting b
-    deep-label end l = refl
-    deep-label (step a j b) l = rw (deep-labelI j l, deep-label b (l + countI j))
-
-  mutual
-    -- and the same numbers
-    says-labelI : (j : Instr A) (l : ℕ) → SaysI j → SaysI (labelI l j)
-    says-labelI (assign x e) l h = h
-    says-labelI (write y o e) l h = h
-    says-labelI (read x y o) l h = h
-    says-labelI (while e b) l h = (h .0, says-label b (suc l) (h .1))
-    says-labelI (if e b c) l h = (h .0, says-label b (suc l) (h .1), says-label c (suc l + count b) (h .2))
-    says-labelI (call m es) l h = h
-    says-labelI (atomic b) l h = says-tag l b h
-    says-labelI (select a b) l h = h
-
-    -- of a block
-    says-label : (b : Block A) (l : ℕ) → Says b → Says (label l b)
-    says-label end l h = tt
-    says-label (step a j b) l h = (says-labelI j l (h .0), says-label b (l + countI j) (h .1))
-
-  -- so a labelled block fits as the block does
-  pub fits-label : {d : ℕ} (b : Block A) (l : ℕ) → BlockFits d b → BlockFits d (label l b)
-  fits-label b l h = (rw (deep-label b l) (h .0), says-label b l (h .1))
 
 -- what fits a block fits its spots
 pub fits-inherited : {A : Type 0} (d : ℕ) → Inherited {A = A} (BlockFits d) (InstrFits d)
@@ -249,9 +172,9 @@ module _ (G : Layout) (begin ends L : ℕ → ℕ) (f : Node → Proc Plain)
       let here : L m ≡ p .locals = ap L (omega arith) ∙ h 0 in
       let next : ℕ = i + length (block (p .body)) in
       let so : (d : Node) → d .proc ≡ m → f d ≡ simulating (p .locals) (labelCode G begin m (p .locals) (ends m) (d .code)) =
-          λ d e.
-              is-so d ∙ ap (λ (z : ℕ). simulating (L z) (labelCode G begin z (L z) (ends z) (d .code))) e
-              ∙ ap (λ (z : ℕ). simulating z (labelCode G begin m z (ends m) (d .code))) here
+      λ d e.
+      is-so d ∙ ap (λ (z : ℕ). simulating (L z) (labelCode G begin z (L z) (ends z) (d .code))) e
+      ∙ ap (λ (z : ℕ). simulating z (labelCode G begin m z (ends m) (d .code))) here
       in
       ap₂ _++_ (each-nodes G begin m (p .locals) (ends m) f so (p .body) i end)
       (ap₂ _∷_ (sym (so (record { place = next - 1; proc = m; code = end }) refl))

@@ -123,7 +123,7 @@ module _ {t : List ℕ} {h : Shape} where
     gives = λ p m w f.
         let s = main-stands concurrent p (w .is) k f in
         let same : h .records + 6 * h .procedures + 2 * h .locations + 2 * k ≡ recordsAt p + 6 * length (p .procs) + 2 * length (p .sizes) + 2 * k =
-            omega (arith, w .records, w .procedures, w .locations)
+        omega (arith, w .records, w .procedures, w .locations)
         in
         e ∙ rw same (omega (arith, two-bytes m s (main-small p w k m f)));
   }

@@ -96,7 +96,7 @@ module _ {t : List ℕ} {h : Shape} {bounds : List ℕ} where
           let there = main-at (w .sound) k n e in
           let less : n < length (q .procs) = at-below (q .procs) n (there .1) in
           let begin : b ≡ begins q n =
-              B .gives (omega (arith, main, less, w .sound .procs .high)) ∙ ap (λ (x : ℕ). getD bounds (2 * x) 0) main ∙ begun .begins n less
+          B .gives (omega (arith, main, less, w .sound .procs .high)) ∙ ap (λ (x : ℕ). getD bounds (2 * x) 0) main ∙ begun .begins n less
           in
           writes-instr (rw begin at P)
 

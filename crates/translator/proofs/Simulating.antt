@@ -12,7 +12,7 @@ use Rattle.value.specs.Maybe.{is}
 use Rattle.value.specs.Values.{numberAt, unbytes}
 use Rattle.value.specs.Lists.{at}
 use Rattle.value.specs.Laws.Bytes.{number-at}
-use Rattle.value.specs.Laws.Lists.{Each, at-below, at-getD}
+use Rattle.value.specs.Laws.Lists.{Each, each-at, at-getD}
 use Rattle.value.specs.Laws.Maybes.{is-inj, missing}
 use Rattle.reader.specs.Syntax.{Expr, Instr, assign, write, read, while, if, call, atomic, select, Block, end, step, _⊕_, Proc, Program, concurrent}
 use Rattle.reader.specs.Syntax as S
@@ -26,11 +26,11 @@ use Rattle.reader.specs.Laws.Stands.{Stands, inside, front}
 use Rattle.reader.specs.Laws.Stands as St
 use Rattle.reader.specs.Laws.Grammar.{ExprAt, InstrAt, WhileAt, IfAt, CallAt, while-here, if-here, call-here, no-instr, instr-inside}
 use Rattle.reader.specs.Laws.Fits.{BlockFits, InstrFits}
-use Rattle.reader.specs.Laws.Names.{Names, Takes, names?}
+use Rattle.reader.specs.Laws.Names.{names?}
 use Rattle.reader.specs.Laws.Sound.{Sound}
-use Rattle.reader.specs.Laws.Labelled.{named-label, allowed-label}
-use Rattle.reader.specs.Laws.Ranges.{body-fits}
-use Rattle.reader.specs.Laws.Procs.{takes-at, ProcSound, proc-sound}
+use Rattle.reader.specs.Laws.Labelled.{named-label, allowed-label, fits-label}
+use Rattle.reader.specs.Laws.Accepted.{bodies-fit}
+use Rattle.reader.specs.Laws.Procs.{body-at, ProcSound, proc-sound}
 use Rattle.reader.specs.Laws.Spots.{spot-has, allowed-inherited, code-stands, bodies-stand, bodies-labels}
 use Rattle.reader.specs.Laws.LabelMap.{NodeOf, node-of, node-there, node-range, length-nodes}
 use Rattle.translator.specs.Layout.{Layout, layout, localsOf}
@@ -44,7 +44,7 @@ use Rattle.translator.specs.Laws.Bodies.{bodies, Offsets, Simulating, Pu
 use Rattle.translator.specs.declared.layout.Shape.{Shape}
 use Rattle.translator.specs.declared.layout.Site.{Site}
 use Rattle.translator.proofs.Puts.{put-none, put-then, put-same}
-use Rattle.translator.proofs.Nodes.{fits-label, fits-inherited, named-inherited, of-label, later-nodes}
+use Rattle.translator.proofs.Nodes.{fits-inherited, named-inherited, of-label, later-nodes}
 
 -- ---- calls
 
@@ -225,22 +225,11 @@ module _ {t : List ℕ} {h : Shape} {map bounds : List ℕ} where
           sound : ProcSound concurrent q (d .proc) f
           sound = proc-sound (w .sound) (d .proc) f (found .2)
 
-          few : n ≤ 2 ^ 8
-          few = omega (arith, sound .locals)
-
-          places : length (q .sizes) ≤ 2 ^ 16
-          places = omega (arith, w .sound .places)
-
-          arity : (m a : ℕ) → Takes (q .procs) m a → (m < 2 ^ 16) × (a < 2 ^ 8)
-          arity m a e =
-              let g = takes-at (q .procs) m a e in
-              let right = proc-sound (w .sound) m (g .0) (g .1) in
-              (omega (arith, at-below (q .procs) m (g .1), w .sound .procs .high), omega (arith, g .2, right .params, right .locals))
-
           fits : BlockFits 16 (v .left)
           fits =
               spot-has (fits-inherited 16) (v .spot .spot)
-              (subst (λ (b : Block ℕ). BlockFits 16 b) (sym (found .3)) (fits-label (f .body) (found .1) (body-fits q n few places arity (f .body) (sound .body) (sound .named))))
+              (subst (λ (b : Block ℕ). BlockFits 16 b) (sym (found .3)) (fits-label (f .body) (found .1)
+              (each-at (BlockFits 16) (bodiesOf (q .procs)) (d .proc) (bodies-fit concurrent q (w .sound)) (body-at (q .procs) (d .proc) (found .2)))))
 
           named′ : named (labelled q) n (v .left) ≡ true
           named′ =
@@ -263,27 +252,27 @@ module _ {t : List ℕ} {h : Shape} {map bounds : List ℕ} where
           by end c =
               let none : d .code ≡ end = v .code ∙ ap (λ (x : Block ℕ). x ⊕ v .after) c ∙ v .ends c in
               let there : Stands t (getD map (4 * l) 0) (block {A = ℕ} end) (d .place + length (block (v .left))) =
-                  subst (λ (b : Block ℕ). Stands t (getD map (4 * l) 0) (block b) (d .place + length (block (v .left)))) c code-there
+              subst (λ (b : Block ℕ). Stands t (getD map (4 * l) 0) (block b) (d .place + length (block (v .left)))) c code-there
               in
               coded none (N .ends (layout q) (d .proc) n here (inside there) (St.first there))
           by (step k a rest) c =
               let some : d .code ≡ step k a (rest ⊕ v .after) = v .code ∙ ap (λ (x : Block ℕ). x ⊕ v .after) c in
               let there : Stands t (getD map (4 * l) 0) (block (step k a rest)) (d .place + length (block (v .left))) =
-                  subst (λ (b : Block ℕ). Stands t (getD map (4 * l) 0) (block b) (d .place + length (block (v .left)))) c code-there
+              subst (λ (b : Block ℕ). Stands t (getD map (4 * l) 0) (block b) (d .place + length (block (v .left)))) c code-there
               in
               let fits′ : BlockFits 16 (step k a rest) = subst (λ (b : Block ℕ). BlockFits 16 b) c fits in
               let names : named (labelled q) n (step k a rest) ≡ true = subst (λ (b : Block ℕ). named (labelled q) n b ≡ true) c named′ in
               let may : allowed (outer (d .proc)) (step k a rest) ≡ true = subst (λ (b : Block ℕ). allowed (outer (d .proc)) b ≡ true) c allowed′ in
               let ok : OfLabel q n a =
-                  of-label (labelled q) n (d .proc) q (length-labels (q .procs) 1) a (named-inherited (labelled q) n .first k a rest names)
-                  (allowed-inherited (outer (d .proc)) .first k a rest may)
+              of-label (labelled q) n (d .proc) q (length-labels (q .procs) 1) a (named-inherited (labelled q) n .first k a rest names)
+              (allowed-inherited (outer (d .proc)) .first k a rest may)
               in
               let K : ℕ = endsOf q (d .proc) in
               let lead : Leads k a (first K (rest ⊕ v .after)) (getD map (4 * l + 2) 0) (getD map (4 * l + 3) 0) =
-                  leads-map q n k K _ _ a (rest ⊕ v .after) ok (mapped .next l d e ∙ ap (next K) some) (mapped .other l d e ∙ ap (other K) some)
+              leads-map q n k K _ _ a (rest ⊕ v .after) ok (mapped .next l d e ∙ ap (next K) some) (mapped .other l d e ∙ ap (other K) some)
               in
               let at : InstrAt t (getD map (4 * l) 0) 16 a (getD map (4 * l) 0 + length (instr a)) =
-                  record { stands = front (instr a) (block rest) there; fits = fits-inherited 16 .first k a rest fits′ }
+              record { stands = front (instr a) (block rest) there; fits = fits-inherited 16 .first k a rest fits′ }
               in
               coded some
               (N .gives q (d .proc) n k (first K (rest ⊕ v .after)) _ a w (record { begins = mapped .begins }) here at ok lead)
@@ -343,8 +332,8 @@ module _ {t : List ℕ} {h : Shape} {map bounds : List ℕ} where
         let d = node-there q (suc k) (omega arith) (omega (arith, w .labels)) in
         let one : PutBlock o₁ p₁ (simulated q (d .0) .body) o₂ p₂ = L .gives q (d .0) w m (ap (nodeOf q) (add-one k) ∙ d .1) in
         let more : bodies (take (k + 1) (later q)) ≡ bodies (take k (later q)) ++ block (simulated q (d .0) .body) =
-            ap bodies (take-more (later q) k (later-at q k (d .1))) ∙ bodies-append (take k (later q)) (simulated q (d .0) ∷ [])
-            ∙ ap (bodies (take k (later q)) ++_) (append-nil (block (simulated q (d .0) .body)))
+        ap bodies (take-more (later q) k (later-at q k (d .1))) ∙ bodies-append (take k (later q)) (simulated q (d .0) ∷ [])
+        ∙ ap (bodies (take k (later q)) ++_) (append-nil (block (simulated q (d .0) .body)))
         in
         put-same (sym more) (put-then (bodies (take k (later q))) (block (simulated q (d .0) .body)) (D .done q w m) (one .puts));
     places = λ q w m. record { at = λ i l room. places q w m i l room };

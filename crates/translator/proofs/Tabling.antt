@@ -62,7 +62,7 @@ heads-nth base (p ∷ ps) zero {f} e =
     rw (← same) (ap (λ (i : ℕ). is (record { params = p .params; locals = p .locals; at = i })) here)
 heads-nth base (p ∷ ps) (suc k) {f} e =
     let n : length (block (p .body) ++ bodies (take k ps)) ≡ length (block (p .body)) + length (bodies (take k ps)) =
-        length-append (block (p .body)) (bodies (take k ps))
+    length-append (block (p .body)) (bodies (take k ps))
     in
     let far : base + length (block (p .body)) + length (bodies (take k ps)) ≡ base + length (block (p .body) ++ bodies (take k ps)) = omega arith in
     heads-nth (base + length (block (p .body))) ps k e
@@ -105,14 +105,14 @@ module _ {t : List ℕ} {h : Shape} {map offsets : List ℕ} where
         let d = node-there q (suc k) (omega arith) (omega (arith, w .labels)) in
         let f : Proc Plain = simulated q (d .0) in
         let one : Put o₁ p₁ (head (record { params = 1; locals = f .locals; at = getD offsets k 0 })) o₂ p₂ =
-            H .gives q (d .0) w bounds mapped (ap (nodeOf q) (add-one k) ∙ d .1)
+        H .gives q (d .0) w bounds mapped (ap (nodeOf q) (add-one k) ∙ d .1)
         in
         let place : getD offsets k 0 ≡ base + length (bodies (take k (later q))) = right .at k (omega (arith, w .labels)) in
         let here : Head = record { params = 1; locals = f .locals; at = base + length (bodies (take k (later q))) } in
         let one′ : Put o₁ p₁ (head here) o₂ p₂ = rw place at one in
         let more : each head (take (k + 1) (heads base (later q))) ≡ each head (take k (heads base (later q))) ++ head here =
-            ap (each head) (take-more (heads base (later q)) k (heads-nth base (later q) k (later-at q k (d .1))))
-            ∙ each-append head (take k (heads base (later q))) (here ∷ []) ∙ ap (each head (take k (heads base (later q))) ++_) (append-nil (head here))
+        ap (each head) (take-more (heads base (later q)) k (heads-nth base (later q) k (later-at q k (d .1))))
+        ∙ each-append head (take k (heads base (later q))) (here ∷ []) ∙ ap (each head (take k (heads base (later q))) ++_) (append-nil (head here))
         in
         put-same (sym more) (put-then (each head (take k (heads base (later q)))) (head here) (D .done q base w bounds mapped right) one′);
     kept = kept ∙ D .kept;
@@ -124,7 +124,7 @@ module _ {t : List ℕ} {h : Shape} {map offsets : List ℕ} where
   heading-end {k = k} D more = record {
     gives = λ q base w bounds mapped right.
         let all : take k (heads base (later q)) ≡ heads base (later q) =
-            take-all k (heads base (later q)) (omega (arith, length-heads base (later q), length-later q, w .labels))
+        take-all k (heads base (later q)) (omega (arith, length-heads base (later q), length-later q, w .labels))
         in
         put-same (ap (each head) all) (D .done q base w bounds mapped right);
   }
@@ -156,7 +156,7 @@ module _ {t : List ℕ} {h : Shape} where
       let all : Stands t 0 (front q) (0 + length (front q)) = St.front (front q) (trailer (trailerOf concurrent q)) (whole (w .is)) in
       let here = St.front sizes mains (back records (sizes ++ mains) (back bs (records ++ (sizes ++ mains)) all)) in
       let long : length records ≡ 6 * length (q .procs) =
-          length-each head 6 (λ h. refl) (heads 0 (q .procs)) ∙ ap (λ (n : ℕ). 6 * n) (length-heads 0 (q .procs))
+      length-each head 6 (λ h. refl) (heads 0 (q .procs)) ∙ ap (λ (n : ℕ). 6 * n) (length-heads 0 (q .procs))
       in
       let long′ : length sizes ≡ 2 * length (q .sizes) = length-each (bytes 2) 2 (λ n. refl) (q .sizes) in
       let from : 0 + length bs + length records ≡ h .records + 6 * h .procedures = omega (arith, w .records, w .procedures) in
@@ -176,7 +176,7 @@ module _ {t : List ℕ} {h : Shape} where
         let first : Put o p (each (bytes 2) (q .sizes)) o₁ p₁ = put-same (slice-is (sizes-stand q w)) A in
         let rows : Put o₂ p₂ (each (bytes 2) (replicate n (length (q .mains)))) o₃ p₃ = rw (w .threads) at C in
         let all : each (bytes 2) (sizes q) ≡ each (bytes 2) (q .sizes) ++ (bytes 2 1 ++ each (bytes 2) (replicate n (length (q .mains)))) =
-            ap (each (bytes 2)) (R .gives q w) ∙ each-append (bytes 2) (q .sizes) (1 ∷ replicate n (length (q .mains)))
+        ap (each (bytes 2)) (R .gives q w) ∙ each-append (bytes 2) (q .sizes) (1 ∷ replicate n (length (q .mains)))
         in
         put-same (sym all) (put-then (each (bytes 2) (q .sizes)) _ first (put-then (bytes 2 1) _ B rows));
   }
@@ -191,7 +191,7 @@ module _ {t : List ℕ} {h : Shape} where
           let first : List ℕ = each head (heads base (later q)) in
           let last : List ℕ = each (bytes 2) (sizes q) in
           let all : (0 ∷ 4 ∷ bytes 4 0) ++ (first ++ last) ≡ middle (middleOf (translate q)) =
-              ap (λ (xs : List ℕ). (0 ∷ 4 ∷ bytes 4 0) ++ (first ++ xs)) (sym (append-nil last))
+          ap (λ (xs : List ℕ). (0 ∷ 4 ∷ bytes 4 0) ++ (first ++ xs)) (sym (append-nil last))
           in
           put-same all (put-then (0 ∷ 4 ∷ bytes 4 0) _ A (put-then first last (H .gives q base w bounds mapped right) (S .gives q w)));
     }
@@ -276,7 +276,7 @@ module _ {t : List ℕ} {h : Shape} {map bounds : List ℕ} where
       gives : (x : Program Plain) → Shaped t h x → Mapped x map bounds → Put o 0 (table sequential (translate x)) o₃ r
       gives x w m =
           let all : Put o 0 (front (translate x)) o₂ q =
-              put-then (bodies (zeroth x ∷ later x)) (middle (middleOf (translate x))) (C .gives x w m) (M .gives x w bounds m (C .places x w m less))
+          put-then (bodies (zeroth x ∷ later x)) (middle (middleOf (translate x))) (C .gives x w m) (M .gives x w bounds m (C .places x w m less))
           in
           let short : 0 + length (front (translate x)) ≤ 65537 = elim (decLe 65537 (0 + length (front (translate x)))) [
             | yes far ↦ absurd (omega (arith, all .far far, near))
@@ -285,13 +285,13 @@ module _ {t : List ℕ} {h : Shape} {map bounds : List ℕ} where
           let long : q + 16 ≡ length (front (translate x)) + 16 = omega (arith, all .next short) in
           let procs : h .labels + 1 ≡ length (translate x .procs) = omega (arith, w .labels, length-later x) in
           let places : h .locations + 1 + n ≡ length (translate x .sizes) =
-              omega (
-                arith,
-                ap length (R .gives x w),
-                length-append (x .sizes) (1 ∷ replicate n (length (x .mains))),
-                length-replicate n (length (x .mains)),
-                w .locations,
-              )
+          omega (
+            arith,
+            ap length (R .gives x w),
+            length-append (x .sizes) (1 ∷ replicate n (length (x .mains))),
+            length-replicate n (length (x .mains)),
+            w .locations,
+          )
           in
           let T′ : Trails (length (translate x .procs)) (length (translate x .sizes)) (length (front (translate x)) + 16) o₂ q o₃ r = rw (procs, places, long) at T in
           put-then (front (translate x)) (trailer (trailerOf sequential (translate x))) all (T′ .gives)

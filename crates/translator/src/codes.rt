@@ -41,7 +41,15 @@ fn put_question(t: &[u8], at: usize, s: Site, out: &mut [u8], to: usize) -> usiz
 }
 
 // if, while: figures 6 and 7
-pub fn put_test(t: &[u8], at: usize, s: Site, yes: usize, no: usize, out: &mut [u8], to: usize) -> usize
+pub fn put_test(
+    t: &[u8],
+    at: usize,
+    s: Site,
+    yes: usize,
+    no: usize,
+    out: &mut [u8],
+    to: usize,
+) -> usize
     ensures { λ r. ⌜ Tests (now (t .entry)) at s yes no (now (out .entry)) to (now (out .exit)) r ⌝ }
 {
     let p = put_question(t, at, s, out, to);
@@ -100,7 +108,17 @@ fn put_from(callee: Site, label: usize, out: &mut [u8], at: usize) -> usize
 }
 
 // call: figure 8, with `count` arguments from `at` on
-pub fn put_call(t: &[u8], at: usize, count: u8, s: Site, callee: Site, begin: usize, next: usize, out: &mut [u8], to: usize) -> usize
+pub fn put_call(
+    t: &[u8],
+    at: usize,
+    count: u8,
+    s: Site,
+    callee: Site,
+    begin: usize,
+    next: usize,
+    out: &mut [u8],
+    to: usize,
+) -> usize
     ensures { λ r. ⌜ Calls (now (t .entry)) at count s callee begin next (now (out .entry)) to (now (out .exit)) r ⌝ }
 {
     let p = put_loads_each(t, at, count, s, out, to);

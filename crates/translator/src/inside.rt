@@ -31,10 +31,7 @@ pub fn put_inside(t: &[u8], at: usize, depth: u8, s: Site, out: &mut [u8], to: u
     let mut p = to;
     while i < t.len() {
         if t[i] == END {
-            return Copied {
-                next: i + 1,
-                to: p,
-            };
+            return Copied { next: i + 1, to: p };
         }
         let done = put_instr(t, i, depth - 1, s, out, p);
         i = done.next;

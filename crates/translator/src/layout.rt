@@ -1,8 +1,10 @@
 // Where the copy keeps what: the locations after the source's. No other file knows their numbers.
+use reader::ReadAnswer;
 use value::bytes::byte_at;
 use value::bytes::two_bytes;
 ghost use mathlib.Core.Path.{_≡_};
 ghost use Prim.Native.Nat.{_+_};
+ghost use Rattle.translator.specs.Laws.Answers.{Accepts, AcceptedAs};
 ghost use Rattle.translator.specs.Laws.Shapes.{LocalsAt, BeforeAt, MainAt, HubAt, SiteAt, RowsAt};
 
 // What is known of an accepted concurrent table: where its procedure records begin, and its counts.
@@ -12,6 +14,21 @@ pub struct Shape {
     pub locations: u16,
     pub threads: u16,
     pub labels: u16,
+}
+
+// The shape of an accepted table. The counts are those that its reader answered.
+pub fn shape_of(t: &[u8], read: ReadAnswer) -> Shape
+    requires { ⌜ Accepts (now t) read ⌝ }
+    ensures { λ r. ⌜ AcceptedAs (now (t .entry)) r ⌝ }
+{
+    let distance = 6 * read.procedures + 2 * read.locations + 2 * read.threads;
+    Shape {
+        records: (t.len() - 16 - distance) as u16,
+        procedures: read.procedures as u16,
+        locations: read.locations as u16,
+        threads: read.threads as u16,
+        labels: read.labels as u16,
+    }
 }
 
 // Where the copy keeps the thread selected last and the program counters.

@@ -61,7 +61,15 @@ fn put_assign(t: &[u8], at: usize, s: Site, out: &mut [u8], to: usize) -> Copied
 }
 
 // "load e's j, then o's k, then p", where the offset o stands at `at` and e at `mid`
-fn put_write_loads(t: &[u8], at: usize, mid: usize, s: Site, y: u8, out: &mut [u8], to: usize) -> usize
+fn put_write_loads(
+    t: &[u8],
+    at: usize,
+    mid: usize,
+    s: Site,
+    y: u8,
+    out: &mut [u8],
+    to: usize,
+) -> usize
     ensures { λ r. ⌜ LoadsWrite (now (t .entry)) at mid s y (now (out .entry)) to (now (out .exit)) r ⌝ }
 {
     let p = put_loads_of(t, mid, s, out, to);

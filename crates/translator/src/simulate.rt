@@ -28,18 +28,47 @@ pub fn begin_of(bounds: &[usize; 32], m: usize) -> usize
 }
 
 // The call at `at`, which `next` follows.
-fn put_call_at(t: &[u8], at: usize, shape: Shape, bounds: &[usize; 32], s: Site, next: usize, out: &mut [u8], to: usize) -> usize
+fn put_call_at(
+    t: &[u8],
+    at: usize,
+    shape: Shape,
+    bounds: &[usize; 32],
+    s: Site,
+    next: usize,
+    out: &mut [u8],
+    to: usize,
+) -> usize
     requires { ⌜ at < length (now t) ⌝ }
     ensures { λ r. ⌜ CallsAt (now (t .entry)) at shape (now (bounds .entry)) s next (now (out .entry)) to (now (out .exit)) r ⌝ }
 {
     let callee = two_bytes(t, at + 1) as usize;
     let begin = begin_of(bounds, callee);
     let count = byte_at(t, at + 3);
-    put_call(t, at + 4, count, s, site_of(t, shape, callee), begin, next, out, to)
+    put_call(
+        t,
+        at + 4,
+        count,
+        s,
+        site_of(t, shape, callee),
+        begin,
+        next,
+        out,
+        to,
+    )
 }
 
 // What stands at `at`: an instruction that leads to `next`, and if it is a test that fails to `other`, or the end of a body.
-fn put_node(t: &[u8], at: usize, shape: Shape, bounds: &[usize; 32], s: Site, next: usize, other: usize, out: &mut [u8], to: usize) -> usize
+fn put_node(
+    t: &[u8],
+    at: usize,
+    shape: Shape,
+    bounds: &[usize; 32],
+    s: Site,
+    next: usize,
+    other: usize,
+    out: &mut [u8],
+    to: usize,
+) -> usize
     ensures { λ r. ⌜ PutsNode (now (t .entry)) at shape (now (bounds .entry)) s next other (now (out .entry)) to (now (out .exit)) r ⌝ }
 {
     if t.len() <= at {
@@ -62,7 +91,15 @@ fn put_node(t: &[u8], at: usize, shape: Shape, bounds: &[usize; 32], s: Site, ne
 }
 
 // "Procedure l simulates label l"
-fn put_label(t: &[u8], shape: Shape, map: &[usize; 1604], bounds: &[usize; 32], label: usize, out: &mut [u8], to: usize) -> usize
+fn put_label(
+    t: &[u8],
+    shape: Shape,
+    map: &[usize; 1604],
+    bounds: &[usize; 32],
+    label: usize,
+    out: &mut [u8],
+    to: usize,
+) -> usize
     requires { ⌜ label ≤ 400 ⌝ }
     ensures { λ r. ⌜ PutsLabel (now (t .entry)) shape (now (map .entry)) (now (bounds .entry)) label (now (out .entry)) to (now (out .exit)) r ⌝ }
 {

@@ -34,7 +34,15 @@ fn put_head(out: &mut [u8], at: usize, params: u8, locals: u8, offset: usize) ->
 }
 
 // The record of the procedure of label k + 1: "it has parameter tid = 0, then tmp = 1, aux = 2, and local i as 3+i".
-fn put_label_head(t: &[u8], shape: Shape, map: &[usize; 1604], offsets: &[usize; 400], k: usize, out: &mut [u8], at: usize) -> usize
+fn put_label_head(
+    t: &[u8],
+    shape: Shape,
+    map: &[usize; 1604],
+    offsets: &[usize; 400],
+    k: usize,
+    out: &mut [u8],
+    at: usize,
+) -> usize
     requires { ⌜ k < 400 ⌝ }
     ensures { λ r. ⌜ HeadOf (now (t .entry)) shape (now (map .entry)) (now (offsets .entry)) k (now (out .entry)) at (now (out .exit)) r ⌝ }
 {
@@ -44,7 +52,14 @@ fn put_label_head(t: &[u8], shape: Shape, map: &[usize; 1604], offsets: &[usize;
 }
 
 // The records of all labels' procedures.
-fn put_heads(t: &[u8], shape: Shape, map: &[usize; 1604], offsets: &[usize; 400], out: &mut [u8], at: usize) -> usize
+fn put_heads(
+    t: &[u8],
+    shape: Shape,
+    map: &[usize; 1604],
+    offsets: &[usize; 400],
+    out: &mut [u8],
+    at: usize,
+) -> usize
     requires { ⌜ shape .labels ≤ 400 ⌝ }
     ensures { λ r. ⌜ HeadsOf (now (t .entry)) shape (now (map .entry)) (now (offsets .entry)) (now (out .entry)) at (now (out .exit)) r ⌝ }
 {
@@ -86,7 +101,14 @@ fn put_sizes(t: &[u8], shape: Shape, out: &mut [u8], at: usize) -> usize
 }
 
 // Records and sizes.
-fn put_middle(t: &[u8], shape: Shape, map: &[usize; 1604], offsets: &[usize; 400], out: &mut [u8], at: usize) -> usize
+fn put_middle(
+    t: &[u8],
+    shape: Shape,
+    map: &[usize; 1604],
+    offsets: &[usize; 400],
+    out: &mut [u8],
+    at: usize,
+) -> usize
     requires { ⌜ shape .labels ≤ 400 ⌝ }
     ensures { λ r. ⌜ MiddleOf (now (t .entry)) shape (now (map .entry)) (now (offsets .entry)) (now (out .entry)) at (now (out .exit)) r ⌝ }
 {
@@ -96,7 +118,14 @@ fn put_middle(t: &[u8], shape: Shape, map: &[usize; 1604], offsets: &[usize; 400
 }
 
 // The bodies of all procedures, and where each of them but the first begins.
-fn put_code(t: &[u8], shape: Shape, map: &[usize; 1604], bounds: &[usize; 32], offsets: &mut [usize; 400], out: &mut [u8]) -> usize
+fn put_code(
+    t: &[u8],
+    shape: Shape,
+    map: &[usize; 1604],
+    bounds: &[usize; 32],
+    offsets: &mut [usize; 400],
+    out: &mut [u8],
+) -> usize
     requires { ⌜ (shape .labels ≤ 400) × (length (now offsets) ≡ 400) ⌝ }
     ensures { λ r. ⌜ CodeOf (now (t .entry)) shape (now (map .entry)) (now (bounds .entry)) (now (offsets .exit)) (now (out .entry)) (now (out .exit)) r ⌝ }
 {
@@ -122,7 +151,13 @@ fn put_counts(out: &mut [u8], at: usize, procedures: usize, locations: usize) ->
 }
 
 // "Last a 16-byte trailer"; "Sequential tables have T = 0"
-fn put_trailer(out: &mut [u8], at: usize, procedures: usize, locations: usize, whole: usize) -> usize
+fn put_trailer(
+    out: &mut [u8],
+    at: usize,
+    procedures: usize,
+    locations: usize,
+    whole: usize,
+) -> usize
     requires { ⌜ (procedures ≤ 65536) × (locations ≤ 33554432) ⌝ }
     ensures { λ r. ⌜ Trails procedures locations whole (now (out .entry)) at (now (out .exit)) r ⌝ }
 {
@@ -133,7 +168,13 @@ fn put_trailer(out: &mut [u8], at: usize, procedures: usize, locations: usize, w
 }
 
 // The table of the copy, from byte 0 on. Where it is too long, the rest is not even counted.
-pub fn put_table(t: &[u8], shape: Shape, map: &[usize; 1604], bounds: &[usize; 32], out: &mut [u8]) -> usize
+pub fn put_table(
+    t: &[u8],
+    shape: Shape,
+    map: &[usize; 1604],
+    bounds: &[usize; 32],
+    out: &mut [u8],
+) -> usize
     requires { ⌜ shape .labels ≤ 400 ⌝ }
     ensures { λ r. ⌜ TableOf (now (t .entry)) shape (now (map .entry)) (now (bounds .entry)) (now (out .entry)) (now (out .exit)) r ⌝ }
 {

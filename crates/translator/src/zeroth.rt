@@ -97,13 +97,25 @@ fn put_finished(out: &mut [u8], at: usize, k: usize) -> usize
 }
 
 // One part of thread k.
-fn put_thread(part: Part, t: &[u8], shape: Shape, bounds: &[usize; 32], k: usize, out: &mut [u8], at: usize) -> usize
+fn put_thread(
+    part: Part,
+    t: &[u8],
+    shape: Shape,
+    bounds: &[usize; 32],
+    k: usize,
+    out: &mut [u8],
+    at: usize,
+) -> usize
     ensures { λ r. ⌜ OneThread part (now (t .entry)) shape (now (bounds .entry)) k (now (out .entry)) at (now (out .exit)) r ⌝ }
 {
     match part {
         Part::Beginning => put_initial(out, at, k, begin_of(bounds, main_of(t, shape, k))),
         Part::From => {
-            let p = put_locate(out, at, site_of(t, shape, main_of(t, shape, k)).from as usize);
+            let p = put_locate(
+                out,
+                at,
+                site_of(t, shape, main_of(t, shape, k)).from as usize,
+            );
             put_initial(out, p, k, 0)
         }
         Part::Finished => put_finished(out, at, k),
@@ -111,7 +123,14 @@ fn put_thread(part: Part, t: &[u8], shape: Shape, bounds: &[usize; 32], k: usize
 }
 
 // "for each t"
-fn put_threads(part: Part, t: &[u8], shape: Shape, bounds: &[usize; 32], out: &mut [u8], at: usize) -> usize
+fn put_threads(
+    part: Part,
+    t: &[u8],
+    shape: Shape,
+    bounds: &[usize; 32],
+    out: &mut [u8],
+    at: usize,
+) -> usize
     ensures { λ r. ⌜ AllThreads part (now (t .entry)) shape (now (bounds .entry)) (now (out .entry)) at (now (out .exit)) r ⌝ }
 {
     let threads = shape.threads as usize;
@@ -177,7 +196,14 @@ fn put_switch(labels: usize, out: &mut [u8], at: usize) -> usize
 }
 
 // "terminated := true; tmp := pct; for each t, .."; the end of the round
-fn put_closing(t: &[u8], shape: Shape, bounds: &[usize; 32], hub: Hub, out: &mut [u8], at: usize) -> usize
+fn put_closing(
+    t: &[u8],
+    shape: Shape,
+    bounds: &[usize; 32],
+    hub: Hub,
+    out: &mut [u8],
+    at: usize,
+) -> usize
     ensures { λ r. ⌜ Closes (now (t .entry)) shape (now (bounds .entry)) hub (now (out .entry)) at (now (out .exit)) r ⌝ }
 {
     let p = put_three(out, at, ASSIGN, TERMINATED, TRUE);
@@ -187,7 +213,14 @@ fn put_closing(t: &[u8], shape: Shape, bounds: &[usize; 32], hub: Hub, out: &mut
 }
 
 // A round of the loop.
-fn put_round(t: &[u8], shape: Shape, bounds: &[usize; 32], hub: Hub, out: &mut [u8], at: usize) -> usize
+fn put_round(
+    t: &[u8],
+    shape: Shape,
+    bounds: &[usize; 32],
+    hub: Hub,
+    out: &mut [u8],
+    at: usize,
+) -> usize
     ensures { λ r. ⌜ RoundOf (now (t .entry)) shape (now (bounds .entry)) hub (now (out .entry)) at (now (out .exit)) r ⌝ }
 {
     let p = put_choice(hub, out, at);
@@ -196,7 +229,14 @@ fn put_round(t: &[u8], shape: Shape, bounds: &[usize; 32], hub: Hub, out: &mut [
 }
 
 // "terminated := false; while not terminated"
-fn put_loop(t: &[u8], shape: Shape, bounds: &[usize; 32], hub: Hub, out: &mut [u8], at: usize) -> usize
+fn put_loop(
+    t: &[u8],
+    shape: Shape,
+    bounds: &[usize; 32],
+    hub: Hub,
+    out: &mut [u8],
+    at: usize,
+) -> usize
     ensures { λ r. ⌜ LoopOf (now (t .entry)) shape (now (bounds .entry)) hub (now (out .entry)) at (now (out .exit)) r ⌝ }
 {
     let p = put_three(out, at, ASSIGN, TERMINATED, FALSE);
@@ -207,7 +247,14 @@ fn put_loop(t: &[u8], shape: Shape, bounds: &[usize; 32], hub: Hub, out: &mut [u
 }
 
 // "tmp := pct; for each t, tmp[t] := beginning of its main; for each t, tmp := from of its main, tmp[t] := 0"
-fn put_start(t: &[u8], shape: Shape, bounds: &[usize; 32], hub: Hub, out: &mut [u8], at: usize) -> usize
+fn put_start(
+    t: &[u8],
+    shape: Shape,
+    bounds: &[usize; 32],
+    hub: Hub,
+    out: &mut [u8],
+    at: usize,
+) -> usize
     ensures { λ r. ⌜ StartOf (now (t .entry)) shape (now (bounds .entry)) hub (now (out .entry)) at (now (out .exit)) r ⌝ }
 {
     let p = put_locate(out, at, hub.pct);
