@@ -1,23 +1,21 @@
 -- One law for each way through the translator's call.
-use Prim.Native.Nat.{ℕ, zero, suc, _+_, _-_, _*_, _≤_, _<_}
+use Prim.Native.Nat.{ℕ, _+_, _-_, _*_, _≤_, _<_}
 use native.Mathlib.Omega.{arith}
 use native.Mathlib.Decide.{decLe}
 use native.Mathlib.Nat.{zero-add}
-use mathlib.Core.Path.{_≡_, refl, sym, ap, ap₂, subst, _∙_}
-use mathlib.Core.List.{List, [], _∷_, _++_}
-use lib.ListN.{length, getD, drop, take}
-use lib.Seq.{sets, sets-eq}
-use lib.Dec.{ltb}
+use mathlib.Core.Path.{_≡_, refl, sym, ap, ap₂, _∙_}
+use mathlib.Core.List.{List, _++_}
+use lib.ListN.{length, getD, drop}
+use lib.Seq.{sets-eq}
 use borrow.Author.Tests.{lt-ltb, le-ltb}
 use Rattle.value.specs.Lists.{over}
-use Rattle.value.specs.Laws.Bytes.{Bytes, bytes-at}
+use Rattle.value.specs.Laws.Bytes.{bytes-at}
 use Rattle.reader.specs.Syntax.{Program, Plain, concurrent, sequential}
-use Rattle.reader.specs.Encode.{table, distance, bodiesOf}
-use Rattle.reader.specs.Labels.{counts}
+use Rattle.reader.specs.Encode.{table}
 use Rattle.reader.specs.LabelMap.{Mapped}
-use Rattle.reader.specs.Rules.{Verdict, refused, accepted, verdict, limits}
+use Rattle.reader.specs.Rules.{Verdict, refused, accepted, verdict}
 use Rattle.reader.specs.Calls.{readAs, readCall}
-use Rattle.reader.specs.Walks.{BodiesIn, MapsLabels}
+use Rattle.reader.specs.Walks.{MapsLabels}
 use Rattle.reader.specs.declared.ReadAnswer.{ReadAnswer}
 use Rattle.reader.specs.Laws.Sound.{Sound}
 use Rattle.reader.specs.Laws.Formed.{Formed}
@@ -177,7 +175,8 @@ module _ {t : List ℕ} {h : Shape} {map bounds : List ℕ} {n : ℕ} (M : MapsL
             ∙ rw (le-ltb 65536 (length new) (omega arith), writesTable, le-ltb (length o) (length new) (omega arith), writes)
 
 -- the call
-pub call-copies : (t : List ℕ) {h : Shape} (o : List ℕ) {o′ : List ℕ} {r : WriteAnswer} → AcceptedAs t h → WritesCopy t h o o′ r → left r o′ ≡ translateCall t o
+pub call-copies : (t : List ℕ) {h : Shape} (o : List ℕ) {o′ : List ℕ} {r : WriteAnswer} → AcceptedAs t h → WritesCopy t h o o′ r
+    → left r o′ ≡ translateCall t o
 call-copies t o A W = W .gives (A .program) (A .shaped) ∙ sym (ap (λ (v : Verdict). translateAs v o) (A .verdict))
 
 -- one law for each way

@@ -1,18 +1,16 @@
 -- One law for each way through the code of an atomic block.
-use Prim.Native.Nat.{ℕ, zero, suc, _+_, _-_, _≤_, _<_}
+use Prim.Native.Nat.{ℕ, _+_, _-_, _≤_}
 use native.Mathlib.Omega.{arith}
-use native.Mathlib.Nat.{pos-of-ne-zero}
-use mathlib.Core.Path.{_≡_, refl, sym, ap, subst, _∙_}
-use mathlib.Core.List.{List, [], _∷_, _++_, append-assoc}
+use mathlib.Core.Path.{_≡_, refl, sym, _∙_}
+use mathlib.Core.List.{List, [], _∷_}
 use lib.ListN.{length, getD}
-use Rattle.reader.specs.Syntax.{Expr, Instr, assign, write, read, while, if, call, atomic, select, Block, end, step}
-use Rattle.reader.specs.Syntax as S
+use Rattle.reader.specs.Syntax.{Instr, Block, end}
 use Rattle.reader.specs.Encode.{expr, block}
-use Rattle.reader.specs.Laws.Grammar.{ExprAt, InstrAt, BlockAt, IfAt, if-here, StepAt, end-here, step-here, block-inside, block-deep}
+use Rattle.reader.specs.Laws.Grammar.{BlockAt, IfAt, if-here, StepAt, end-here, step-here, block-inside, block-deep}
 use Rattle.translator.specs.Layout.{Layout}
-use Rattle.translator.specs.Code.{_then_, shift, loads, insideI, inside}
-use Rattle.translator.specs.Laws.Put.{Put, PutInstr, PutBlock, Onto, Writes}
-use Rattle.translator.specs.Laws.Sources.{Low, Copies, Sited, ExprOf, LoadsOf, InPlaceI, InPlace, Plain, PlainIf}
+use Rattle.translator.specs.Code.{shift, insideI, inside}
+use Rattle.translator.specs.Laws.Put.{Put, Writes}
+use Rattle.translator.specs.Laws.Sources.{Low, Copies, Sited, LoadsOf, InPlaceI, InPlace, PlainIf}
 use Rattle.translator.specs.Laws.Sources.{InsideInstr, InsideBlock, Branch, From, Asks}
 use Rattle.translator.specs.declared.exprs.Copied.{Copied}
 use Rattle.translator.specs.declared.layout.Site.{Site}
@@ -28,7 +26,8 @@ module _ {t : List ℕ} where
   -- ---- instructions
 
   -- one that holds no block
-  pub instr-plain : {i d : ℕ} {s : Site} {o o′ : List ℕ} {p : ℕ} {r : Copied} → (getD t i 0 ≡ 0x24 → ⊥) → PlainIf t i s o p o′ r → InsideInstr t i d s o p o′ r
+  pub instr-plain : {i d : ℕ} {s : Site} {o o′ : List ℕ} {p : ℕ} {r : Copied} → (getD t i 0 ≡ 0x24 → ⊥) → PlainIf t i s o p o′ r
+      → InsideInstr t i d s o p o′ r
   instr-plain {i} {d} f P = record {
     gives = λ G m n a j. P .gives f .gives G m n d a j;
     ends = λ n a j. P .gives f .ends n d a j;

@@ -1,21 +1,20 @@
 -- One law for each way through the copy of an expression.
-use Prim.Native.Nat.{ℕ, zero, suc, _+_, _-_, _%_, _≤_, _<_}
+use Prim.Native.Nat.{ℕ, suc, _+_, _-_, _%_, _≤_, _<_}
 use native.Mathlib.Omega.{arith}
-use native.Mathlib.Nat.{pos-of-ne-zero}
-use mathlib.Core.Path.{_≡_, refl, sym, ap, subst, _∙_}
-use mathlib.Core.List.{List, [], _∷_, _++_, append-nil}
+use mathlib.Core.Path.{_≡_, refl, sym, subst, _∙_}
+use mathlib.Core.List.{List, [], _∷_, append-nil}
 use mathlib.Core.Bool.{true, false}
-use lib.ListN.{length, getD, take, drop}
+use lib.ListN.{length, getD}
 use lib.Seq.{slice, slice-empty}
-use borrow.Author.Tests.{eqb-true}
 use Rattle.value.specs.Values.{One, not, neg, Two, add, sub, mul, less, equal, and}
-use Rattle.value.specs.Marks.{Mark, wholeMark, locationMark, noMark, yesMark, localMark, oneMark, twoMark, noExpr, mark₁, mark₂, markOf, rowOf, operandsOf, payloadOf}
-use Rattle.value.specs.Laws.Marks.{Says, row-says, marks?, mark-right}
+use Rattle.value.specs.Marks.{Mark, wholeMark, locationMark, noMark, yesMark, localMark, oneMark, twoMark, noExpr, mark₁, mark₂, markOf, rowOf}
+use Rattle.value.specs.Marks.{operandsOf, payloadOf}
+use Rattle.value.specs.Laws.Marks.{Says, row-says}
 use Rattle.value.specs.declared.Value.the-variants.{Whole, Location, Truth}
 use Rattle.reader.specs.Syntax.{Expr, constant, local, one, two}
 use Rattle.reader.specs.Encode.{expr}
 use Rattle.reader.specs.Laws.Stands.{Stands, first, in-take}
-use Rattle.reader.specs.Laws.Grammar.{ExprAt, OneAt, TwoAt, one-here, two-here, none-here, local-here, expr-inside, expr-deep}
+use Rattle.reader.specs.Laws.Grammar.{ExprAt, OneAt, TwoAt, one-here, two-here, local-here, expr-inside, expr-deep}
 use Rattle.translator.specs.Code.{shift}
 use Rattle.translator.specs.Laws.Put.{Put}
 use Rattle.translator.specs.Laws.Sources.{Low, Copies}
@@ -80,7 +79,8 @@ pub record Leaf (t : List ℕ) (i : ℕ) (e : Expr) (j : ℕ) : Type 0 where
   pub stays : (getD t i 0 ≡ 0x05 → ⊥) → shift e ≡ e
 
 -- an expression whose mark has no operands is one
-leaf-here : {t : List ℕ} {i d : ℕ} (e : Expr) {j : ℕ} → ExprAt t i d e j → (operandsOf (getD t i 0) ≡ 1 → ⊥) → (operandsOf (getD t i 0) ≡ 2 → ⊥) → Leaf t i e j
+leaf-here : {t : List ℕ} {i d : ℕ} (e : Expr) {j : ℕ} → ExprAt t i d e j → (operandsOf (getD t i 0) ≡ 1 → ⊥) → (operandsOf (getD t i 0) ≡ 2 → ⊥)
+    → Leaf t i e j
 leaf-here (constant (Whole z)) h f g = record { long = rw (first (h .stands)) (omega (arith, h .stands .ends)); stays = λ n. refl }
 leaf-here (constant (Location l)) h f g = record { long = rw (first (h .stands)) (omega (arith, h .stands .ends)); stays = λ n. refl }
 leaf-here (constant (Truth false)) h f g = record { long = rw (first (h .stands)) (omega (arith, h .stands .ends)); stays = λ n. refl }

@@ -3,37 +3,39 @@ use Prim.Native.Nat.{ℕ, zero, suc, _+_, _-_, _≤_, _<_}
 use native.Mathlib.Omega.{arith}
 use native.Mathlib.Nat.{sub-zero}
 use native.Mathlib.Numerals.{add-one}
-use mathlib.Core.Path.{_≡_, refl, sym, ap, subst, _∙_}
+use mathlib.Core.Path.{_≡_, refl, sym, ap, _∙_}
 use mathlib.Core.List.{List, [], _∷_, _++_, append-assoc}
 use mathlib.Core.Bool.{Bool, true, false}
 use lib.ListN.{length, getD, replicate}
 use Rattle.value.specs.Maybe.{either}
 use Rattle.value.specs.Laws.Lists.{Each}
 use Rattle.value.specs.Laws.Tests.{either-false}
-use Rattle.reader.specs.Syntax.{Expr, local, Instr, assign, write, read, while, if, call, atomic, select, Block, end, step}
+use Rattle.reader.specs.Syntax.{Expr, local, Instr, assign, write, read, while, if, call, atomic, select, end}
 use Rattle.reader.specs.Syntax as S
-use Rattle.reader.specs.Encode.{expr, instr, block}
-use Rattle.reader.specs.Laws.Grammar.{ExprAt, ExprsAt, InstrAt, BlockAt, MoreAt, exprs-none, exprs-more, AtomicAt, atomic-here}
+use Rattle.reader.specs.Encode.{expr, block}
+use Rattle.reader.specs.Laws.Grammar.{InstrAt, MoreAt, exprs-none, exprs-more, AtomicAt, atomic-here}
 use Rattle.reader.specs.Laws.Stands.{first}
 use Rattle.reader.specs.Walks.{Gathers}
 use Rattle.reader.specs.Variables.{flags, joined}
 use Rattle.reader.specs.Laws.Variables.{flag-at}
 use Rattle.reader.specs.declared.variables.Gathered.{Gathered}
 use Rattle.translator.specs.Layout.{Layout}
-use Rattle.translator.specs.Code.{_then_, num, loc, tid, tmp, mentioned, mentions, shift, loads, put, goto, tests, passes, calls, pc, insideI, inside, code}
-use Rattle.translator.specs.Laws.Put.{Put, PutInstr, PutBlock, Onto, Writes}
-use Rattle.translator.specs.Laws.Sources.{Low, Sited, ExprOf, LoadsOf, Stores, Goes, Asks, InPlaceI, InPlace, Plain, PlainIf, InsideBlock}
-use Rattle.translator.specs.Laws.Sources.{LoadsAll, Ways, Questions, Tests, ExprsOf, GathersMore, GathersEach, Gathering, LoadsEach, Passes, Passing, Marks, Calls, OneLabel, Steps}
+use Rattle.translator.specs.Code.{_then_, num, loc, tid, tmp, mentioned, mentions, shift, goto, passes, code}
+use Rattle.translator.specs.Laws.Put.{Put, PutInstr, PutBlock, Writes}
+use Rattle.translator.specs.Laws.Sources.{Low, Sited, LoadsOf, Stores, Goes, Asks, InPlace, PlainIf, InsideBlock}
+use Rattle.translator.specs.Laws.Sources.{LoadsAll, Ways, Questions, Tests, GathersMore, GathersEach, Gathering, LoadsEach, Passes, Passing}
+use Rattle.translator.specs.Laws.Sources.{Marks, Calls, OneLabel, Steps}
 use Rattle.translator.specs.declared.exprs.Copied.{Copied}
 use Rattle.translator.specs.declared.layout.Site.{Site}
-use Rattle.translator.proofs.Puts.{put-then, put-cons, put-same, onto-start}
+use Rattle.translator.proofs.Puts.{put-then, put-same, onto-start}
 use Rattle.translator.proofs.Coding.{writes-instr, writes-then, writes-block, block-end}
 use Rattle.translator.proofs.Plainly.{low-more}
 
 -- ---- tests
 
 -- a branch
-pub way : {label : ℕ} {o o₁ o₂ : List ℕ} {p p₁ p₂ : ℕ} → PutInstr o p (write tmp (local tid) (num label)) o₁ p₁ → Put o₁ p₁ (0 ∷ []) o₂ p₂ → Ways label o p o₂ p₂
+pub way : {label : ℕ} {o o₁ o₂ : List ℕ} {p p₁ p₂ : ℕ} → PutInstr o p (write tmp (local tid) (num label)) o₁ p₁ → Put o₁ p₁ (0 ∷ []) o₂ p₂
+    → Ways label o p o₂ p₂
 way A B = record { gives = λ G m n. writes-block (writes-instr A) (block-end B) }
 
 -- no flag of an empty row is set
@@ -53,7 +55,8 @@ if-bytes a b c z = simp append-assoc
 
 module _ {t : List ℕ} where
   -- the loads and "if e"
-  pub question : {i : ℕ} {s : Site} {o o₁ o₂ o₃ : List ℕ} {p p₁ p₂ : ℕ} {r : Copied} → LoadsOf t i s o p o₁ p₁ → PutInstr o₁ p₁ (assign tmp (loc (s .pct))) o₂ p₂
+  pub question : {i : ℕ} {s : Site} {o o₁ o₂ o₃ : List ℕ} {p p₁ p₂ : ℕ} {r : Copied} → LoadsOf t i s o p o₁ p₁
+      → PutInstr o₁ p₁ (assign tmp (loc (s .pct))) o₂ p₂
       → Asks t i o₂ p₂ o₃ r → Questions t i s o p o₃ (r .to)
   question L A Q = record {
     gives = λ G m n e j h at b c.
@@ -70,7 +73,8 @@ module _ {t : List ℕ} where
   }
 
   -- if, while
-  pub tested : {i l k : ℕ} {s : Site} {o o₁ o₂ o₃ o₄ : List ℕ} {p p₁ p₂ p₃ p₄ : ℕ} → Questions t i s o p o₁ p₁ → Ways l o₁ p₁ o₂ p₂ → Ways k o₂ p₂ o₃ p₃
+  pub tested : {i l k : ℕ} {s : Site} {o o₁ o₂ o₃ o₄ : List ℕ} {p p₁ p₂ p₃ p₄ : ℕ} → Questions t i s o p o₁ p₁ → Ways l o₁ p₁ o₂ p₂
+      → Ways k o₂ p₂ o₃ p₃
       → Put o₃ p₃ (0 ∷ []) o₄ p₄ → Tests t i s l k o p o₄ p₄
   tested {l = l} {k} Q A B C = record {
     gives = λ G m n e j h at. record {
@@ -94,7 +98,9 @@ module _ {t : List ℕ} where
   -- an argument more
   pub gather-next : {i k i′ left : ℕ} {set more : List Bool} {g : Gathered} → Gathering t i k set i′ left → 0 < left → Gathers t i′ 16 g
       → more ≡ joined set (g .set) → Gathering t i k more (g .next) (left - 1)
-  gather-next {i} {k} {i′} {left} {set} {more} {g} F some A e = record { back = λ M. F .back (record { gives = λ es j at x l. one es j x l (exprs-more at some) M }) }
+  gather-next {i} {k} {i′} {left} {set} {more} {g} F some A e = record {
+    back = λ M. F .back (record { gives = λ es j at x l. one es j x l (exprs-more at some) M });
+  }
     where
       one : {r : List Bool} (es : List Expr) (j x : ℕ) → x < 16 → MoreAt t i′ left es j → GathersMore t (g .next) (left - 1) more r
           → getD r x false ≡ either (getD set x false) (mentions x es)
@@ -119,7 +125,8 @@ module _ {t : List ℕ} where
   })
 
   -- the loads of all arguments' variables
-  pub loads-each : {i k : ℕ} {set : List Bool} {s : Site} {o o′ : List ℕ} {p r : ℕ} → GathersEach t i k set → LoadsAll s set o p o′ r → LoadsEach t i k s o p o′ r
+  pub loads-each : {i k : ℕ} {set : List Bool} {s : Site} {o o′ : List ℕ} {p r : ℕ} → GathersEach t i k set → LoadsAll s set o p o′ r
+      → LoadsEach t i k s o p o′ r
   loads-each A L = record { gives = λ G m n es j h at. L .gives G m n es h (A .gives es j (at .stand)) }
 
   -- at the first argument
@@ -175,7 +182,8 @@ marks A B = record { gives = λ G m n q l h. writes-then (writes-instr (rw (h .f
 
 module _ {t : List ℕ} where
   -- call
-  pub called : {i k begin next : ℕ} {s c : Site} {o o₁ o₂ o₃ o₄ : List ℕ} {p p₁ p₂ p₃ p₄ : ℕ} → LoadsEach t i k s o p o₁ p₁ → Passes t i k 0 c o₁ p₁ o₂ p₂
+  pub called : {i k begin next : ℕ} {s c : Site} {o o₁ o₂ o₃ o₄ : List ℕ} {p p₁ p₂ p₃ p₄ : ℕ} → LoadsEach t i k s o p o₁ p₁
+      → Passes t i k 0 c o₁ p₁ o₂ p₂
       → Marks c next o₂ p₂ o₃ p₃ → Goes s begin o₃ p₃ o₄ p₄ → Calls t i k s c begin next o p o₄ p₄
   called L P M E = record {
     gives = λ G m n q l es j h hc at.
@@ -188,7 +196,9 @@ module _ {t : List ℕ} where
   -- atomic
   pub atomically : {i next : ℕ} {s : Site} {o o₁ o₂ : List ℕ} {p q : ℕ} {u : Copied} → getD t i 0 ≡ 0x26 → InsideBlock t (i + 1) 16 s o p o₁ u
       → Goes s next o₁ (u .to) o₂ q → Steps t i s next o p o₂ q
-  atomically {i} {next} {s} {o} {o₁} {o₂} {p} {q} {u} b I E = record { gives = λ G m n begin l a j h at ok. gives G m n begin l a j h ok (atomic-here at b) }
+  atomically {i} {next} {s} {o} {o₁} {o₂} {p} {q} {u} b I E = record {
+    gives = λ G m n begin l a j h at ok. gives G m n begin l a j h ok (atomic-here at b);
+  }
     where
       gives : (G : Layout) (m n : ℕ) (begin : ℕ → ℕ) (l : ℕ) (a : Instr ℕ) (j : ℕ) → Sited G m n s → OneLabel n a → AtomicAt t i 16 a j
           → PutBlock o p (code G m n begin l a next) o₂ q
@@ -216,4 +226,19 @@ module _ {t : List ℕ} where
       gives G m n begin l (select x y) j h at ok = absurd ok
 
 -- one law for each way
-pub ruleset label-ways = (way, question, tested, gather-start, gather-next, gather-end, loads-each, passing-start, passing-next, passing-end, marks, called, atomically, plainly)
+pub ruleset label-ways = (
+  way,
+  question,
+  tested,
+  gather-start,
+  gather-next,
+  gather-end,
+  loads-each,
+  passing-start,
+  passing-next,
+  passing-end,
+  marks,
+  called,
+  atomically,
+  plainly,
+)

@@ -1,30 +1,29 @@
 -- What the label map says of the source's code, and the copy's procedures as those of the map's nodes.
-use Prim.Native.Nat.{ℕ, zero, suc, _+_, _-_, _≤_, _<_}
+use Prim.Native.Nat.{ℕ, zero, suc, _+_, _-_}
 use native.Mathlib.Omega.{arith}
-use mathlib.Core.Path.{_≡_, refl, sym, ap, ap₂, subst, _∙_}
+use mathlib.Core.Path.{_≡_, refl, sym, ap, ap₂, _∙_}
 use mathlib.Core.List.{List, [], _∷_, _++_, map}
-use mathlib.Core.Bool.{Bool, true, false}
+use mathlib.Core.Bool.{true, false}
 use mathlib.Core.Bool as B
-use lib.ListN.{length, getD}
+use lib.ListN.{length}
 use lib.Dec.{ltb}
 use borrow.Author.Tests.{ltb-true}
-use Rattle.value.specs.Maybe.{is, both}
+use Rattle.value.specs.Maybe.{both}
 use Rattle.value.specs.Lists.{at, all}
-use Rattle.value.specs.declared.Value.the-variants.{Whole, Location, Truth}
 use Rattle.value.specs.Laws.Tests.{both-passed, never}
 use Rattle.value.specs.Laws.Lists.{Each, at-below}
 use Rattle.reader.specs.Syntax.{Expr, constant, local, one, two, Instr, assign, write, read, while, if, call, atomic, select, Block, end, step, _⊕_}
 use Rattle.reader.specs.Syntax.{Proc, Program, Plain, concurrent}
 use Rattle.reader.specs.Encode.{expr, instr, block}
 use Rattle.reader.specs.Labels.{first, count, labels, labelled}
-use Rattle.reader.specs.Rules.{Here, inExpr, takes, named, namedI, allowed, allowedI, plainly}
+use Rattle.reader.specs.Rules.{Here, inExpr, takes, named, namedI, allowed, allowedI}
 use Rattle.reader.specs.LabelMap.{Node, nodes, held, allNodes}
 use Rattle.reader.specs.Laws.Fits.{BlockFits, InstrFits}
-use Rattle.reader.specs.Laws.Names.{Takes, takes?}
+use Rattle.reader.specs.Laws.Names.{takes?}
 use Rattle.reader.specs.Laws.Procs.{takes-at}
 use Rattle.reader.specs.Laws.Spots.{Inherited}
 use Rattle.translator.specs.Layout.{Layout, layout, localsOf}
-use Rattle.translator.specs.Code.{code, returns}
+use Rattle.translator.specs.Code.{code}
 use Rattle.translator.specs.Translate.{simulating, heldBy, simulations, endsOf, begins, later}
 use Rattle.translator.specs.Translate as T
 use Rattle.translator.specs.Laws.Sources.{Low, InPlaceI, InPlace}
@@ -112,7 +111,8 @@ module _ (p : Program ℕ) (X m : ℕ) where
         (in-placeI j (v .0) (u .0), in-place b (v .1) (u .1))
 
   -- an instruction that has a label
-  pub of-label : (q : Program Plain) → length (p .procs) ≡ length (q .procs) → (j : Instr ℕ) → namedI p X j ≡ true → allowedI outer j ≡ true → OfLabel q X j
+  pub of-label : (q : Program Plain) → length (p .procs) ≡ length (q .procs) → (j : Instr ℕ) → namedI p X j ≡ true → allowedI outer j ≡ true
+      → OfLabel q X j
   of-label q e (assign x a) h ok = in-placeI (assign x a) h refl
   of-label q e (write y o a) h ok = in-placeI (write y o a) h refl
   of-label q e (read x y o) h ok = in-placeI (read x y o) h refl
@@ -166,7 +166,8 @@ module _ (G : Layout) (begin : ℕ → ℕ) (m n k : ℕ) (f : Node → Proc Pla
 module _ (G : Layout) (begin ends L : ℕ → ℕ) (f : Node → Proc Plain)
     (is-so : (d : Node) → f d ≡ simulating (L (d .proc)) (labelCode G begin (d .proc) (L (d .proc)) (ends (d .proc)) (d .code))) where
   -- those of procedures from m on
-  all-simulated : (ps : List (Proc ℕ)) (m i : ℕ) → ((j : ℕ) → L (m + j) ≡ localsOf (at ps j)) → simulations G begin ends m ps ≡ map f (allNodes m i ps)
+  all-simulated : (ps : List (Proc ℕ)) (m i : ℕ) → ((j : ℕ) → L (m + j) ≡ localsOf (at ps j))
+      → simulations G begin ends m ps ≡ map f (allNodes m i ps)
   all-simulated [] m i h = refl
   all-simulated (p ∷ ps) m i h =
       let here : L m ≡ p .locals = ap L (omega arith) ∙ h 0 in

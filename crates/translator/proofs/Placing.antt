@@ -1,26 +1,23 @@
 -- One law for each way through the layout's code.
-use Prim.Native.Nat.{ℕ, zero, suc, _+_, _*_, _-_, _≤_, _<_}
+use Prim.Native.Nat.{ℕ, zero, suc, _+_, _*_, _≤_, _<_}
 use native.Mathlib.Omega.{arith}
 use native.Mathlib.Numerals.{add-one}
-use mathlib.Core.Path.{_≡_, refl, sym, ap, ap₂, subst, _∙_}
+use mathlib.Core.Path.{_≡_, refl, sym, ap, ap₂, _∙_}
 use mathlib.Core.List.{List, [], _∷_, _++_}
 use lib.ListN.{length, getD, replicate}
 use Rattle.value.specs.Maybe.{Maybe, is, nothing}
 use Rattle.value.specs.Values.{numberAt}
 use Rattle.value.specs.Lists.{at}
 use Rattle.value.specs.Laws.Lists.{at-below, each-at}
-use Rattle.value.specs.Laws.Maybes.{missing, is-inj}
+use Rattle.value.specs.Laws.Maybes.{missing}
 use Rattle.reader.specs.Syntax.{Proc, Program, Plain, concurrent}
 use Rattle.reader.specs.Laws.Stands.{first, others, two-bytes}
-use Rattle.reader.specs.Laws.Sound.{Sound}
-use Rattle.reader.specs.Laws.Procs.{takes-at, ProcSound, proc-sound}
+use Rattle.reader.specs.Laws.Procs.{takes-at, proc-sound}
 use Rattle.reader.specs.Laws.Names.{Takes}
 use Rattle.reader.specs.Laws.TablePlaces.{recordsAt, record-stands, main-stands}
-use Rattle.translator.specs.Layout.{layout, localsOf, before}
-use Rattle.translator.specs.Laws.Sources.{Sited}
-use Rattle.translator.specs.Laws.Shapes.{Shaped, LocalsAt, Summed, BeforeAt, MainAt, Hubbed, HubAt, SiteAt, RowsAt}
+use Rattle.translator.specs.Layout.{localsOf, before}
+use Rattle.translator.specs.Laws.Shapes.{Shaped, LocalsAt, Summed, BeforeAt, MainAt, HubAt, SiteAt, RowsAt}
 use Rattle.translator.specs.declared.layout.Shape.{Shape}
-use Rattle.translator.specs.declared.layout.Hub.{Hub}
 use Rattle.translator.specs.declared.layout.Site.{Site}
 
 -- past the end there is nothing

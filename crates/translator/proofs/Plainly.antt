@@ -1,10 +1,10 @@
 -- One law for each way through the code of assign, read and write.
-use Prim.Native.Nat.{ℕ, suc, _+_, _%_, _≤_, _<_}
+use Prim.Native.Nat.{ℕ, _+_, _%_, _≤_, _<_}
 use native.Mathlib.Omega.{arith}
-use mathlib.Core.Path.{_≡_, refl, sym, ap, subst, _∙_}
-use mathlib.Core.List.{List, [], _∷_, _++_}
+use mathlib.Core.Path.{_≡_, ap, _∙_}
+use mathlib.Core.List.{List, [], _∷_}
 use mathlib.Core.Bool.{Bool, false}
-use lib.ListN.{length, getD}
+use lib.ListN.{getD}
 use Rattle.reader.specs.Syntax.{Expr, constant, local, one, two, Instr, assign, write, read, while, if, call, atomic, select}
 use Rattle.reader.specs.Encode.{expr}
 use Rattle.reader.specs.Laws.Stands.{first}
@@ -14,9 +14,10 @@ use Rattle.reader.specs.Variables.{flags}
 use Rattle.reader.specs.Laws.Variables.{flag-at, flags-one}
 use Rattle.reader.specs.declared.variables.Gathered.{Gathered}
 use Rattle.translator.specs.Layout.{Layout}
-use Rattle.translator.specs.Code.{num, loc, tid, tmp, moved, mentions, shift, load, loads, put, keepIn, insideI}
-use Rattle.translator.specs.Laws.Put.{Put, PutExpr, PutInstr, Writes}
-use Rattle.translator.specs.Laws.Sources.{Low, Copies, Sited, Loads, LoadsAll, ExprOf, LoadsOf, Stores, Holds, LoadsWrite, Sets, Gets, InPlaceI, Plain, PlainIf}
+use Rattle.translator.specs.Code.{loc, tmp, moved, mentions, shift, insideI}
+use Rattle.translator.specs.Laws.Put.{Put, PutInstr, Writes}
+use Rattle.translator.specs.Laws.Sources.{Low, Copies, Sited, Loads, LoadsAll, LoadsOf, Stores, Holds, LoadsWrite, Sets, Gets, InPlaceI}
+use Rattle.translator.specs.Laws.Sources.{Plain, PlainIf}
 use Rattle.translator.specs.declared.exprs.Copied.{Copied}
 use Rattle.translator.specs.declared.layout.Site.{Site}
 use Rattle.translator.proofs.Puts.{put-then, put-cons}
@@ -47,7 +48,8 @@ module _ {t : List ℕ} where
   -- ---- loads
 
   -- those of an expression's variables
-  pub loads-of : {i : ℕ} {g : Gathered} {s : Site} {o o′ : List ℕ} {p r : ℕ} → Gathers t i 16 g → LoadsAll s (g .set) o p o′ r → LoadsOf t i s o p o′ r
+  pub loads-of : {i : ℕ} {g : Gathered} {s : Site} {o o′ : List ℕ} {p r : ℕ} → Gathers t i 16 g → LoadsAll s (g .set) o p o′ r
+      → LoadsOf t i s o p o′ r
   loads-of {g = g} A L = record {
     gives = λ G m n e j h at.
         let same : g .set ≡ flags (λ (x : ℕ). mentions x (e ∷ [])) = A .set e j (at .stands) ∙ flags-one e in
@@ -74,7 +76,8 @@ module _ {t : List ℕ} where
     forward = omega (arith, S .forward);
   }
     where
-      gives : (G : Layout) (m n d : ℕ) (a : Instr ℕ) (j : ℕ) → Sited G m n s → InPlaceI n a → AssignAt t i d a j → Writes o p (insideI G m n a) o₂ (r .to)
+      gives : (G : Layout) (m n d : ℕ) (a : Instr ℕ) (j : ℕ) → Sited G m n s → InPlaceI n a → AssignAt t i d a j
+          → Writes o p (insideI G m n a) o₂ (r .to)
       gives G m n d a j h ok w =
           let ok′ : (getD t (i + 1) 0 < n) × Low n (w .e) = rw (w .is) at ok in
           let home : l ≡ G .home m (getD t (i + 1) 0) = place ∙ ap (λ (y : ℕ). s .home + y) same ∙ h .home _ in
@@ -106,7 +109,8 @@ module _ {t : List ℕ} where
         let mid : u .next ≡ k = C .ends a k ha la in
         let name : z ≡ moved y = moved-byte b low in
         record {
-          puts = put-cons A (put-cons (rw name at B) (put-then (expr (shift a)) (expr (shift e)) (C .copied a k ha la) (D .copied e j (rw mid he) le)));
+          puts = put-cons A
+              (put-cons (rw name at B) (put-then (expr (shift a)) (expr (shift e)) (C .copied a k ha la) (D .copied e j (rw mid he) le)));
         };
     ends = λ a e k j ha la he le. let mid : u .next ≡ k = C .ends a k ha la in D .ends e j (rw mid he) le;
     forward = omega (arith, C .forward, D .forward);
@@ -121,7 +125,8 @@ module _ {t : List ℕ} where
     forward = omega (arith, S .forward);
   }
     where
-      gives : (G : Layout) (m n d : ℕ) (a : Instr ℕ) (j : ℕ) → Sited G m n s → InPlaceI n a → WriteAt t i d a j → Writes o p (insideI G m n a) o₂ (r .to)
+      gives : (G : Layout) (m n d : ℕ) (a : Instr ℕ) (j : ℕ) → Sited G m n s → InPlaceI n a → WriteAt t i d a j
+          → Writes o p (insideI G m n a) o₂ (r .to)
       gives G m n d a j h ok w =
           let ok′ : (getD t (i + 1) 0 < n) × Low n (w .o) × Low n (w .e) = rw (w .is) at ok in
           let mid : k ≡ w .k = K .ends (w .o) (w .k) (w .offset) in
@@ -131,7 +136,8 @@ module _ {t : List ℕ} where
           rw (w .is, ← same)
           (writes-then (L .gives G m n (w .o) (w .e) j h (record { stands = offset; low = ok′ .1 }) (record { stands = source; low = ok′ .2 }) low)
           (writes-instr
-          (S .gives (w .o) (w .e) k j offset (low-more (w .o) (h .few) (ok′ .1)) source (low-more (w .e) (h .few) (ok′ .2)) (omega (arith, low, h .few)))))
+          (S .gives (w .o) (w .e) k j offset (low-more (w .o) (h .few) (ok′ .1)) source (low-more (w .e) (h .few) (ok′ .2))
+          (omega (arith, low, h .few)))))
 
       ends : (n d : ℕ) (a : Instr ℕ) (j : ℕ) → n ≤ 16 → InPlaceI n a → WriteAt t i d a j → r .next ≡ j
       ends n d a j few ok w =
@@ -153,7 +159,8 @@ module _ {t : List ℕ} where
   }
 
   -- read
-  pub got : {i x y : ℕ} {s : Site} {o o₁ o₂ o₃ o₄ : List ℕ} {p p₁ p₂ p₄ : ℕ} {r : Copied} → getD t i 0 ≡ 0x22 → x ≡ getD t (i + 1) 0 → y ≡ getD t (i + 2) 0
+  pub got : {i x y : ℕ} {s : Site} {o o₁ o₂ o₃ o₄ : List ℕ} {p p₁ p₂ p₄ : ℕ} {r : Copied} → getD t i 0 ≡ 0x22 → x ≡ getD t (i + 1) 0
+      → y ≡ getD t (i + 2) 0
       → LoadsOf t (i + 3) s o p o₁ p₁ → Loads s y o₁ p₁ o₂ p₂ → Gets t (i + 3) x y o₂ p₂ o₃ r → Holds s x o₃ (r .to) o₄ p₄
       → Plain t i s o p o₄ (record { next = r .next; to = p₄ })
   got {i} {x} {y} {s} {o} {o₄ = o₄} {p} {p₄ = p₄} {r} b xs ys L O S H = record {

@@ -2,35 +2,36 @@
 use Prim.Native.Nat.{ℕ, zero, suc, _+_, _-_, _*_, _≤_, _<_}
 use native.Mathlib.Omega.{arith}
 use native.Mathlib.Numerals.{add-one}
-use mathlib.Core.Path.{_≡_, refl, sym, ap, ap₂, subst, _∙_}
-use mathlib.Core.List.{List, [], _∷_, _++_, append-assoc}
+use mathlib.Core.Path.{_≡_, refl, sym, ap, subst, _∙_}
+use mathlib.Core.List.{List, [], _∷_}
 use mathlib.Core.Bool.{true, false}
-use lib.ListN.{length, getD, drop, length-drop}
+use lib.ListN.{length, getD, drop}
 use Rattle.value.specs.Maybe.{is}
-use Rattle.value.specs.Values.{bytes, not, equal, and}
+use Rattle.value.specs.Values.{bytes, not, equal}
 use Rattle.value.specs.Lists.{at}
 use Rattle.value.specs.declared.Value.the-variants.{Truth}
 use Rattle.value.specs.Laws.Lists.{at-below, at-getD}
 use Rattle.value.specs.Laws.Maybes.{is-inj, missing}
-use Rattle.reader.specs.Syntax.{constant, local, one, two, assign, write, read, while, if, call, select, Block, end, step, Proc, Program, Plain, concurrent}
-use Rattle.reader.specs.Encode.{expr, instr, block}
+use Rattle.reader.specs.Syntax.{constant, local, one, two, assign, write, read, while, call, select, end, Program, Plain}
+use Rattle.reader.specs.Encode.{expr, block}
 use Rattle.reader.specs.Labels.{counts}
 use Rattle.reader.specs.Laws.Procs.{main-at}
 use Rattle.translator.specs.Layout.{Layout, layout}
-use Rattle.translator.specs.Code.{_then_, tid, tmp, num, loc}
-use Rattle.translator.specs.Translate.{stmt, terminated, forEach, switch, round, loop, interleavings, begins}
+use Rattle.translator.specs.Code.{_then_, tmp, num, loc}
+use Rattle.translator.specs.Translate.{stmt, terminated, forEach, switch, round, begins}
 use Rattle.translator.specs.Laws.Put.{Put, PutExpr, PutInstr, PutBlock, Onto, Writes}
 use Rattle.translator.specs.Laws.Sources.{Takes, Sited}
 use Rattle.translator.specs.Laws.Shapes.{Shaped, MainAt, Hubbed, HubAt, SiteAt}
 use Rattle.translator.specs.Laws.Bodies.{Begun, BeginAt}
-use Rattle.translator.specs.Laws.Zeroth.{pieceOf, Judged, OneThread, ThreadsLeft, AllThreads, Invokes, Cases, SwitchLeft, Switches, Chooses, Closes}
+use Rattle.translator.specs.Laws.Zeroth.{judgment, pieceOf, Judged, OneThread, ThreadsLeft, AllThreads, Invokes, Cases, SwitchLeft, Switches, Chooses}
+use Rattle.translator.specs.Laws.Zeroth.{Closes}
 use Rattle.translator.specs.Laws.Zeroth.{RoundOf, LoopOf, StartOf, ZerothOf}
 use Rattle.translator.specs.declared.layout.Shape.{Shape}
 use Rattle.translator.specs.declared.layout.Hub.{Hub}
 use Rattle.translator.specs.declared.layout.Site.{Site}
 use Rattle.translator.specs.declared.zeroth.Part.{Part}
 use Rattle.translator.specs.declared.zeroth.Part.the-variants.{Beginning, From, Finished}
-use Rattle.translator.proofs.Puts.{put-none, put-then, put-cons, put-same, onto-start}
+use Rattle.translator.proofs.Puts.{put-then, put-cons, put-same, onto-start}
 use Rattle.translator.proofs.Coding.{writes-instr, writes-then, writes-block, block-end}
 
 -- ---- instructions
@@ -51,7 +52,8 @@ module _ {o o₁ o₂ : List ℕ} {p p₁ p₂ : ℕ} where
 
   -- terminated := terminated and (stmt = 0)
   pub judge : {o₃ o₄ : List ℕ} {p₃ p₄ : ℕ} → Put o p (0x20 ∷ 3 ∷ 0x15 ∷ []) o₁ p₁ → Put o₁ p₁ (5 ∷ []) o₂ p₂ → Put o₂ p₂ (3 ∷ []) o₃ p₃
-      → PutExpr o₃ p₃ (two equal (local stmt) (num 0)) o₄ p₄ → PutInstr o p (assign terminated (two and (local terminated) (two equal (local stmt) (num 0)))) o₄ p₄
+      → PutExpr o₃ p₃ (two equal (local stmt) (num 0)) o₄ p₄
+      → PutInstr o p judgment o₄ p₄
   judge A B C D = record { puts = put-then (0x20 ∷ 3 ∷ 0x15 ∷ []) _ A (put-cons B (put-cons C (D .puts))) }
 
   -- select(a, b)
@@ -81,7 +83,7 @@ module _ {o o₁ o₂ : List ℕ} {p p₁ p₂ : ℕ} where
 
 -- "stmt := tmp[t], terminated := terminated and (stmt = 0)"
 pub judged : {o o₁ o₂ : List ℕ} {p p₁ p₂ k : ℕ} → PutInstr o p (read stmt tmp (num k)) o₁ p₁
-    → PutInstr o₁ p₁ (assign terminated (two and (local terminated) (two equal (local stmt) (num 0)))) o₂ p₂ → Judged k o p o₂ p₂
+    → PutInstr o₁ p₁ judgment o₂ p₂ → Judged k o p o₂ p₂
 judged A B = record { gives = λ q m. writes-then (writes-instr A) (writes-instr B) }
 
 module _ {t : List ℕ} {h : Shape} {bounds : List ℕ} where
@@ -146,7 +148,8 @@ module _ {t : List ℕ} {h : Shape} {bounds : List ℕ} where
       drop-at-one (y ∷ xs) (suc i) e = drop-at-one xs i e
 
   -- after the last
-  pub threads-end : {part : Part} {o o′ : List ℕ} {p r k : ℕ} → ThreadsLeft part t h bounds k o p o′ r → h .threads ≤ k → AllThreads part t h bounds o p o′ r
+  pub threads-end : {part : Part} {o o′ : List ℕ} {p r k : ℕ} → ThreadsLeft part t h bounds k o p o′ r → h .threads ≤ k
+      → AllThreads part t h bounds o p o′ r
   threads-end {part} {o} {o′} {p} {r} {k} L more = record {
     gives = λ q w begun. record {
       before = λ c.
@@ -175,7 +178,8 @@ switch-start {n} {o} {p} = record {
 }
 
 -- one more
-pub switch-next : {n k : ℕ} {o o₁ o₂ : List ℕ} {p p₁ p₂ : ℕ} → SwitchLeft n k o p o₁ p₁ → k < n → Cases (k + 1) o₁ p₁ o₂ p₂ → SwitchLeft n (k + 1) o p o₂ p₂
+pub switch-next : {n k : ℕ} {o o₁ o₂ : List ℕ} {p p₁ p₂ : ℕ} → SwitchLeft n k o p o₁ p₁ → k < n → Cases (k + 1) o₁ p₁ o₂ p₂
+    → SwitchLeft n (k + 1) o p o₂ p₂
 switch-next {n} {k} {o} {o₁} {o₂} {p} {p₁} {p₂} L less C = record {
   left = λ c.
       let left : n - k ≡ suc (n - (k + 1)) = omega arith in
@@ -205,7 +209,8 @@ switch-end {n} {k} {o} {o′} {p} {r} L more = record {
 
 -- the choice
 pub chooses : {u : Hub} {o o₁ o₂ o₃ o₄ : List ℕ} {p p₁ p₂ p₃ p₄ : ℕ} → PutInstr o p (select (u .ptid) (u .pct)) o₁ p₁
-    → PutInstr o₁ p₁ (assign tmp (loc (u .ptid))) o₂ p₂ → PutInstr o₂ p₂ (read 0 tmp (num 0)) o₃ p₃ → Takes (u .pct) stmt o₃ p₃ o₄ p₄ → Chooses u o p o₄ p₄
+    → PutInstr o₁ p₁ (assign tmp (loc (u .ptid))) o₂ p₂ → PutInstr o₂ p₂ (read 0 tmp (num 0)) o₃ p₃ → Takes (u .pct) stmt o₃ p₃ o₄ p₄
+    → Chooses u o p o₄ p₄
 chooses A B C D = record { gives = writes-then (writes-instr A) (writes-then (writes-instr B) (writes-then (writes-instr C) (D .gives))) }
 
 module _ {t : List ℕ} {h : Shape} {bounds : List ℕ} {u : Hub} where
@@ -223,7 +228,8 @@ module _ {t : List ℕ} {h : Shape} {bounds : List ℕ} {u : Hub} where
       → RoundOf t h bounds u o p o₃ p₃
   rounds {o} {o₁} {o₂} {o₃} {p} {p₁} {p₂} {p₃} A B C = record { gives = gives }
     where
-      gives : (q : Program Plain) → Shaped t h q → Begun q bounds → Hubbed (layout q) u → PutBlock o p (round (layout q) (q .mains) (counts (q .procs))) o₃ p₃
+      gives : (q : Program Plain) → Shaped t h q → Begun q bounds → Hubbed (layout q) u
+          → PutBlock o p (round (layout q) (q .mains) (counts (q .procs))) o₃ p₃
       gives q w begun hub =
           let B′ : Switches (counts (q .procs)) o₁ p₁ o₂ p₂ = rw (w .labels) at B in
           let whole = writes-block (A .gives) (writes-block (B′ .gives) (C .gives q w begun)) in
@@ -252,7 +258,8 @@ module _ {t : List ℕ} {h : Shape} {bounds : List ℕ} {u : Hub} where
   }
 
   -- procedure 0
-  pub zeroths : {o o₁ o₂ : List ℕ} {p p₁ p₂ : ℕ} → HubAt h u → StartOf t h bounds u o p o₁ p₁ → LoopOf t h bounds u o₁ p₁ o₂ p₂ → ZerothOf t h bounds o p o₂ p₂
+  pub zeroths : {o o₁ o₂ : List ℕ} {p p₁ p₂ : ℕ} → HubAt h u → StartOf t h bounds u o p o₁ p₁ → LoopOf t h bounds u o₁ p₁ o₂ p₂
+      → ZerothOf t h bounds o p o₂ p₂
   zeroths H A B = record {
     gives = λ q w begun. let hub = H .gives t q w in writes-block (A .gives q w begun hub) (B .gives q w begun hub);
   }

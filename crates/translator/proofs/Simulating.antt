@@ -1,13 +1,14 @@
 -- One law for each way through the procedures that simulate the labels.
-use Prim.Native.Nat.{ℕ, zero, suc, _+_, _*_, _-_, _^_, _≤_, _<_}
+use Prim.Native.Nat.{ℕ, zero, suc, _+_, _*_, _≤_, _<_}
 use native.Mathlib.Omega.{arith}
 use native.Mathlib.Decide.{ℕ-discrete}
+use native.Mathlib.Nat.{add-zero}
 use native.Mathlib.Numerals.{add-one}
-use mathlib.Core.Path.{_≡_, refl, sym, ap, ap₂, subst, _∙_}
+use mathlib.Core.Path.{_≡_, refl, sym, ap, subst, _∙_}
 use mathlib.Core.List.{List, [], _∷_, _++_, map, append-nil, append-assoc}
 use mathlib.Core.Bool.{true, false}
-use lib.ListN.{length, getD, set, take, drop, length-append, length-set, length-map}
-use lib.Seq.{take-suc, take-all, getD-set-same, getD-set-other}
+use lib.ListN.{length, getD, set, take, drop, length-set, length-map}
+use lib.Seq.{take-all, getD-set-same, getD-set-other}
 use Rattle.value.specs.Maybe.{is}
 use Rattle.value.specs.Values.{numberAt, unbytes}
 use Rattle.value.specs.Lists.{at}
@@ -19,28 +20,27 @@ use Rattle.reader.specs.Syntax as S
 use Rattle.reader.specs.Encode.{instr, block, each, bodiesOf}
 use Rattle.reader.specs.Decode.{noForm, forms}
 use Rattle.reader.specs.Labels.{first, count, counts, label, labels, labelled}
-use Rattle.reader.specs.Rules.{named, allowed, namedI, allowedI, Here}
-use Rattle.reader.specs.Spots.{CodeAt}
+use Rattle.reader.specs.Rules.{named, allowed, Here}
 use Rattle.reader.specs.LabelMap.{Node, Mapped, nodeOf, allNodes, next, other}
 use Rattle.reader.specs.Laws.Stands.{Stands, inside, front}
 use Rattle.reader.specs.Laws.Stands as St
-use Rattle.reader.specs.Laws.Grammar.{ExprAt, InstrAt, WhileAt, IfAt, CallAt, while-here, if-here, call-here, no-instr, instr-inside}
-use Rattle.reader.specs.Laws.Fits.{BlockFits, InstrFits}
+use Rattle.reader.specs.Laws.Grammar.{InstrAt, WhileAt, IfAt, CallAt, while-here, if-here, call-here, no-instr, instr-inside}
+use Rattle.reader.specs.Laws.Fits.{BlockFits}
 use Rattle.reader.specs.Laws.Names.{names?}
 use Rattle.reader.specs.Laws.Sound.{Sound}
 use Rattle.reader.specs.Laws.Labelled.{named-label, allowed-label, fits-label}
 use Rattle.reader.specs.Laws.Accepted.{bodies-fit}
 use Rattle.reader.specs.Laws.Procs.{body-at, ProcSound, proc-sound}
 use Rattle.reader.specs.Laws.Spots.{spot-has, allowed-inherited, code-stands, bodies-stand, bodies-labels}
-use Rattle.reader.specs.Laws.LabelMap.{NodeOf, node-of, node-there, node-range, length-nodes}
-use Rattle.translator.specs.Layout.{Layout, layout, localsOf}
-use Rattle.translator.specs.Code.{calls, code, tests, returns}
+use Rattle.reader.specs.Laws.LabelMap.{NodeOf, node-of, node-there, length-nodes}
+use Rattle.translator.specs.Layout.{layout, localsOf}
+use Rattle.translator.specs.Code.{calls, code}
 use Rattle.translator.specs.Translate.{endsOf, begins, later}
-use Rattle.translator.specs.Laws.Put.{Put, PutBlock}
-use Rattle.translator.specs.Laws.Sources.{Low, Sited, ExprOf, ExprsOf, InPlaceI, InPlace, Tests, Calls, OneLabel, Steps, Returns}
+use Rattle.translator.specs.Laws.Put.{PutBlock}
+use Rattle.translator.specs.Laws.Sources.{Low, Sited, ExprsOf, Tests, Calls, Steps, Returns}
 use Rattle.translator.specs.Laws.Shapes.{Shaped, SiteAt}
 use Rattle.translator.specs.Laws.Bodies.{OfLabel, Leads, Begun, BeginAt, CallsAt, PutsNode, labelCode, simulated, PutsLabel}
-use Rattle.translator.specs.Laws.Bodies.{bodies, Offsets, Simulating, PutsBodies}
+use Rattle.translator.specs.Laws.Bodies.{bodies, Simulating, PutsBodies}
 use Rattle.translator.specs.declared.layout.Shape.{Shape}
 use Rattle.translator.specs.declared.layout.Site.{Site}
 use Rattle.translator.proofs.Puts.{put-none, put-then, put-same}
@@ -49,8 +49,8 @@ use Rattle.translator.proofs.Nodes.{fits-inherited, named-inherited, of
 -- ---- calls
 
 -- where procedure m begins
-pub begin-in : {bounds : List ℕ} {m : ℕ} → m < 16 → BeginAt bounds m (getD bounds (2 * m) 0)
-begin-in h = record { gives = λ l. refl }
+pub begin-in : {bounds : List ℕ} {m : ℕ} → m < 16 → BeginAt bounds m (getD bounds (2 * m + 0) 0)
+begin-in {m = m} h = record { gives = λ l. rw (add-zero (2 * m)) }
 
 -- there is no such procedure
 pub begin-past : {bounds : List ℕ} {m r : ℕ} → 16 ≤ m → BeginAt bounds m r
@@ -58,7 +58,8 @@ begin-past h = record { gives = λ l. absurd (omega (arith, h, l)) }
 
 module _ {t : List ℕ} {i : ℕ} {h : Shape} {bounds : List ℕ} {s : Site} where
   -- a call
-  pub call-at : {next f b n r p : ℕ} {c : Site} {o o′ : List ℕ} → f ≡ numberAt 2 t (i + 1) → BeginAt bounds f b → n ≡ getD t (i + 3) 0 → SiteAt t h f c
+  pub call-at : {next f b n r p : ℕ} {c : Site} {o o′ : List ℕ} → f ≡ numberAt 2 t (i + 1) → BeginAt bounds f b → n ≡ getD t (i + 3) 0
+      → SiteAt t h f c
       → Calls t (i + 4) n s c b next o p o′ r → CallsAt t i h bounds s next o p o′ r
   call-at {next} {f} {b} {n} {r} {p} {c} {o} {o′} callee begin count site C = record {
     gives = λ q m z g j es w begun here at less low. gives q m z g j es w begun here less low (call-here at (St.first (at .stands)));
@@ -72,7 +73,9 @@ module _ {t : List ℕ} {i : ℕ} {h : Shape} {bounds : List ℕ} {s : Site} whe
           let name : g ≡ f = cc (number-at 2 t (i + 1)) in
           let few : g < 16 = omega (arith, less, w .sound .procs .high) in
           let found : at (q .procs) f ≡ is (getD (q .procs) f dummy) = at-getD (q .procs) f dummy (omega (arith, less, name)) in
-          let first : b ≡ begins q g = begin .gives (omega (arith, few, name)) ∙ begun .begins f (omega (arith, less, name)) ∙ ap (begins q) (sym name) in
+          let first : b ≡ begins q g =
+          begin .gives (omega (arith, few, name)) ∙ begun .begins f (omega (arith, less, name)) ∙ ap (begins q) (sym name)
+          in
           let all : ExprsOf t (i + 4) n z es j = record { stand = rw (count, args) (v .args); low = low } in
           rw (name) (rw (first, name) at (C .gives (layout q) m z f _ es j here (site .gives q _ w found) all))
         where
@@ -96,13 +99,15 @@ module _ {t : List ℕ} {i : ℕ} {h : Shape} {bounds : List ℕ} {s : Site} whe
   }
 
   -- a while
-  pub node-while : {next other p r : ℕ} {o o′ : List ℕ} → getD t i 0 ≡ 0x23 → Tests t (i + 1) s next other o p o′ r → PutsNode t i h bounds s next other o p o′ r
+  pub node-while : {next other p r : ℕ} {o o′ : List ℕ} → getD t i 0 ≡ 0x23 → Tests t (i + 1) s next other o p o′ r
+      → PutsNode t i h bounds s next other o p o′ r
   node-while {next} {other} {p} {r} {o} {o′} b T = record {
     ends = λ G m n here inside z. absurd (omega (arith, b, z));
     gives = λ q m n z k j a w begun here at ok lead. gives q m n z k j a here ok lead (while-here at b);
   }
     where
-      gives : (q : Program S.Plain) (m n l k j : ℕ) (a : Instr ℕ) → Sited (layout q) m n s → OfLabel q n a → Leads l a k next other → WhileAt t i 16 a j
+      gives : (q : Program S.Plain) (m n l k j : ℕ) (a : Instr ℕ) → Sited (layout q) m n s → OfLabel q n a → Leads l a k next other
+          → WhileAt t i 16 a j
           → PutBlock o p (code (layout q) m n (begins q) l a k) o′ r
       gives q m n l k j a here ok lead v =
           let low : Low n (v .e) = rw (v .is) at ok in
@@ -110,7 +115,8 @@ module _ {t : List ℕ} {i : ℕ} {h : Shape} {bounds : List ℕ} {s : Site} whe
           rw (v .is, ← to .0, ← to .1) (T .gives (layout q) m n (v .e) (v .k) here (record { stands = v .test; low = low }))
 
   -- an if
-  pub node-if : {next other p r : ℕ} {o o′ : List ℕ} → getD t i 0 ≡ 0x24 → Tests t (i + 1) s next other o p o′ r → PutsNode t i h bounds s next other o p o′ r
+  pub node-if : {next other p r : ℕ} {o o′ : List ℕ} → getD t i 0 ≡ 0x24 → Tests t (i + 1) s next other o p o′ r
+      → PutsNode t i h bounds s next other o p o′ r
   node-if {next} {other} {p} {r} {o} {o′} b T = record {
     ends = λ G m n here inside z. absurd (omega (arith, b, z));
     gives = λ q m n z k j a w begun here at ok lead. gives q m n z k j a here ok lead (if-here at b);
@@ -124,13 +130,15 @@ module _ {t : List ℕ} {i : ℕ} {h : Shape} {bounds : List ℕ} {s : Site} whe
           rw (v .is, ← to .0, ← to .1) (T .gives (layout q) m n (v .e) (v .k) here (record { stands = v .test; low = low }))
 
   -- a call
-  pub node-call : {next other p r : ℕ} {o o′ : List ℕ} → getD t i 0 ≡ 0x25 → CallsAt t i h bounds s next o p o′ r → PutsNode t i h bounds s next other o p o′ r
+  pub node-call : {next other p r : ℕ} {o o′ : List ℕ} → getD t i 0 ≡ 0x25 → CallsAt t i h bounds s next o p o′ r
+      → PutsNode t i h bounds s next other o p o′ r
   node-call {next} {other} {p} {r} {o} {o′} b C = record {
     ends = λ G m n here inside z. absurd (omega (arith, b, z));
     gives = λ q m n z k j a w begun here at ok lead. gives q m n z k j a w begun here at ok lead (call-here at b);
   }
     where
-      gives : (q : Program S.Plain) (m n l k j : ℕ) (a : Instr ℕ) → Shaped t h q → Begun q bounds → Sited (layout q) m n s → InstrAt t i 16 a j → OfLabel q n a
+      gives : (q : Program S.Plain) (m n l k j : ℕ) (a : Instr ℕ) → Shaped t h q → Begun q bounds → Sited (layout q) m n s → InstrAt t i 16 a j
+          → OfLabel q n a
           → Leads l a k next other → CallAt t i 16 a j → PutBlock o p (code (layout q) m n (begins q) l a k) o′ r
       gives q m n l k j a w begun here at ok lead v =
           let f : ℕ = unbytes (take 2 (drop (i + 1) t)) in
@@ -139,14 +147,16 @@ module _ {t : List ℕ} {i : ℕ} {h : Shape} {bounds : List ℕ} {s : Site} whe
           rw (v .is, ← to) (C .gives q m n f j (v .es) w begun here (rw (v .is) at at) (ok′ .0) (ok′ .1))
 
   -- another instruction
-  pub node-step : {next other p r : ℕ} {o o′ : List ℕ} → (getD t i 0 ≡ 0 → ⊥) → (getD t i 0 ≡ 0x23 → ⊥) → (getD t i 0 ≡ 0x24 → ⊥) → (getD t i 0 ≡ 0x25 → ⊥)
+  pub node-step : {next other p r : ℕ} {o o′ : List ℕ} → (getD t i 0 ≡ 0 → ⊥) → (getD t i 0 ≡ 0x23 → ⊥) → (getD t i 0 ≡ 0x24 → ⊥)
+      → (getD t i 0 ≡ 0x25 → ⊥)
       → Steps t i s next o p o′ r → PutsNode t i h bounds s next other o p o′ r
   node-step {next} {other} {p} {r} {o} {o′} b₀ b₁ b₂ b₃ C = record {
     ends = λ G m n here inside z. absurd (b₀ z);
     gives = λ q m n l k j a w begun here at ok lead. gives q m n l k j a here at ok lead;
   }
     where
-      gives : (q : Program S.Plain) (m n l k j : ℕ) (a : Instr ℕ) → Sited (layout q) m n s → InstrAt t i 16 a j → OfLabel q n a → Leads l a k next other
+      gives : (q : Program S.Plain) (m n l k j : ℕ) (a : Instr ℕ) → Sited (layout q) m n s → InstrAt t i 16 a j → OfLabel q n a
+          → Leads l a k next other
           → PutBlock o p (code (layout q) m n (begins q) l a k) o′ r
       gives q m n l k j (assign x e) here at ok to = rw (← to) (C .gives (layout q) m n (begins q) l (assign x e) j here at ok)
       gives q m n l k j (write y a e) here at ok to = rw (← to) (C .gives (layout q) m n (begins q) l (write y a e) j here at ok)
@@ -193,7 +203,8 @@ module _ {t : List ℕ} {h : Shape} {map bounds : List ℕ} where
       → PutsNode t (getD map (4 * l) 0) h bounds s (getD map (4 * l + 2) 0) (getD map (4 * l + 3) 0) o p o′ r → PutsLabel t h map bounds l o p o′ r
   label-one {l} {p} {r} {s} {o} {o′} site N = record { gives = λ q d w m e. gives q d w m e (node-of q l e) }
     where
-      gives : (q : Program S.Plain) (d : Node) → Shaped t h q → Mapped q map bounds → nodeOf q l ≡ is d → NodeOf q l d → PutBlock o p (simulated q d .body) o′ r
+      gives : (q : Program S.Plain) (d : Node) → Shaped t h q → Mapped q map bounds → nodeOf q l ≡ is d → NodeOf q l d
+          → PutBlock o p (simulated q d .body) o′ r
       gives q d w mapped e v = by (v .left) refl
         where
           found : (f : Proc S.Plain) × (k : ℕ) × (at (q .procs) (d .proc) ≡ is f) × (v .spot .proc .body ≡ label k (f .body))
@@ -234,12 +245,14 @@ module _ {t : List ℕ} {h : Shape} {map bounds : List ℕ} where
           named′ : named (labelled q) n (v .left) ≡ true
           named′ =
               spot-has (named-inherited (labelled q) n) (v .spot .spot)
-              (subst (λ (b : Block ℕ). named (labelled q) n b ≡ true) (sym (found .3)) (named-label q (f .body) (found .1) n ∙ names? q n (f .body) .of (sound .named)))
+              (subst (λ (b : Block ℕ). named (labelled q) n b ≡ true) (sym (found .3))
+              (named-label q (f .body) (found .1) n ∙ names? q n (f .body) .of (sound .named)))
 
           allowed′ : allowed (outer (d .proc)) (v .left) ≡ true
           allowed′ =
               spot-has (allowed-inherited (outer (d .proc))) (v .spot .spot)
-              (subst (λ (b : Block ℕ). allowed (outer (d .proc)) b ≡ true) (sym (found .3)) (allowed-label q (f .body) (found .1) (outer (d .proc)) ∙ sound .allowed))
+              (subst (λ (b : Block ℕ). allowed (outer (d .proc)) b ≡ true) (sym (found .3))
+              (allowed-label q (f .body) (found .1) (outer (d .proc)) ∙ sound .allowed))
 
           -- the code of the label, by what remains there
           coded : {c : Block ℕ} → d .code ≡ c → PutBlock o p (labelCode (layout q) (begins q) (d .proc) n (endsOf q (d .proc)) c) o′ r
@@ -352,7 +365,8 @@ module _ {t : List ℕ} {h : Shape} {map bounds : List ℕ} where
       ]
 
   -- after the last
-  pub simulating-end : {offsets o o′ : List ℕ} {k p r : ℕ} → Simulating t h map bounds offsets k o p o′ r → h .labels ≤ k → PutsBodies t h map bounds offsets o p o′ r
+  pub simulating-end : {offsets o o′ : List ℕ} {k p r : ℕ} → Simulating t h map bounds offsets k o p o′ r → h .labels ≤ k
+      → PutsBodies t h map bounds offsets o p o′ r
   simulating-end {offsets} {o} {o′} {k} {p} {r} D more = record {
     gives = λ q w m.
         let all : take k (later q) ≡ later q = take-all k (later q) (omega (arith, length-later q, w .labels)) in
@@ -361,4 +375,18 @@ module _ {t : List ℕ} {h : Shape} {map bounds : List ℕ} where
   }
 
 -- one law for each way
-pub ruleset simulate-ways = (begin-in, begin-past, call-at, node-past, node-end, node-while, node-if, node-call, node-step, label-one, simulating-start, simulating-next, simulating-end)
+pub ruleset simulate-ways = (
+  begin-in,
+  begin-past,
+  call-at,
+  node-past,
+  node-end,
+  node-while,
+  node-if,
+  node-call,
+  node-step,
+  label-one,
+  simulating-start,
+  simulating-next,
+  simulating-end,
+)

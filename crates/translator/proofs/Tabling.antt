@@ -3,38 +3,34 @@ use Prim.Native.Nat.{ℕ, zero, suc, _+_, _-_, _*_, _%_, _≤_, _<_}
 use native.Mathlib.Omega.{arith}
 use native.Mathlib.Decide.{decLe}
 use native.Mathlib.Numerals.{add-one}
-use mathlib.Core.Path.{_≡_, refl, sym, ap, ap₂, subst, _∙_}
+use mathlib.Core.Path.{_≡_, refl, sym, ap, _∙_}
 use mathlib.Core.List.{List, [], _∷_, _++_, append-assoc, append-nil}
-use lib.ListN.{length, getD, take, drop, replicate, length-append, length-replicate}
-use lib.Seq.{slice, slice-empty, take-all}
+use lib.ListN.{length, getD, take, replicate, length-append, length-replicate}
+use lib.Seq.{slice, take-all}
 use Rattle.value.specs.Maybe.{is}
 use Rattle.value.specs.Values.{bytes}
 use Rattle.value.specs.Lists.{at}
-use Rattle.value.specs.Laws.Lists.{at-below}
 use Rattle.value.specs.Laws.Maybes.{is-inj, missing}
 use Rattle.reader.specs.Syntax.{Proc, Program, Plain, concurrent, sequential}
-use Rattle.reader.specs.Encode.{block, bodiesOf, each, Head, head, heads, middle, middleOf, front, trailer, trailerOf, distance, table}
-use Rattle.reader.specs.Labels.{counts}
-use Rattle.reader.specs.LabelMap.{Node, Mapped, nodeOf}
+use Rattle.reader.specs.Encode.{block, each, Head, head, heads, middle, middleOf, front, trailer, trailerOf, distance, table}
+use Rattle.reader.specs.LabelMap.{Mapped, nodeOf}
 use Rattle.reader.specs.Laws.Heads.{length-heads}
-use Rattle.reader.specs.Laws.LabelMap.{node-there, node-of}
-use Rattle.reader.specs.Laws.Procs.{proc-sound}
+use Rattle.reader.specs.Laws.LabelMap.{node-there}
 use Rattle.reader.specs.Laws.Sections.{length-each}
-use Rattle.reader.specs.Laws.Stands.{Stands, whole, back, in-take}
+use Rattle.reader.specs.Laws.Stands.{Stands, whole, back}
 use Rattle.reader.specs.Laws.Stands as St
-use Rattle.reader.specs.Laws.TablePlaces.{recordsAt}
-use Rattle.translator.specs.Layout.{localsOf, before, sizes}
+use Rattle.translator.specs.Layout.{localsOf, sizes}
 use Rattle.translator.specs.Code.{moved}
 use Rattle.translator.specs.Translate.{zeroth, later, translate}
-use Rattle.translator.specs.Laws.Put.{Put, PutBlock, Onto}
+use Rattle.translator.specs.Laws.Put.{Put, Onto}
 use Rattle.translator.specs.Laws.Shapes.{Shaped, LocalsAt, RowsAt}
-use Rattle.translator.specs.Laws.Bodies.{Begun, bodies, simulated, Offsets, PutsBodies}
+use Rattle.translator.specs.Laws.Bodies.{bodies, simulated, PutsBodies}
 use Rattle.translator.specs.Laws.Zeroth.{ZerothOf}
-use Rattle.translator.specs.Laws.Tables.{HeadOf, Right, Heading, HeadsOf, SizesOf, MiddleOf, CodeOf, Counts, Lengths, Trails, TableOf}
+use Rattle.translator.specs.Laws.Tables.{HeadOf, Heading, HeadsOf, SizesOf, MiddleOf, CodeOf, Counts, Lengths, Trails, TableOf}
 use Rattle.translator.specs.declared.layout.Shape.{Shape}
 use Rattle.translator.proofs.Puts.{put-none, put-then, put-cons, put-same, onto-start, onto-next, onto-end}
 use Rattle.translator.proofs.Copying.{slice-is}
-use Rattle.translator.proofs.Simulating.{take-more, later-at, length-later, bodies-append, node-locals}
+use Rattle.translator.proofs.Simulating.{take-more, later-at, length-later, node-locals}
 
 -- ---- parts
 
@@ -140,7 +136,8 @@ rows-next (suc k) size O some P =
     rw less (onto-next (bytes 2 size) (each (bytes 2) (replicate k size)) O P)
 
 -- none left
-pub rows-end : {o o′ : List ℕ} {p q : ℕ} {all : List ℕ} (k size : ℕ) → Onto o p all o′ q (each (bytes 2) (replicate k size)) → k ≤ 0 → Put o p all o′ q
+pub rows-end : {o o′ : List ℕ} {p q : ℕ} {all : List ℕ} (k size : ℕ) → Onto o p all o′ q (each (bytes 2) (replicate k size)) → k ≤ 0
+    → Put o p all o′ q
 rows-end zero size O none = onto-end O
 rows-end (suc k) size O none = absurd (omega (arith, none))
 
@@ -183,7 +180,8 @@ module _ {t : List ℕ} {h : Shape} where
 
   module _ {map offsets : List ℕ} where
     -- records and sizes
-    pub middles : {o o₁ o₂ o₃ : List ℕ} {p p₁ p₂ p₃ : ℕ} → Put o p (0 ∷ 4 ∷ bytes 4 0) o₁ p₁ → HeadsOf t h map offsets o₁ p₁ o₂ p₂ → SizesOf t h o₂ p₂ o₃ p₃
+    pub middles : {o o₁ o₂ o₃ : List ℕ} {p p₁ p₂ p₃ : ℕ} → Put o p (0 ∷ 4 ∷ bytes 4 0) o₁ p₁ → HeadsOf t h map offsets o₁ p₁ o₂ p₂
+        → SizesOf t h o₂ p₂ o₃ p₃
         → MiddleOf t h map offsets o p o₃ p₃
     middles A H S = record {
       gives = λ q w bounds mapped right.
@@ -200,7 +198,8 @@ module _ {t : List ℕ} {h : Shape} where
 
   module _ {map bounds offsets : List ℕ} where
     -- all of them
-    pub coded : {o o₁ o₂ : List ℕ} {p r : ℕ} → ZerothOf t h bounds o 0 o₁ p → PutsBodies t h map bounds offsets o₁ p o₂ r → CodeOf t h map bounds offsets o o₂ r
+    pub coded : {o o₁ o₂ : List ℕ} {p r : ℕ} → ZerothOf t h bounds o 0 o₁ p → PutsBodies t h map bounds offsets o₁ p o₂ r
+        → CodeOf t h map bounds offsets o o₂ r
     coded {o} {o₁} {o₂} {p} {r} Z B = record {
       gives = λ q w m. put-then (block (zeroth q .body)) (bodies (later q)) (Z .gives q w (record { begins = m .begins }) .puts) (B .gives q w m);
       places = λ q w m less. record {
@@ -259,7 +258,8 @@ module _ {t : List ℕ} {h : Shape} {map bounds : List ℕ} where
   }
 
   -- too long after the sizes
-  pub table-sizes : {o o₁ o₂ offsets : List ℕ} {p r : ℕ} → CodeOf t h map bounds offsets o o₁ p → p < 65537 → MiddleOf t h map offsets o₁ p o₂ r → 65537 ≤ r
+  pub table-sizes : {o o₁ o₂ offsets : List ℕ} {p r : ℕ} → CodeOf t h map bounds offsets o o₁ p → p < 65537 → MiddleOf t h map offsets o₁ p o₂ r
+      → 65537 ≤ r
       → TableOf t h map bounds o o₂ r
   table-sizes {offsets = offsets} C less M far = record {
     gives = λ q w m.
@@ -269,7 +269,8 @@ module _ {t : List ℕ} {h : Shape} {map bounds : List ℕ} where
   }
 
   -- all of it
-  pub table-all : {o o₁ o₂ o₃ offsets : List ℕ} {p q r n : ℕ} → CodeOf t h map bounds offsets o o₁ p → p < 65537 → MiddleOf t h map offsets o₁ p o₂ q → q < 65537
+  pub table-all : {o o₁ o₂ o₃ offsets : List ℕ} {p q r n : ℕ} → CodeOf t h map bounds offsets o o₁ p → p < 65537
+      → MiddleOf t h map offsets o₁ p o₂ q → q < 65537
       → RowsAt t h n → Trails (h .labels + 1) (h .locations + 1 + n) (q + 16) o₂ q o₃ r → TableOf t h map bounds o o₃ r
   table-all {o} {o₁} {o₂} {o₃} {offsets} {p} {q} {r} {n} C less M near R T = record { gives = gives }
     where
@@ -293,7 +294,9 @@ module _ {t : List ℕ} {h : Shape} {map bounds : List ℕ} where
             w .locations,
           )
           in
-          let T′ : Trails (length (translate x .procs)) (length (translate x .sizes)) (length (front (translate x)) + 16) o₂ q o₃ r = rw (procs, places, long) at T in
+          let T′ : Trails (length (translate x .procs)) (length (translate x .sizes)) (length (front (translate x)) + 16) o₂ q o₃ r =
+          rw (procs, places, long) at T
+          in
           put-then (front (translate x)) (trailer (trailerOf sequential (translate x))) all (T′ .gives)
 
 -- one law for each way

@@ -101,11 +101,12 @@ pub fn put_flagged(s: Site, flag: bool, x: u8, out: &mut [u8], at: usize) -> usi
 pub fn put_loads(s: Site, flags: [bool; 16], out: &mut [u8], at: usize) -> usize
     ensures { λ r. ⌜ LoadsAll s flags (now (out .entry)) at (now (out .exit)) r ⌝ }
 {
-    let mut x: u8 = 0;
+    let mut left: u8 = 16;
     let mut p = at;
-    while x < 16 {
+    while 0 < left {
+        let x = 16 - left;
         p = put_flagged(s, flags[x as usize], x, out, p);
-        x += 1;
+        left -= 1;
     }
     p
 }

@@ -17,12 +17,15 @@ ghost use Prim.Native.Nat.{_≤_, _<_};
 ghost use lib.ListN.{length};
 ghost use Rattle.translator.specs.Laws.Bodies.{BeginAt, CallsAt, PutsNode, PutsLabel, PutsBodies};
 
+// Of the two labels of a procedure in `bounds`, that of its beginning.
+const FIRST: usize = 0;
+
 // Where procedure m begins; 0 past the last.
 pub fn begin_of(bounds: &[usize; 32], m: usize) -> usize
     ensures { λ r. ⌜ BeginAt (now (bounds .entry)) m r ⌝ }
 {
     if m < 16 {
-        return bounds[2 * m];
+        return bounds[2 * m + FIRST];
     }
     0
 }

@@ -22,12 +22,13 @@ use reader::block::READ;
 use reader::block::SELECT;
 use reader::block::WHILE;
 use reader::block::WRITE;
-ghost use Rattle.reader.specs.Syntax.{constant, local, two, assign, write, read, select};
-ghost use Rattle.value.specs.Values.{equal, and};
+ghost use Rattle.reader.specs.Syntax.{local, two, write, read, select};
+ghost use Rattle.value.specs.Values.{equal};
 ghost use Rattle.translator.specs.Code.{tmp, num};
-ghost use Rattle.translator.specs.Translate.{stmt, terminated};
+ghost use Rattle.translator.specs.Translate.{stmt};
 ghost use Rattle.translator.specs.Laws.Put.{PutExpr, PutInstr};
-ghost use Rattle.translator.specs.Laws.Zeroth.{Judged, Cases, Invokes, OneThread, AllThreads, Chooses, Switches, Closes, RoundOf, LoopOf, StartOf, ZerothOf};
+ghost use Rattle.translator.specs.Laws.Zeroth.{judgment, Judged, Cases, Invokes, OneThread, AllThreads, Chooses, Switches};
+ghost use Rattle.translator.specs.Laws.Zeroth.{Closes, RoundOf, LoopOf, StartOf, ZerothOf};
 
 // "locals tid, tmp, stmt, terminated"
 const STMT: u8 = 2;
@@ -80,7 +81,7 @@ fn put_equal(out: &mut [u8], at: usize, n: usize) -> usize
 
 // terminated := terminated and (stmt = 0)
 fn put_judge(out: &mut [u8], at: usize) -> usize
-    ensures { λ r. ⌜ PutInstr (now (out .entry)) at (assign terminated (two and (local terminated) (two equal (local stmt) (num 0)))) (now (out .exit)) r ⌝ }
+    ensures { λ r. ⌜ PutInstr (now (out .entry)) at judgment (now (out .exit)) r ⌝ }
 {
     let p = put_three(out, at, ASSIGN, TERMINATED, AND);
     let q = put(out, p, LOCAL);

@@ -41,4 +41,5 @@ pub record AcceptedAs (t : List ℕ) (h : Shape) : Type 0 where
 
 -- the copy's table is written, or refused by 9 or 10
 pub record WritesCopy (t : List ℕ) (h : Shape) (o o′ : List ℕ) (r : WriteAnswer) : Type 0 where
-  pub gives : (q : Program Plain) → Shaped t h q → _≡_ {A = Written} (record { answer = r; out = o′ }) (writesTable (table sequential (translate q)) o)
+  pub gives : (q : Program Plain) → Shaped t h q
+      → _≡_ {A = Written} (record { answer = r; out = o′ }) (writesTable (table sequential (translate q)) o)

@@ -1,5 +1,5 @@
 -- What the translator promises of the procedures that simulate the labels.
-use Prim.Native.Nat.{ℕ, suc, _+_, _*_, _≤_, _<_}
+use Prim.Native.Nat.{ℕ, _+_, _*_, _≤_, _<_}
 use mathlib.Core.Path.{_≡_}
 use mathlib.Core.List.{List}
 use lib.ListN.{length, getD, take}
@@ -55,11 +55,13 @@ pub record BeginAt (bounds : List ℕ) (m r : ℕ) : Type 0 where
 
 -- a call
 pub record CallsAt (t : List ℕ) (i : ℕ) (h : Shape) (bounds : List ℕ) (s : Site) (next : ℕ) (o : List ℕ) (p : ℕ) (o′ : List ℕ) (r : ℕ) : Type 0 where
-  pub gives : (q : Program S.Plain) (m n f j : ℕ) (es : List Expr) → Shaped t h q → Begun q bounds → Sited (layout q) m n s → InstrAt {A = ℕ} t i 16 (call f es) j
+  pub gives : (q : Program S.Plain) (m n f j : ℕ) (es : List Expr) → Shaped t h q → Begun q bounds → Sited (layout q) m n s
+      → InstrAt {A = ℕ} t i 16 (call f es) j
       → f < length (q .procs) → Each (Low n) es → PutBlock o p (calls (layout q) m n f es (begins q f) next) o′ r
 
 -- the code of what stands at i
-pub record PutsNode (t : List ℕ) (i : ℕ) (h : Shape) (bounds : List ℕ) (s : Site) (next other : ℕ) (o : List ℕ) (p : ℕ) (o′ : List ℕ) (r : ℕ) : Type 0 where
+pub record PutsNode (t : List ℕ) (i : ℕ) (h : Shape) (bounds : List ℕ) (s : Site) (next other : ℕ) (o : List ℕ) (p : ℕ) (o′ : List ℕ) (r : ℕ)
+    : Type 0 where
   pub ends : (G : Layout) (m n : ℕ) → Sited G m n s → i < length t → getD t i 0 ≡ 0 → PutBlock o p (returns G m n) o′ r
   pub gives : (q : Program S.Plain) (m n l k j : ℕ) (a : Instr ℕ) → Shaped t h q → Begun q bounds → Sited (layout q) m n s → InstrAt t i 16 a j
       → OfLabel q n a → Leads l a k next other → PutBlock o p (code (layout q) m n (begins q) l a k) o′ r

@@ -10,7 +10,8 @@ use Rattle.reader.specs.Syntax.{Expr, constant, local, one, two, Instr, assign,
 use Rattle.reader.specs.Syntax as S
 use Rattle.reader.specs.Encode.{expr, block}
 use Rattle.reader.specs.Laws.Grammar.{ExprAt, ExprsAt, InstrAt, BlockAt}
-use Rattle.translator.specs.Code.{_then_, tid, tmp, num, loc, moved, shift, mentions, variables, load, loadAll, loads, pc, returns, put, keepIn, insideI, inside, goto, tests, passes, calls, code}
+use Rattle.translator.specs.Code.{_then_, tid, tmp, num, loc, moved, shift, mentions, variables, load, loadAll, loads, pc, returns, put}
+use Rattle.translator.specs.Code.{keepIn, insideI, inside, goto, tests, passes, calls, code}
 use Rattle.translator.specs.Layout.{Layout}
 use Rattle.translator.specs.Laws.Put.{Put, PutInstr, PutBlock, Onto, Writes}
 use Rattle.translator.specs.declared.exprs.Copied.{Copied}
@@ -60,12 +61,12 @@ Flags flags es = (x : ℕ) → x < 16 → getD flags x false ≡ mentions x es
 pub record LoadsAll (s : Site) (flags : List Bool) (o : List ℕ) (p : ℕ) (o′ : List ℕ) (r : ℕ) : Type 0 where
   pub gives : (G : Layout) (m n : ℕ) (es : List Expr) → Sited G m n s → Flags flags es → Writes o p (loads G m n es) o′ r
 
--- the loads from variable x on are left
-pub record Loading (s : Site) (flags : List Bool) (o : List ℕ) (p x : ℕ) (o′ : List ℕ) (r : ℕ) : Type 0 where
-  pub left : (G : Layout) (m n : ℕ) (es : List Expr) → Sited G m n s → Flags flags es → (c : Block S.Plain)
-      → Onto o p (block (loads G m n es c)) o′ r (block (loadAll G m n (variables x (n - x) es) c))
+-- the loads of the last variables of 16 are left
+pub record Loading (s : Site) (flags : List Bool) (o : List ℕ) (p left : ℕ) (o′ : List ℕ) (r : ℕ) : Type 0 where
+  pub rest : (G : Layout) (m n : ℕ) (es : List Expr) → Sited G m n s → Flags flags es → (c : Block S.Plain)
+      → Onto o p (block (loads G m n es c)) o′ r (block (loadAll G m n (variables (16 - left) (n - (16 - left)) es) c))
   pub kept : length o′ ≡ length o
-  pub most : x ≤ 16
+  pub most : left ≤ 16
 
 -- "pc"
 pub record Goes (s : Site) (label : ℕ) (o : List ℕ) (p : ℕ) (o′ : List ℕ) (r : ℕ) : Type 0 where
@@ -147,7 +148,8 @@ pub record PlainIf (t : List ℕ) (i : ℕ) (s : Site) (o : List ℕ) (p : ℕ) 
 
 -- whatever instruction stands at i, its blocks at most d deep, its code is written in place
 pub record InsideInstr (t : List ℕ) (i d : ℕ) (s : Site) (o : List ℕ) (p : ℕ) (o′ : List ℕ) (r : Copied) : Type 0 where
-  pub gives : (G : Layout) (m n : ℕ) (a : Instr ℕ) (j : ℕ) → Sited G m n s → InstrAt t i d a j → InPlaceI n a → Writes o p (insideI G m n a) o′ (r .to)
+  pub gives : (G : Layout) (m n : ℕ) (a : Instr ℕ) (j : ℕ) → Sited G m n s → InstrAt t i d a j → InPlaceI n a
+      → Writes o p (insideI G m n a) o′ (r .to)
   pub ends : (n : ℕ) (a : Instr ℕ) (j : ℕ) → n ≤ 16 → InstrAt t i d a j → InPlaceI n a → r .next ≡ j
   pub forward : i < r .next
 
@@ -159,7 +161,8 @@ pub record InsideBlock (t : List ℕ) (i d : ℕ) (s : Site) (o : List ℕ) (p :
 
 -- a block that is a branch, with its end
 pub record Branch (t : List ℕ) (i d : ℕ) (s : Site) (o : List ℕ) (p : ℕ) (o′ : List ℕ) (r : Copied) : Type 0 where
-  pub gives : (G : Layout) (m n : ℕ) (b : Block ℕ) (j : ℕ) → Sited G m n s → BlockAt t i d b j → InPlace n b → PutBlock o p (inside G m n b end) o′ (r .to)
+  pub gives : (G : Layout) (m n : ℕ) (b : Block ℕ) (j : ℕ) → Sited G m n s → BlockAt t i d b j → InPlace n b
+      → PutBlock o p (inside G m n b end) o′ (r .to)
   pub ends : (n : ℕ) (b : Block ℕ) (j : ℕ) → n ≤ 16 → BlockAt t i d b j → InPlace n b → r .next ≡ j
   pub forward : i ≤ r .next
 
@@ -212,7 +215,8 @@ pub record LoadsEach (t : List ℕ) (i k : ℕ) (s : Site) (o : List ℕ) (p : �
 
 -- arguments, from parameter x of procedure q on
 pub record Passes (t : List ℕ) (i k x : ℕ) (c : Site) (o : List ℕ) (p : ℕ) (o′ : List ℕ) (r : ℕ) : Type 0 where
-  pub gives : (G : Layout) (m n q l : ℕ) (es : List Expr) (j : ℕ) → Sited G q l c → n ≤ 16 → ExprsOf t i k n es j → Writes o p (passes G m n q x es) o′ r
+  pub gives : (G : Layout) (m n q l : ℕ) (es : List Expr) (j : ℕ) → Sited G q l c → n ≤ 16 → ExprsOf t i k n es j
+      → Writes o p (passes G m n q x es) o′ r
 
 -- what is passed from there on is passed from here on
 pub record Passing (t : List ℕ) (i k : ℕ) (c : Site) (o : List ℕ) (p : ℕ) (i′ x : ℕ) (o′ : List ℕ) (q : ℕ) : Type 0 where

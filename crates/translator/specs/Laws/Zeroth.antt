@@ -1,18 +1,18 @@
 -- What the translator promises of procedure 0.
-use Prim.Native.Nat.{ℕ, suc, _+_, _-_, _≤_, _<_}
+use Prim.Native.Nat.{ℕ, _+_, _-_, _≤_}
 use mathlib.Core.Path.{_≡_}
 use mathlib.Core.List.{List, [], _∷_}
 use mathlib.Core.Bool.{true, false}
 use lib.ListN.{length, drop}
 use Rattle.value.specs.Maybe.{is}
-use Rattle.value.specs.Values.{not, equal, and}
+use Rattle.value.specs.Values.{equal, and}
 use Rattle.value.specs.Lists.{at}
 use Rattle.value.specs.declared.Value.the-variants.{Truth}
-use Rattle.reader.specs.Syntax.{constant, local, one, two, assign, write, read, while, if, call, select, Block, end, step, Program, Plain}
+use Rattle.reader.specs.Syntax.{constant, local, two, Instr, assign, write, read, if, call, select, Block, end, Program, Plain}
 use Rattle.reader.specs.Encode.{block}
 use Rattle.reader.specs.Labels.{counts}
-use Rattle.translator.specs.Layout.{Layout, layout}
-use Rattle.translator.specs.Code.{_then_, tid, tmp, num, loc}
+use Rattle.translator.specs.Layout.{layout}
+use Rattle.translator.specs.Code.{_then_, tmp, num, loc}
 use Rattle.translator.specs.Translate.{stmt, terminated, forEach, switch, round, loop, interleavings, begins}
 use Rattle.translator.specs.Laws.Put.{PutBlock, Onto, Writes, PutInstr}
 use Rattle.translator.specs.Laws.Shapes.{Shaped, Hubbed}
@@ -24,12 +24,15 @@ use Rattle.translator.specs.declared.zeroth.Part.the-variants.{Beginning
 
 -- ---- threads
 
+-- "terminated := terminated and (stmt = 0)"
+abbrev pub judgment : Instr Plain
+judgment = assign terminated (two and (local terminated) (two equal (local stmt) (num 0)))
+
 -- what procedure 0 has for thread t, whose main is m
 abbrev pub pieceOf : Part → Program Plain → ℕ → ℕ → Block Plain → Block Plain
 pieceOf Beginning q t m c = write tmp (num t) (num (begins q m)) then c
 pieceOf From q t m c = assign tmp (loc (layout q .from m)) then write tmp (num t) (num 0) then c
-pieceOf Finished q t m c =
-    read stmt tmp (num t) then assign terminated (two and (local terminated) (two equal (local stmt) (num 0))) then c
+pieceOf Finished q t m c = read stmt tmp (num t) then judgment then c
 
 -- "stmt := tmp[t], terminated := terminated and (stmt = 0)"
 pub record Judged (k : ℕ) (o : List ℕ) (p : ℕ) (o′ : List ℕ) (r : ℕ) : Type 0 where
@@ -79,12 +82,14 @@ pub record Chooses (u : Hub) (o : List ℕ) (p : ℕ) (o′ : List ℕ) (r : ℕ
 
 -- the end of a round
 pub record Closes (t : List ℕ) (h : Shape) (bounds : List ℕ) (u : Hub) (o : List ℕ) (p : ℕ) (o′ : List ℕ) (r : ℕ) : Type 0 where
-  pub gives : (q : Program Plain) → Shaped t h q → Begun q bounds → PutBlock o p (assign terminated (constant (Truth true)) then assign tmp (loc (u .pct))
+  pub gives : (q : Program Plain) → Shaped t h q → Begun q bounds
+      → PutBlock o p (assign terminated (constant (Truth true)) then assign tmp (loc (u .pct))
       then forEach (pieceOf Finished q) 0 (q .mains) end) o′ r
 
 -- the round
 pub record RoundOf (t : List ℕ) (h : Shape) (bounds : List ℕ) (u : Hub) (o : List ℕ) (p : ℕ) (o′ : List ℕ) (r : ℕ) : Type 0 where
-  pub gives : (q : Program Plain) → Shaped t h q → Begun q bounds → Hubbed (layout q) u → PutBlock o p (round (layout q) (q .mains) (counts (q .procs))) o′ r
+  pub gives : (q : Program Plain) → Shaped t h q → Begun q bounds → Hubbed (layout q) u
+      → PutBlock o p (round (layout q) (q .mains) (counts (q .procs))) o′ r
 
 -- the loop
 pub record LoopOf (t : List ℕ) (h : Shape) (bounds : List ℕ) (u : Hub) (o : List ℕ) (p : ℕ) (o′ : List ℕ) (r : ℕ) : Type 0 where
@@ -94,7 +99,8 @@ pub record LoopOf (t : List ℕ) (h : Shape) (bounds : List ℕ) (u : Hub) (o : 
 -- the start
 pub record StartOf (t : List ℕ) (h : Shape) (bounds : List ℕ) (u : Hub) (o : List ℕ) (p : ℕ) (o′ : List ℕ) (r : ℕ) : Type 0 where
   pub gives : (q : Program Plain) → Shaped t h q → Begun q bounds → Hubbed (layout q) u
-      → Writes o p (λ c. assign tmp (loc (layout q .pct)) then forEach (pieceOf Beginning q) 0 (q .mains) (forEach (pieceOf From q) 0 (q .mains) c)) o′ r
+      → Writes o p (λ c. assign tmp (loc (layout q .pct)) then forEach (pieceOf Beginning q) 0 (q .mains)
+      (forEach (pieceOf From q) 0 (q .mains) c)) o′ r
 
 -- the body of procedure 0
 pub record ZerothOf (t : List ℕ) (h : Shape) (bounds : List ℕ) (o : List ℕ) (p : ℕ) (o′ : List ℕ) (r : ℕ) : Type 0 where

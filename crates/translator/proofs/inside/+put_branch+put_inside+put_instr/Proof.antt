@@ -67,7 +67,16 @@ abbrev put-inside-calls : ℕ → put-inside-lts.Claims
 put-inside-calls t = (put-instr-below t, put-instr.Post)
 
 abbrev put-instr-calls : ℕ → put-instr-lts.Claims
-put-instr-calls t = (put-loads-of-reads.Asked, put-loads-of-reads.Learnt, put-ask-reads.Asked, put-ask-reads.Learnt, put-branch-below t, put-branch.Post, put-plain-reads.Asked, put-plain-reads.Learnt)
+put-instr-calls t = (
+  put-loads-of-reads.Asked,
+  put-loads-of-reads.Learnt,
+  put-ask-reads.Asked,
+  put-ask-reads.Learnt,
+  put-branch-below t,
+  put-branch.Post,
+  put-plain-reads.Asked,
+  put-plain-reads.Learnt,
+)
 
 pub +put-branch+put-inside+put-instr-spec : {M : Type 1} → statement M
 +put-branch+put-inside+put-instr-spec =

@@ -1,6 +1,5 @@
 -- `translator::table::put_rows` meets its contract.
 use borrow.Author.Needs.{needs}
-use Prim.Native.Nat.{_-_}
 use lib.ListN.{replicate}
 use Rattle.value.specs.Values.{bytes}
 use Rattle.reader.specs.Encode.{each}
