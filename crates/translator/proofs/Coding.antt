@@ -1,21 +1,20 @@
 -- One law for each way through the pieces of generated code that do not read the source.
-use Prim.Native.Nat.{ℕ, zero, suc, _+_, _-_, _%_, _≤_, _<_}
+use Prim.Native.Nat.{ℕ, suc, _+_, _-_, _%_, _≤_, _<_}
 use native.Mathlib.Omega.{arith}
 use native.Mathlib.Decide.{decLt}
 use native.Mathlib.Numerals.{add-one}
 use mathlib.Core.Path.{_≡_, refl, sym, ap, subst, _∙_}
-use mathlib.Core.List.{List, [], _∷_, _++_}
+use mathlib.Core.List.{List, [], _∷_}
 use mathlib.Core.Bool.{Bool, true, false}
 use lib.ListN.{length, getD}
 use Rattle.value.specs.Values.{bytes}
-use Rattle.reader.specs.Syntax.{Expr, local, Instr, assign, write, read, Block, end, step, Plain}
+use Rattle.reader.specs.Syntax.{Expr, local, Instr, assign, write, read, Block, end, Plain}
 use Rattle.reader.specs.Encode.{expr, instr, block}
-use Rattle.translator.specs.Layout.{Layout}
-use Rattle.translator.specs.Code.{_then_, num, loc, tid, tmp, aux, moved, mentions, keep, variables, load, loadAll, loads, pc, returns}
+use Rattle.translator.specs.Code.{_then_, num, loc, tid, tmp, aux, moved, mentions, keep, variables, loadAll, loads}
 use Rattle.translator.specs.Laws.Put.{Put, PutExpr, PutInstr, PutBlock, Onto, Writes}
-use Rattle.translator.specs.Laws.Sources.{Sited, Takes, Loads, LoadsIf, Flags, LoadsAll, Loading, Goes, Returns}
-use Rattle.translator.specs.declared.pieces.Site.{Site}
-use Rattle.translator.proofs.Puts.{put-none, put-then, put-cons, onto-start, onto-next}
+use Rattle.translator.specs.Laws.Sources.{Takes, Loads, LoadsIf, LoadsAll, Loading, Goes, Returns}
+use Rattle.translator.specs.declared.layout.Site.{Site}
+use Rattle.translator.proofs.Puts.{put-then, put-cons, onto-start, onto-next}
 
 module _ {o o′ : List ℕ} {p q : ℕ} where
   -- ---- pieces one after the other
@@ -130,32 +129,35 @@ module _ {s : Site} {flag : Bool} {x : ℕ} where
   }
 
 -- before the first variable
-pub loading-start : {s : Site} {flags : List Bool} {o : List ℕ} {p : ℕ} → Loading s flags o p 0 o p
+pub loading-start : {s : Site} {flags : List Bool} {o : List ℕ} {p : ℕ} → Loading s flags o p 16 o p
 loading-start = record {
-  left = λ G m n es h f c. let e : n ≡ n - 0 = omega arith in onto-same (ap (λ (k : ℕ). block (loadAll G m n (variables 0 k es) c)) e);
+  rest = λ G m n es h f c. let e : n ≡ n - 0 = omega arith in onto-same (ap (λ (k : ℕ). block (loadAll G m n (variables 0 k es) c)) e);
   kept = refl;
   most = omega arith;
 }
 
 -- a variable more
-pub loading-next : {s : Site} {flags : List Bool} {o o′ o″ : List ℕ} {p q r : ℕ} (x : ℕ) → Loading s flags o p x o′ q → x < 16
-    → LoadsIf s (getD flags x false) x o′ q o″ r → length o″ ≡ length o′ → Loading s flags o p (x + 1) o″ r
-loading-next x L l I k = record {
-  left = λ G m n es h f c.
-      let A = L .left G m n es h f c in
-      let B = I .gives G m n es h (f x l) c in
-      record { then = λ P. A .then (B .then P); kept = B .kept ∙ A .kept };
+pub loading-next : {s : Site} {flags : List Bool} {o o′ o″ : List ℕ} {p q r : ℕ} (left : ℕ) → Loading s flags o p left o′ q → 0 < left
+    → LoadsIf s (getD flags (16 - left) false) (16 - left) o′ q o″ r → length o″ ≡ length o′ → Loading s flags o p (left - 1) o″ r
+loading-next {s} {flags} {o} {o′} {o″} {p} {q} {r} left L some I k = record {
+  rest = λ G m n es h f c.
+      let x : ℕ = 16 - left in
+      let next : x + 1 ≡ 16 - (left - 1) = omega (arith, L .most) in
+      let A = L .rest G m n es h f c in
+      let B = I .gives G m n es h (f x (omega arith)) c in
+      subst (λ (y : ℕ). Onto o p (block (loads G m n es c)) o″ r (block (loadAll G m n (variables y (n - y) es) c))) next
+      (record { then = λ P. A .then (B .then P); kept = B .kept ∙ A .kept });
   kept = k ∙ L .kept;
-  most = omega arith;
+  most = omega (arith, L .most);
 }
 
 -- after the last
-pub loading-end : {s : Site} {flags : List Bool} {o o′ : List ℕ} {p r x : ℕ} → Loading s flags o p x o′ r → 16 ≤ x → LoadsAll s flags o p o′ r
-loading-end {s} {flags} {o} {o′} {p} {r} {x} L l = record {
+pub loading-end : {s : Site} {flags : List Bool} {o o′ : List ℕ} {p r left : ℕ} → Loading s flags o p left o′ r → left ≤ 0 → LoadsAll s flags o p o′ r
+loading-end {s} {flags} {o} {o′} {p} {r} {left} L none = record {
   gives = λ G m n es h f. record {
     before = λ c.
-        subst (λ (xs : List ℕ). Onto o p (block (loads G m n es c)) o′ r (block (loadAll G m n xs c))) (no-variable x n es (omega (arith, h .few)))
-        (L .left G m n es h f c);
+        subst (λ (xs : List ℕ). Onto o p (block (loads G m n es c)) o′ r (block (loadAll G m n xs c)))
+        (no-variable (16 - left) n es (omega (arith, h .few))) (L .rest G m n es h f c);
     kept = L .kept;
   };
 }
@@ -175,7 +177,8 @@ pub came : {o o₁ o₂ o₃ o₄ : List ℕ} {p p₁ p₂ p₃ p₄ : ℕ} {s :
 came {o} {o₁} {p = p} {p₁} {s = s} A B C D = record {
   gives = λ G m n h.
       let first : Takes (G .from m) aux o p o₁ p₁ = rw (h .from) at A in
-      writes-block (writes-then (first .gives) (writes-instr (rw (h .pct) at B))) (record { puts = put-then (0x21 ∷ 1 ∷ 5 ∷ 0 ∷ []) (5 ∷ 2 ∷ 0 ∷ []) C D });
+      writes-block (writes-then (first .gives) (writes-instr (rw (h .pct) at B)))
+      (record { puts = put-then (0x21 ∷ 1 ∷ 5 ∷ 0 ∷ []) (5 ∷ 2 ∷ 0 ∷ []) C D });
 }
 
 -- one law for each way

@@ -1,21 +1,20 @@
 -- One law for each way through the copy of an expression.
-use Prim.Native.Nat.{ℕ, zero, suc, _+_, _-_, _%_, _≤_, _<_}
+use Prim.Native.Nat.{ℕ, suc, _+_, _-_, _%_, _≤_, _<_}
 use native.Mathlib.Omega.{arith}
-use native.Mathlib.Nat.{pos-of-ne-zero}
-use mathlib.Core.Path.{_≡_, refl, sym, ap, subst, _∙_}
-use mathlib.Core.List.{List, [], _∷_, _++_, append-nil}
+use mathlib.Core.Path.{_≡_, refl, sym, subst, _∙_}
+use mathlib.Core.List.{List, [], _∷_, append-nil}
 use mathlib.Core.Bool.{true, false}
-use lib.ListN.{length, getD, take, drop}
+use lib.ListN.{length, getD}
 use lib.Seq.{slice, slice-empty}
-use borrow.Author.Tests.{eqb-true}
 use Rattle.value.specs.Values.{One, not, neg, Two, add, sub, mul, less, equal, and}
-use Rattle.value.specs.Marks.{Mark, wholeMark, locationMark, noMark, yesMark, localMark, oneMark, twoMark, noExpr, mark₁, mark₂, markOf, rowOf, operandsOf, payloadOf}
-use Rattle.value.specs.Laws.Marks.{Says, row-says, marks?, mark-right}
+use Rattle.value.specs.Marks.{Mark, wholeMark, locationMark, noMark, yesMark, localMark, oneMark, twoMark, noExpr, mark₁, mark₂, markOf, rowOf}
+use Rattle.value.specs.Marks.{operandsOf, payloadOf}
+use Rattle.value.specs.Laws.Marks.{Says, row-says}
 use Rattle.value.specs.declared.Value.the-variants.{Whole, Location, Truth}
 use Rattle.reader.specs.Syntax.{Expr, constant, local, one, two}
 use Rattle.reader.specs.Encode.{expr}
 use Rattle.reader.specs.Laws.Stands.{Stands, first, in-take}
-use Rattle.reader.specs.Laws.Grammar.{ExprAt, OneAt, TwoAt, one-here, two-here, none-here, local-here, expr-inside, expr-deep}
+use Rattle.reader.specs.Laws.Grammar.{ExprAt, OneAt, TwoAt, one-here, two-here, local-here, expr-inside, expr-deep}
 use Rattle.translator.specs.Code.{shift}
 use Rattle.translator.specs.Laws.Put.{Put}
 use Rattle.translator.specs.Laws.Sources.{Low, Copies}
@@ -71,7 +70,7 @@ two-operands equal = refl
 two-operands and = refl
 
 -- what stands between two positions is that part of the table
-slice-is : {t : List ℕ} {i : ℕ} {bs : List ℕ} {j : ℕ} → Stands t i bs j → slice i j t ≡ bs
+pub slice-is : {t : List ℕ} {i : ℕ} {bs : List ℕ} {j : ℕ} → Stands t i bs j → slice i j t ≡ bs
 slice-is {t} {i} {bs} {j} s = in-take t j (omega arith) s .same ∙ rw slice-empty (append-nil bs)
 
 -- a leaf: it is as long as the row says, and a constant stays as it is
@@ -80,7 +79,8 @@ pub record Leaf (t : List ℕ) (i : ℕ) (e : Expr) (j : ℕ) : Type 0 where
   pub stays : (getD t i 0 ≡ 0x05 → ⊥) → shift e ≡ e
 
 -- an expression whose mark has no operands is one
-leaf-here : {t : List ℕ} {i d : ℕ} (e : Expr) {j : ℕ} → ExprAt t i d e j → (operandsOf (getD t i 0) ≡ 1 → ⊥) → (operandsOf (getD t i 0) ≡ 2 → ⊥) → Leaf t i e j
+leaf-here : {t : List ℕ} {i d : ℕ} (e : Expr) {j : ℕ} → ExprAt t i d e j → (operandsOf (getD t i 0) ≡ 1 → ⊥) → (operandsOf (getD t i 0) ≡ 2 → ⊥)
+    → Leaf t i e j
 leaf-here (constant (Whole z)) h f g = record { long = rw (first (h .stands)) (omega (arith, h .stands .ends)); stays = λ n. refl }
 leaf-here (constant (Location l)) h f g = record { long = rw (first (h .stands)) (omega (arith, h .stands .ends)); stays = λ n. refl }
 leaf-here (constant (Truth false)) h f g = record { long = rw (first (h .stands)) (omega (arith, h .stands .ends)); stays = λ n. refl }
@@ -93,20 +93,20 @@ module _ {t : List ℕ} {i d : ℕ} where
   -- ---- nothing stands there
 
   -- nothing is asked where no expression can stand
-  none : {o : List ℕ} {p : ℕ} {o′ : List ℕ} {r : Copied} → ((e : Expr) (j : ℕ) → ExprAt t i d e j → ⊥) → Copies t i d o p o′ r
-  none f = record { copied = λ e j h l. absurd (f e j h); ends = λ e j h l. absurd (f e j h) }
+  none : {o : List ℕ} {p : ℕ} {o′ : List ℕ} {q : ℕ} → ((e : Expr) (j : ℕ) → ExprAt t i d e j → ⊥) → Copies t i d o p o′ (record { next = i; to = q })
+  none f = record { copied = λ e j h l. absurd (f e j h); ends = λ e j h l. absurd (f e j h); forward = omega arith }
 
   -- no depth is left
-  pub copy-deep : {o : List ℕ} {p : ℕ} {o′ : List ℕ} {r : Copied} → d ≡ 0 → Copies t i d o p o′ r
+  pub copy-deep : {o : List ℕ} {p : ℕ} {o′ : List ℕ} {q : ℕ} → d ≡ 0 → Copies t i d o p o′ (record { next = i; to = q })
   copy-deep z = none (λ e j h. omega (arith, expr-deep h))
 
   -- the table ends
-  pub copy-past : {o : List ℕ} {p : ℕ} {o′ : List ℕ} {r : Copied} → length t ≤ i → Copies t i d o p o′ r
+  pub copy-past : {o : List ℕ} {p : ℕ} {o′ : List ℕ} {q : ℕ} → length t ≤ i → Copies t i d o p o′ (record { next = i; to = q })
   copy-past z = none (λ e j h. omega (arith, expr-inside h .0, expr-inside h .1))
 
   -- the payload is cut off
-  pub copy-cut : {o : List ℕ} {p : ℕ} {o′ : List ℕ} {r : Copied} {k n : ℕ} → k ≡ operandsOf (getD t i 0) → (k ≡ 1 → ⊥) → (k ≡ 2 → ⊥)
-      → n ≡ payloadOf (getD t i 0) → length t < i + 1 + n → Copies t i d o p o′ r
+  pub copy-cut : {o : List ℕ} {p : ℕ} {o′ : List ℕ} {q k n : ℕ} → k ≡ operandsOf (getD t i 0) → (k ≡ 1 → ⊥) → (k ≡ 2 → ⊥)
+      → n ≡ payloadOf (getD t i 0) → length t < i + 1 + n → Copies t i d o p o′ (record { next = i; to = q })
   copy-cut a f g q z = none (λ e j h. omega (arith, leaf-here e h (λ b. f (a ∙ b)) (λ b. g (a ∙ b)) .long, expr-inside h .1))
 
   -- ---- leaves
@@ -121,6 +121,7 @@ module _ {t : List ℕ} {i d : ℕ} where
         let moved : x ≡ suc (suc (suc (getD t (i + 1) 0))) = omega (arith, same) in
         rw is (rw (m, moved) at (put-cons P Q));
     ends = λ e j h low. let one : payloadOf (getD t i 0) ≡ 1 = rw m refl in omega (arith, local-here h m .1);
+    forward = omega arith;
   }
 
   -- a constant
@@ -132,6 +133,7 @@ module _ {t : List ℕ} {i d : ℕ} where
         let ends : i + 1 + n ≡ j = omega (arith, leaf .long) in
         rw (leaf .stays m, ← slice-is (h .stands), ← ends) P;
     ends = λ e j h low. omega (arith, leaf-here e h (λ b. f (a ∙ b)) (λ b. g (a ∙ b)) .long);
+    forward = omega arith;
   }
 
   -- ---- operators
@@ -139,7 +141,11 @@ module _ {t : List ℕ} {i d : ℕ} where
   -- on one value
   pub copy-one : {o o′ o″ : List ℕ} {p q k : ℕ} {r : Copied} → k ≡ operandsOf (getD t i 0) → k ≡ 1 → Put o p (getD t i 0 ∷ []) o′ q
       → Copies t (i + 1) (d - 1) o′ q o″ r → Copies t i d o p o″ r
-  copy-one {o} {o″ = o″} {p} {k = k} {r} a b P C = record { copied = λ e j h low. copied e j h low (here e j h); ends = λ e j h low. ends e j h low (here e j h) }
+  copy-one {o} {o″ = o″} {p} {k = k} {r} a b P C = record {
+    copied = λ e j h low. copied e j h low (here e j h);
+    ends = λ e j h low. ends e j h low (here e j h);
+    forward = omega (arith, C .forward);
+  }
     where
       mark : (o : One) × (markOf (getD t i 0) ≡ oneMark o)
       mark = one-mark (getD t i 0) (sym a ∙ b)
@@ -158,7 +164,11 @@ module _ {t : List ℕ} {i d : ℕ} where
   -- on two
   pub copy-two : {o o′ o″ o‴ : List ℕ} {p q k : ℕ} {x y : Copied} → k ≡ operandsOf (getD t i 0) → k ≡ 2 → Put o p (getD t i 0 ∷ []) o′ q
       → Copies t (i + 1) (d - 1) o′ q o″ x → Copies t (x .next) (d - 1) o″ (x .to) o‴ y → Copies t i d o p o‴ y
-  copy-two {o} {o‴ = o‴} {p} {k = k} {x} {y} a b P X Y = record { copied = λ e j h low. copied e j h low (here e j h); ends = λ e j h low. ends e j h low (here e j h) }
+  copy-two {o} {o‴ = o‴} {p} {k = k} {x} {y} a b P X Y = record {
+    copied = λ e j h low. copied e j h low (here e j h);
+    ends = λ e j h low. ends e j h low (here e j h);
+    forward = omega (arith, X .forward, Y .forward);
+  }
     where
       mark : (o : Two) × (markOf (getD t i 0) ≡ twoMark o)
       mark = two-mark (getD t i 0) (sym a ∙ b)

@@ -1,14 +1,14 @@
 -- One law for each way through the writer.
-use Prim.Native.Nat.{ℕ, zero, suc, _+_, _-_, _*_, _/_, _%_, _≤_, _<_}
+use Prim.Native.Nat.{ℕ, zero, suc, _+_, _/_, _%_, _≤_, _<_}
 use native.Mathlib.Omega.{arith}
 use native.Mathlib.Decide.{decLe}
 use native.Mathlib.Numerals.{add-one}
-use mathlib.Core.Path.{_≡_, refl, sym, ap, subst, _∙_}
+use mathlib.Core.Path.{_≡_, refl, sym, ap, _∙_}
 use mathlib.Core.List.{List, [], _∷_, _++_}
 use lib.ListN.{length, getD, set, take, drop, length-append, length-set, length-take}
-use lib.Seq.{sets, set-out, slice, slice-cons, drop-nil}
+use lib.Seq.{sets, slice, slice-cons, drop-nil}
 use Rattle.value.specs.Values.{bytes}
-use Rattle.translator.specs.Laws.Put.{Put, Onto, Writes}
+use Rattle.translator.specs.Laws.Put.{Put, Onto}
 
 -- one part after the other
 sets-append : (l : List ℕ) (i : ℕ) (a b : List ℕ) → sets l i (a ++ b) ≡ sets (sets l i a) (i + length a) b
@@ -67,7 +67,8 @@ pub onto-start : {o : List ℕ} {p : ℕ} {all : List ℕ} → Onto o p all o p 
 onto-start = record { then = λ P. P; kept = refl }
 
 -- a part more
-pub onto-next : {o o′ o″ : List ℕ} {p q r : ℕ} {all : List ℕ} (a rest : List ℕ) → Onto o p all o′ q (a ++ rest) → Put o′ q a o″ r → Onto o p all o″ r rest
+pub onto-next : {o o′ o″ : List ℕ} {p q r : ℕ} {all : List ℕ} (a rest : List ℕ) → Onto o p all o′ q (a ++ rest) → Put o′ q a o″ r
+    → Onto o p all o″ r rest
 onto-next a rest O P = record { then = λ Q. O .then (put-then a rest P Q); kept = P .kept ∙ O .kept }
 
 -- at the end, nothing
@@ -89,7 +90,8 @@ put-long n A B =
 -- ---- a part of a list
 
 -- a byte more
-pub part-next : {o o′ o″ : List ℕ} {p q r : ℕ} {all : List ℕ} (t : List ℕ) (i until : ℕ) → Onto o p all o′ q (slice i until t) → i < until → until ≤ length t
+pub part-next : {o o′ o″ : List ℕ} {p q r : ℕ} {all : List ℕ} (t : List ℕ) (i until : ℕ) → Onto o p all o′ q (slice i until t) → i < until
+    → until ≤ length t
     → Put o′ q (getD t i 0 ∷ []) o″ r → Onto o p all o″ r (slice (i + 1) until t)
 part-next t i until O l h P =
     rw add-one (onto-next (getD t i 0 ∷ []) (slice (suc i) until t) (rw (slice-cons i until t 0 l h) at O) P)
@@ -101,7 +103,8 @@ drop-all zero (x ∷ l) h = absurd (omega arith)
 drop-all (suc i) (x ∷ l) h = drop-all i l (omega arith)
 
 -- the end
-pub part-end : {o o′ : List ℕ} {p q : ℕ} {all : List ℕ} (t : List ℕ) (i until : ℕ) → Onto o p all o′ q (slice i until t) → until ≤ i → Put o p all o′ q
+pub part-end : {o o′ : List ℕ} {p q : ℕ} {all : List ℕ} (t : List ℕ) (i until : ℕ) → Onto o p all o′ q (slice i until t) → until ≤ i
+    → Put o p all o′ q
 part-end t i until O h =
     let few : length (take until t) ≤ i = rw length-take (omega arith) in
     onto-end (rw (drop-all i (take until t) few) at O)

@@ -1,30 +1,26 @@
 // The pieces of generated code that do not read the source: loads, stores and labels.
 use crate::exprs::LOCAL;
 use crate::exprs::moved;
+use crate::layout::Site;
+use crate::layout::home;
 use crate::writer::put;
 use crate::writer::put_four;
 use crate::writer::put_three;
 use crate::writer::put_two;
-ghost use mathlib.Core.Path.{_≡_};
+use reader::block::ASSIGN;
+use reader::block::END;
+use reader::block::READ;
+use reader::block::WRITE;
 ghost use mathlib.Core.List.{[], _∷_};
-ghost use Prim.Native.Nat.{_+_};
 ghost use Rattle.reader.specs.Syntax.{local, assign, write, read};
 ghost use Rattle.translator.specs.Code.{tid, tmp, num, loc};
 ghost use Rattle.translator.specs.Laws.Put.{Put, PutExpr, PutInstr};
 ghost use Rattle.translator.specs.Laws.Sources.{Takes, Loads, LoadsIf, LoadsAll, Goes, Returns};
 
-// The bytes of instructions and constants.
-pub const END: u8 = 0x00;
-
+// The marks of constants.
 pub const WHOLE: u8 = 0x01;
 
 pub const LOCATION: u8 = 0x02;
-
-pub const ASSIGN: u8 = 0x20;
-
-pub const WRITE: u8 = 0x21;
-
-pub const READ: u8 = 0x22;
 
 // "it has parameter tid = 0, then tmp = 1, aux = 2"
 pub const TID: u8 = 0;
@@ -32,15 +28,6 @@ pub const TID: u8 = 0;
 pub const TMP: u8 = 1;
 
 pub const AUX: u8 = 2;
-
-// What the code of a procedure's labels must know: how many locals the procedure has, and where the copy keeps the program counters,
-// the procedure's "from" and its first local.
-pub struct Site {
-    pub locals: u8,
-    pub pct: u16,
-    pub from: u16,
-    pub home: u16,
-}
 
 // tmp := location l
 pub fn put_locate(out: &mut [u8], at: usize, l: usize) -> usize
@@ -83,13 +70,6 @@ pub fn put_goto(out: &mut [u8], at: usize, label: usize) -> usize
     put_number(out, p, label)
 }
 
-// The location of local x.
-pub fn home(s: Site, x: u8) -> usize
-    ensures { λ r. ⌜ r ≡ s .home + x ⌝ }
-{
-    s.home as usize + x as usize
-}
-
 // tmp := location l; x := tmp[tid]
 pub fn put_take(out: &mut [u8], at: usize, l: usize, x: u8) -> usize
     ensures { λ r. ⌜ Takes l x (now (out .entry)) at (now (out .exit)) r ⌝ }
@@ -121,11 +101,12 @@ pub fn put_flagged(s: Site, flag: bool, x: u8, out: &mut [u8], at: usize) -> usi
 pub fn put_loads(s: Site, flags: [bool; 16], out: &mut [u8], at: usize) -> usize
     ensures { λ r. ⌜ LoadsAll s flags (now (out .entry)) at (now (out .exit)) r ⌝ }
 {
-    let mut x: u8 = 0;
+    let mut left: u8 = 16;
     let mut p = at;
-    while x < 16 {
+    while 0 < left {
+        let x = 16 - left;
         p = put_flagged(s, flags[x as usize], x, out, p);
-        x += 1;
+        left -= 1;
     }
     p
 }

@@ -7,7 +7,7 @@ ghost use Rattle.value.specs.Values.{bytes};
 ghost use Rattle.translator.specs.Laws.Put.{Put};
 
 // Counting stops here, at the first length that is refused.
-const FAR: usize = 65537;
+pub const FAR: usize = 65537;
 
 // One byte.
 pub fn put(out: &mut [u8], at: usize, byte: u8) -> usize

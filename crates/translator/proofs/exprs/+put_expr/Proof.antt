@@ -26,7 +26,20 @@ put-expr-below t =
     and 2 put-expr-kinds.ps (falls 2 put-expr-kinds.ps _<_ μ-put-expr t) put-expr.Pre
 
 abbrev put-expr-calls : ℕ → put-expr-lts.Claims
-put-expr-calls t = (operands-reads.Asked, operands-reads.Learnt, put-reads.Asked, put-reads.Learnt, put-expr-below t, put-expr.Post, payload-reads.Asked, payload-reads.Learnt, moved-reads.Asked, moved-reads.Learnt, put-part-reads.Asked, put-part-reads.Learnt)
+put-expr-calls t = (
+  operands-reads.Asked,
+  operands-reads.Learnt,
+  put-reads.Asked,
+  put-reads.Learnt,
+  put-expr-below t,
+  put-expr.Post,
+  payload-reads.Asked,
+  payload-reads.Learnt,
+  moved-reads.Asked,
+  moved-reads.Learnt,
+  put-part-reads.Asked,
+  put-part-reads.Learnt,
+)
 
 pub +put-expr-spec : {M : Type 1} → statement M
 +put-expr-spec =

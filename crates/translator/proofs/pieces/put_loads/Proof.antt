@@ -1,16 +1,15 @@
 -- `translator::pieces::put_loads` meets its contract.
 use borrow.Author.Needs.{needs}
-use Prim.Native.Nat.{_-_}
 use Rattle.translator.specs.Laws.Sources.{Loading}
 use Rattle.translator.proofs.Coding.{code-ways}
 use Rattle.translator.proofs.pieces.put_loads.Statement.{statement}
 use Rattle.translator.proofs.pieces.put_loads.Tie as tie
 
 abbrev Inv-loop : tie.InvT-loop
-Inv-loop s out₀ at flags x₀ p₀ out x p = Loading s flags out₀ at x out p
+Inv-loop s out₀ at flags left₀ p₀ out left p = Loading s flags out₀ at left out p
 
 abbrev μ-loop : tie.MeasureT-loop
-μ-loop s out₀ at flags x₀ p₀ out x p = 16 - x
+μ-loop s out₀ at flags left₀ p₀ out left p = left
 
 pub put-loads-spec : {M : Type 1} → statement M
 put-loads-spec =
@@ -20,7 +19,8 @@ put-loads-spec =
     μ-loop
     (λ c. search code-ways)
     (λ c. search needs)
-    (λ c. search code-ways)
+    (λ c. search needs)
+    (λ c. search needs)
     (λ c κs. search needs)
     (λ c. search needs)
     (λ c. search needs)

@@ -1,0 +1,183 @@
+-- One law for each way through the translator's call.
+use Prim.Native.Nat.{ℕ, _+_, _-_, _*_, _≤_, _<_}
+use native.Mathlib.Omega.{arith}
+use native.Mathlib.Decide.{decLe}
+use native.Mathlib.Nat.{zero-add}
+use mathlib.Core.Path.{_≡_, refl, sym, ap, ap₂, _∙_}
+use mathlib.Core.List.{List, _++_}
+use lib.ListN.{length, getD, drop}
+use lib.Seq.{sets-eq}
+use borrow.Author.Tests.{lt-ltb, le-ltb}
+use Rattle.value.specs.Lists.{over}
+use Rattle.value.specs.Laws.Bytes.{bytes-at}
+use Rattle.reader.specs.Syntax.{Program, Plain, concurrent, sequential}
+use Rattle.reader.specs.Encode.{table}
+use Rattle.reader.specs.LabelMap.{Mapped}
+use Rattle.reader.specs.Rules.{Verdict, refused, accepted, verdict}
+use Rattle.reader.specs.Calls.{readAs, readCall}
+use Rattle.reader.specs.Walks.{MapsLabels}
+use Rattle.reader.specs.declared.ReadAnswer.{ReadAnswer}
+use Rattle.reader.specs.Laws.Sound.{Sound}
+use Rattle.reader.specs.Laws.Formed.{Formed}
+use Rattle.reader.specs.Laws.Accepted.{accepted-exactly, bodies-fit, sound-formed}
+use Rattle.reader.specs.Laws.Refusals.{refused-within}
+use Rattle.reader.specs.Laws.TablePlaces.{recordsAt, all-bodies, length-table, trailer-at}
+use Rattle.translator.specs.Translate.{translate}
+use Rattle.translator.specs.Calls.{Written, refusal, written, writes, writesTable, translateAs, translateCall}
+use Rattle.translator.specs.Laws.Put.{Put}
+use Rattle.translator.specs.Laws.Shapes.{Shaped}
+use Rattle.translator.specs.Laws.Tables.{TableOf}
+use Rattle.translator.specs.Laws.Answers.{Accepts, AcceptedAs, WritesCopy}
+use Rattle.translator.specs.declared.WriteAnswer.{WriteAnswer}
+use Rattle.translator.specs.declared.layout.Shape.{Shape}
+
+-- ---- the reader's answer
+
+-- an answer, and the buffer as it is
+abbrev left : WriteAnswer → List ℕ → Written
+left r o = record { answer = r; out = o }
+
+module _ (t : List ℕ) {a : ReadAnswer} (same : a ≡ readCall concurrent t) where
+  -- a refusal is passed on
+  pub call-refused : (o : List ℕ) {r : WriteAnswer} → (a .number ≡ 0 → ⊥) → r ≡ refusal (a .number) → left r o ≡ translateCall t o
+  call-refused o {r} some e = by (verdict concurrent t) refl
+    where
+      by : (v : Verdict) → verdict concurrent t ≡ v → left r o ≡ translateCall t o
+      by (refused n) q =
+          let number : a .number ≡ n = ap (λ (x : ReadAnswer). x .number) same ∙ ap (λ (v : Verdict). readAs concurrent v .number) q in
+          ap (λ (x : WriteAnswer). left x o) (e ∙ ap refusal number) ∙ sym (ap (λ (v : Verdict). translateAs v o) q)
+      by (accepted p) q = absurd (some (ap (λ (x : ReadAnswer). x .number) same ∙ ap (λ (v : Verdict). readAs concurrent v .number) q))
+
+  -- 0 is answered of an accepted table
+  pub call-accepts : ((i : ℕ) → i < length t → getD t i 0 < 256) → a .number ≡ 0 → Accepts t a
+  call-accepts bytes none = by (verdict concurrent t) refl
+    where
+      by : (v : Verdict) → verdict concurrent t ≡ v → Accepts t a
+      by (refused n) q =
+          let number : a .number ≡ n = ap (λ (x : ReadAnswer). x .number) same ∙ ap (λ (v : Verdict). readAs concurrent v .number) q in
+          absurd (omega (arith, none, number, refused-within concurrent t n q .low))
+      by (accepted p) q =
+          let both : (t ≡ table concurrent p) × Sound concurrent p = accepted-exactly concurrent t (bytes-at t bytes) p .0 q in
+          let answer : a ≡ readAs concurrent (accepted p) = same ∙ ap (readAs concurrent) q in
+          let sound : Sound concurrent p = both .1 in
+          let long : length t ≡ length (table concurrent p) = ap length (both .0) in
+          record {
+            program = p;
+            verdict = q;
+            same = both .0;
+            sound = sound;
+            answer = answer;
+            procedures = omega (arith, ap (λ (x : ReadAnswer). x .procedures) answer, sound .procs .high);
+            locations = omega (arith, ap (λ (x : ReadAnswer). x .locations) answer, sound .places);
+            threads = omega (arith, ap (λ (x : ReadAnswer). x .threads) answer, sound .threads .high);
+            labels = omega (arith, ap (λ (x : ReadAnswer). x .labels) answer, sound .labels);
+            long = omega (arith, long, sound .size);
+            room = omega (
+              arith,
+              trailer-at concurrent p (both .0),
+              length-table concurrent p (both .0),
+              ap (λ (x : ReadAnswer). x .procedures) answer,
+              ap (λ (x : ReadAnswer). x .locations) answer,
+              ap (λ (x : ReadAnswer). x .threads) answer,
+            );
+          }
+
+-- its shape
+pub shapes : {t : List ℕ} {a : ReadAnswer} → Accepts t a
+    → AcceptedAs t (record {
+      records = length t - 16 - (6 * a .procedures + 2 * a .locations + 2 * a .threads);
+      procedures = a .procedures;
+      locations = a .locations;
+      threads = a .threads;
+      labels = a .labels;
+    })
+shapes {t} {a} A =
+    let p : Program Plain = A .program in
+    let procs : a .procedures ≡ length (p .procs) = ap (λ (x : ReadAnswer). x .procedures) (A .answer) in
+    let places : a .locations ≡ length (p .sizes) = ap (λ (x : ReadAnswer). x .locations) (A .answer) in
+    let threads : a .threads ≡ length (p .mains) = ap (λ (x : ReadAnswer). x .threads) (A .answer) in
+    record {
+      program = p;
+      verdict = A .verdict;
+      shaped = record {
+        is = A .same;
+        sound = A .sound;
+        records = omega (arith, trailer-at concurrent p (A .same), procs, places, threads);
+        procedures = procs;
+        locations = places;
+        threads = threads;
+        labels = ap (λ (x : ReadAnswer). x .labels) (A .answer);
+      };
+      few = A .labels;
+      bodies = record {
+        procs = p .procs;
+        next = recordsAt p;
+        there = record { stands = all-bodies concurrent p (A .same); count = sym procs; fits = bodies-fit concurrent p (A .sound) };
+      };
+    }
+
+-- ---- the copy
+
+module _ {t : List ℕ} {h : Shape} {map bounds : List ℕ} {n : ℕ} (M : MapsLabels t (h .procedures) map bounds n) where
+  -- the map is that of the program
+  mapped : (q : Program Plain) → Shaped t h q → Mapped q map bounds
+  mapped q w =
+      let formed : Formed concurrent t q = rw (w .is) (sound-formed concurrent q (w .sound)) in
+      M .gives q formed (sym (w .procedures)) (w .sound .labels) .0
+
+  module _ {o₁ o₂ : List ℕ} {l : ℕ} (T : TableOf t h map bounds o₁ o₂ l) where
+    -- counted right, as far as counting goes
+    long : (q : Program Plain) → Shaped t h q → l ≤ 65536 → l ≡ length (table sequential (translate q))
+    long q w less =
+        let P : Put o₁ 0 (table sequential (translate q)) o₂ l = T .gives q w (mapped q w) in
+        elim (decLe 65537 (0 + length (table sequential (translate q)))) [
+          | yes far ↦ absurd (omega (arith, P .far far))
+          | no near ↦ omega (arith, P .next (omega arith))
+        ]
+
+    -- 9
+    pub too-long : {o : List ℕ} {r : WriteAnswer} → 65536 < l → r ≡ refusal 9 → WritesCopy t h o o r
+    too-long {o} {r} more e = record { gives = λ q w. gives q w }
+      where
+        gives : (q : Program Plain) → Shaped t h q → left r o ≡ writesTable (table sequential (translate q)) o
+        gives q w =
+            let P : Put o₁ 0 (table sequential (translate q)) o₂ l = T .gives q w (mapped q w) in
+            let passes : 65536 < length (table sequential (translate q)) = elim (decLe (0 + length (table sequential (translate q))) 65537) [
+              | yes near ↦ omega (arith, P .next near)
+              | no far ↦ omega arith
+            ] in
+            ap (λ (x : WriteAnswer). left x o) e ∙ rw (lt-ltb 65536 (length (table sequential (translate q))) passes, writesTable)
+
+    -- 10
+    pub no-room : {o : List ℕ} {r : WriteAnswer} → l ≤ 65536 → length o < l → r ≡ refusal 10 → WritesCopy t h o o r
+    no-room {o} {r} less short e = record { gives = λ q w. gives q w }
+      where
+        gives : (q : Program Plain) → Shaped t h q → left r o ≡ writesTable (table sequential (translate q)) o
+        gives q w =
+            let new : List ℕ = table sequential (translate q) in
+            let is : l ≡ length new = long q w less in
+            ap (λ (x : WriteAnswer). left x o) e
+            ∙ rw (le-ltb 65536 (length new) (omega arith), writesTable, lt-ltb (length o) (length new) (omega arith), writes)
+
+    -- written
+    pub copied : {o o′ : List ℕ} {k : ℕ} → l ≤ 65536 → l ≤ length o → TableOf t h map bounds o o′ k → WritesCopy t h o o′ (written l)
+    copied {o} {o′} {k} less room W = record { gives = λ q w. gives q w }
+      where
+        gives : (q : Program Plain) → Shaped t h q → left (written l) o′ ≡ writesTable (table sequential (translate q)) o
+        gives q w =
+            let new : List ℕ = table sequential (translate q) in
+            let is : l ≡ length new = long q w less in
+            let P : Put o 0 new o′ k = W .gives q w (mapped q w) in
+            let out : o′ ≡ over new o =
+            P .wrote (omega arith) ∙ sets-eq new o 0 (omega arith) ∙ ap (λ (i : ℕ). new ++ drop i o) (zero-add (length new))
+            in
+            ap₂ (λ (x : ℕ) (y : List ℕ). left (written x) y) is out
+            ∙ rw (le-ltb 65536 (length new) (omega arith), writesTable, le-ltb (length o) (length new) (omega arith), writes)
+
+-- the call
+pub call-copies : (t : List ℕ) {h : Shape} (o : List ℕ) {o′ : List ℕ} {r : WriteAnswer} → AcceptedAs t h → WritesCopy t h o o′ r
+    → left r o′ ≡ translateCall t o
+call-copies t o A W = W .gives (A .program) (A .shaped) ∙ sym (ap (λ (v : Verdict). translateAs v o) (A .verdict))
+
+-- one law for each way
+pub ruleset answer-ways = (shapes, too-long, no-room, copied)

@@ -1,0 +1,19 @@
+-- `translator::plain::put_assign` meets its contract.
+use borrow.Author.Needs.{needs}
+use Rattle.translator.proofs.Plainly.{plain-ways}
+use Rattle.translator.proofs.plain.put_assign.Statement.{statement}
+use Rattle.translator.proofs.plain.put_assign.Tie as tie
+
+pub put-assign-spec : {M : Type 1} → statement M
+put-assign-spec =
+    tie.close
+    (tie.spec
+    (λ c. search needs)
+    (λ c κs. search needs)
+    (λ c. search needs)
+    (λ c. search needs)
+    (λ c κs. search needs)
+    (λ c κs. search needs)
+    (λ c κs. search needs)
+    (λ c. search needs)
+    (λ c. search plain-ways))

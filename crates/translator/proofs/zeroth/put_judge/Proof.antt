@@ -1,0 +1,16 @@
+-- `translator::zeroth::put_judge` meets its contract.
+use borrow.Author.Needs.{needs}
+use Rattle.translator.proofs.Rounding.{round-ways}
+use Rattle.translator.proofs.zeroth.put_judge.Statement.{statement}
+use Rattle.translator.proofs.zeroth.put_judge.Tie as tie
+
+pub put-judge-spec : {M : Type 1} → statement M
+put-judge-spec =
+    tie.close
+    (tie.spec
+    (λ c κs. search needs)
+    (λ c κs. search needs)
+    (λ c κs. search needs)
+    (λ c κs. search needs)
+    (λ c. search needs)
+    (λ c. search round-ways))

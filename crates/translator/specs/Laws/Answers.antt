@@ -1,0 +1,45 @@
+-- What the translator's call goes by: a table that its reader accepted, and what the copy's writer leaves.
+use Prim.Native.Nat.{ℕ, _*_, _+_, _≤_}
+use mathlib.Core.Path.{_≡_}
+use mathlib.Core.List.{List}
+use lib.ListN.{length}
+use Rattle.reader.specs.Syntax.{Program, Plain, concurrent, sequential}
+use Rattle.reader.specs.Encode.{table}
+use Rattle.reader.specs.Rules.{accepted, verdict}
+use Rattle.reader.specs.Calls.{readAs}
+use Rattle.reader.specs.Walks.{BodiesIn}
+use Rattle.reader.specs.declared.ReadAnswer.{ReadAnswer}
+use Rattle.reader.specs.Laws.Sound.{Sound}
+use Rattle.translator.specs.Translate.{translate}
+use Rattle.translator.specs.Calls.{Written, writesTable}
+use Rattle.translator.specs.Laws.Shapes.{Shaped}
+use Rattle.translator.specs.declared.WriteAnswer.{WriteAnswer}
+use Rattle.translator.specs.declared.layout.Shape.{Shape}
+
+-- t is an accepted table, and a its reader's answer
+pub record Accepts (t : List ℕ) (a : ReadAnswer) : Type 0 where
+  pub program : Program Plain
+  pub verdict : verdict concurrent t ≡ accepted program
+  pub same : t ≡ table concurrent program
+  pub sound : Sound concurrent program
+  pub answer : a ≡ readAs concurrent (accepted program)
+  -- its numbers are small, and the records are inside
+  pub procedures : a .procedures ≤ 16
+  pub locations : a .locations ≤ 64
+  pub threads : a .threads ≤ 8
+  pub labels : a .labels ≤ 400
+  pub long : length t ≤ 16384
+  pub room : 16 + (6 * a .procedures + 2 * a .locations + 2 * a .threads) ≤ length t
+
+-- t is an accepted table of this shape
+pub record AcceptedAs (t : List ℕ) (h : Shape) : Type 0 where
+  pub program : Program Plain
+  pub verdict : verdict concurrent t ≡ accepted program
+  pub shaped : Shaped t h program
+  pub few : h .labels ≤ 400
+  pub bodies : BodiesIn t 0 (h .procedures)
+
+-- the copy's table is written, or refused by 9 or 10
+pub record WritesCopy (t : List ℕ) (h : Shape) (o o′ : List ℕ) (r : WriteAnswer) : Type 0 where
+  pub gives : (q : Program Plain) → Shaped t h q
+      → _≡_ {A = Written} (record { answer = r; out = o′ }) (writesTable (table sequential (translate q)) o)

@@ -1,0 +1,70 @@
+-- What the translator promises of the whole table.
+use Prim.Native.Nat.{ℕ, _+_, _≤_, _<_}
+use mathlib.Core.Path.{_≡_}
+use mathlib.Core.List.{List, _∷_, _++_}
+use lib.ListN.{length, getD, take}
+use Rattle.value.specs.Maybe.{is}
+use Rattle.value.specs.Values.{bytes}
+use Rattle.value.specs.Lists.{at}
+use Rattle.reader.specs.Syntax.{Program, Plain, sequential}
+use Rattle.reader.specs.Encode.{block, each, head, heads, middle, middleOf, trailer, distance, table}
+use Rattle.reader.specs.Labels.{counts}
+use Rattle.reader.specs.LabelMap.{Node, Mapped, nodeOf}
+use Rattle.translator.specs.Layout.{localsOf, sizes}
+use Rattle.translator.specs.Code.{moved}
+use Rattle.translator.specs.Translate.{zeroth, later, translate}
+use Rattle.translator.specs.Laws.Put.{Put}
+use Rattle.translator.specs.Laws.Shapes.{Shaped}
+use Rattle.translator.specs.Laws.Bodies.{bodies}
+use Rattle.translator.specs.declared.layout.Shape.{Shape}
+
+-- the record of the procedure of label k + 1, with the offset that is known
+pub record HeadOf (t : List ℕ) (h : Shape) (map offsets : List ℕ) (k : ℕ) (o : List ℕ) (p : ℕ) (o′ : List ℕ) (r : ℕ) : Type 0 where
+  pub gives : (q : Program Plain) (d : Node) → Shaped t h q → (bounds : List ℕ) → Mapped q map bounds → nodeOf q (k + 1) ≡ is d
+      → Put o p (head (record { params = 1; locals = moved (localsOf (at (q .procs) (d .proc))); at = getD offsets k 0 })) o′ r
+
+-- each body of a label begins where its offset says, the first at `base`
+pub record Right (q : Program Plain) (base : ℕ) (offsets : List ℕ) : Type 0 where
+  pub at : (i : ℕ) → i < counts (q .procs) → getD offsets i 0 ≡ base + length (bodies (take i (later q)))
+
+-- the first k records are written
+pub record Heading (t : List ℕ) (h : Shape) (map offsets : List ℕ) (k : ℕ) (o : List ℕ) (p : ℕ) (o′ : List ℕ) (r : ℕ) : Type 0 where
+  pub done : (q : Program Plain) (base : ℕ) → Shaped t h q → (bounds : List ℕ) → Mapped q map bounds → Right q base offsets
+      → Put o p (each head (take k (heads base (later q)))) o′ r
+  pub kept : length o′ ≡ length o
+  pub most : k ≤ h .labels
+
+-- all of them
+pub record HeadsOf (t : List ℕ) (h : Shape) (map offsets : List ℕ) (o : List ℕ) (p : ℕ) (o′ : List ℕ) (r : ℕ) : Type 0 where
+  pub gives : (q : Program Plain) (base : ℕ) → Shaped t h q → (bounds : List ℕ) → Mapped q map bounds → Right q base offsets
+      → Put o p (each head (heads base (later q))) o′ r
+
+-- the sizes
+pub record SizesOf (t : List ℕ) (h : Shape) (o : List ℕ) (p : ℕ) (o′ : List ℕ) (r : ℕ) : Type 0 where
+  pub gives : (q : Program Plain) → Shaped t h q → Put o p (each (bytes 2) (sizes q)) o′ r
+
+-- records and sizes
+pub record MiddleOf (t : List ℕ) (h : Shape) (map offsets : List ℕ) (o : List ℕ) (p : ℕ) (o′ : List ℕ) (r : ℕ) : Type 0 where
+  pub gives : (q : Program Plain) → Shaped t h q → (bounds : List ℕ) → Mapped q map bounds → Right q (0 + length (block (zeroth q .body))) offsets
+      → Put o p (middle (middleOf (translate q))) o′ r
+
+-- the bodies; where counting goes on, the offsets are right
+pub record CodeOf (t : List ℕ) (h : Shape) (map bounds offsets : List ℕ) (o o′ : List ℕ) (r : ℕ) : Type 0 where
+  pub gives : (q : Program Plain) → Shaped t h q → Mapped q map bounds → Put o 0 (bodies (zeroth q ∷ later q)) o′ r
+  pub places : (q : Program Plain) → Shaped t h q → Mapped q map bounds → r < 65537 → Right q (0 + length (block (zeroth q .body))) offsets
+
+-- the counts of a trailer
+pub record Counts (P M : ℕ) (o : List ℕ) (p : ℕ) (o′ : List ℕ) (r : ℕ) : Type 0 where
+  pub gives : Put o p (bytes 2 P ++ (bytes 2 M ++ bytes 2 0)) o′ r
+
+-- its lengths
+pub record Lengths (back whole : ℕ) (o : List ℕ) (p : ℕ) (o′ : List ℕ) (r : ℕ) : Type 0 where
+  pub gives : Put o p (bytes 4 back ++ bytes 4 whole) o′ r
+
+-- the trailer
+pub record Trails (P M whole : ℕ) (o : List ℕ) (p : ℕ) (o′ : List ℕ) (r : ℕ) : Type 0 where
+  pub gives : Put o p (trailer (record { kind = 0x53; mark = 0x50; procs = P; places = M; threads = 0; back = distance P M 0; whole = whole })) o′ r
+
+-- the whole table
+pub record TableOf (t : List ℕ) (h : Shape) (map bounds : List ℕ) (o o′ : List ℕ) (r : ℕ) : Type 0 where
+  pub gives : (q : Program Plain) → Shaped t h q → Mapped q map bounds → Put o 0 (table sequential (translate q)) o′ r
