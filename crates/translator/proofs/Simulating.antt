@@ -31,7 +31,8 @@ use Rattle.reader.specs.Laws.Sound.{Sound}
 use Rattle.reader.specs.Laws.Labelled.{named-label, allowed-label, fits-label}
 use Rattle.reader.specs.Laws.Accepted.{bodies-fit}
 use Rattle.reader.specs.Laws.Procs.{body-at, ProcSound, proc-sound}
-use Rattle.reader.specs.Laws.Spots.{spot-has, allowed-inherited, code-stands, bodies-stand, bodies-labels}
+use Rattle.reader.specs.Laws.Spots.{spot-has, allowed-inherited, code-stands, bodies-labels}
+use Rattle.reader.specs.Laws.TablePlaces.{recordsAt, all-bodies}
 use Rattle.reader.specs.Laws.LabelMap.{NodeOf, node-of, node-there, length-nodes}
 use Rattle.translator.specs.Layout.{layout, localsOf}
 use Rattle.translator.specs.Code.{calls, code}
@@ -229,8 +230,8 @@ module _ {t : List ℕ} {h : Shape} {map bounds : List ℕ} where
           code-there : Stands t (getD map (4 * l) 0) (block (v .left)) (d .place + length (block (v .left)))
           code-there =
               rw place
-              (code-stands (subst (λ (bs : List ℕ). Stands t 0 bs (0 + length (each block (bodiesOf (q .procs))))) (sym (bodies-labels (q .procs) 1))
-              (bodies-stand concurrent q (w .is))) (v .spot))
+              (code-stands (subst (λ (bs : List ℕ). Stands t 0 bs (recordsAt q)) (sym (bodies-labels (q .procs) 1))
+              (all-bodies concurrent q (w .is))) (v .spot))
 
           -- what the body has, the code there has
           sound : ProcSound concurrent q (d .proc) f
