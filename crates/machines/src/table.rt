@@ -1,0 +1,23 @@
+// Numbers that are known to stand in a table, low byte first.
+use value::bytes::join;
+use value::bytes::pair;
+ghost use mathlib.Core.Path.{_≡_};
+ghost use Prim.Native.Nat.{_+_, _≤_};
+ghost use lib.ListN.{length};
+ghost use Rattle.value.specs.Values.{numberAt};
+
+// The number of two bytes.
+pub fn two(t: &[u8], at: usize) -> u16
+    requires { ⌜ at + 2 ≤ length (now t) ⌝ }
+    ensures { λ r. ⌜ r ≡ numberAt 2 (now (t .entry)) at ⌝ }
+{
+    pair(t[at], t[at + 1])
+}
+
+// The number of four.
+pub fn four(t: &[u8], at: usize) -> u32
+    requires { ⌜ at + 4 ≤ length (now t) ⌝ }
+    ensures { λ r. ⌜ r ≡ numberAt 4 (now (t .entry)) at ⌝ }
+{
+    join(two(t, at), two(t, at + 2))
+}
