@@ -4,3 +4,5 @@
 pub mod Values
 -- one law for each way through an operator of the evaluator
 pub mod Operands
+-- one law for each way through the walks that fill the jump table
+pub mod Jumping
