@@ -39,7 +39,7 @@ only-low {x} h = row-is (λ y. eqb y x) (set (replicate 16 false) x true) refl? 
         by-test (eqb y x)
         (λ e. let same : y ≡ x = eqb-true y x e in rw same (getD-set-same (replicate 16 false) x true false h ∙ sym (eq-eqb x x refl)))
         (λ e. let apart : y ≢ x = eqb-false y x e in
-          getD-set-other (replicate 16 false) x y true false apart ∙ getD-replicate 16 y false false k ∙ sym e)
+        getD-set-other (replicate 16 false) x y true false apart ∙ getD-replicate 16 y false false k ∙ sym e)
 
 -- no other has a flag
 pub only-high : {x : ℕ} → 16 ≤ x → replicate 16 false ≡ flags (λ y. eqb y x)
@@ -112,7 +112,7 @@ module _ {row : List Bool} where
         let left : 16 - i ≡ suc (16 - (i + 1)) = omega arith in
         let next : i + 1 ≡ suc i = omega arith in
         let more : length (variables i (16 - i) es) ≡ boolByte (getD row i false) + length (variables (i + 1) (16 - (i + 1)) es) =
-            rw (left, here, next) (kept (mentions i es) (variables (suc i) (16 - suc i) es))
+        rw (left, here, next) (kept (mentions i es) (variables (suc i) (16 - suc i) es))
         in
         omega (arith, T .counts es e);
   }
@@ -123,10 +123,12 @@ module _ {row : List Bool} where
 
   -- all
   pub tally-end : {i n : ℕ} → Tally row i n → 16 ≤ i → CountsFlags row n
-  tally-end {i} {n} T h = record { counts = λ es e.
-      let all : 16 - i ≡ 0 = omega arith in
-      let none : length (variables i (16 - i) es) ≡ 0 = rw all in
-      omega (arith, T .counts es e) }
+  tally-end {i} {n} T h = record {
+    counts = λ es e.
+        let all : 16 - i ≡ 0 = omega arith in
+        let none : length (variables i (16 - i) es) ≡ 0 = rw all in
+        omega (arith, T .counts es e);
+  }
 
 pub ruleset tally-ways = (tally-start, tally-next, tally-end)
 

@@ -12,13 +12,19 @@ pub mod Plain
 pub mod Blocks
 -- one law for each way through rules 1 and 2
 pub mod Trailers
+-- through rule 3
+pub mod Rule3
+-- and through rule 4
+pub mod Rule4
+-- and through rules 1 to 4 together
+pub mod Shaping
 -- one law for each way through the walks that count labels
 pub mod Counting
 -- and through those that fill the label map
 pub mod Filling
 -- what a filled label map holds
 pub mod Mapping
--- through rule 3
-pub mod Rule3
 -- one law for each way through the gatherer of variables
 pub mod Gathering
+-- one law for each way through rules 5 to 8, one after the other
+pub mod Verdicts

@@ -16,6 +16,7 @@ use Rattle.reader.specs.Encode.{Trailer, kindMark}
 use Rattle.reader.specs.Encode as E
 use Rattle.reader.specs.Laws.Reading.{If, so, none}
 use Rattle.reader.specs.Laws.Sections.{All, TrailerFits, finish-only, trailer-exact, bytes-last}
+use Rattle.reader.specs.Laws.Judged.{trailer?}
 use Rattle.reader.specs.Laws.Positions.{byte-at, number-at}
 use Rattle.reader.specs.Rules.{limits, within}
 use Rattle.reader.specs.Decode.{finish, last}
@@ -155,7 +156,18 @@ module _ (k : Kind) (t : List ℕ) where
       header-over C e = record { gives = λ h. rw (trailer-there t r long at, ← T .same, right, ← C .same, e) }
 
       pub header-right : {c : Bool} → CountsTest k t (trailerOf r) c → c ≡ true → HeaderIs k t (Is r)
-      header-right C e = record { gives = λ h. record { read = trailer-there t r long at; trailer = sym (T .same) ∙ right; counts = sym (C .same) ∙ e } }
+      header-right C e =
+          let parts = trailer? k t (trailerOf r) .so (sym (T .same) ∙ right) in
+          record {
+            gives = record {
+              long = long;
+              back = parts .1 .1 .0;
+              room = parts .1 .1 .1 .1;
+              read = trailer-there t r long at;
+              trailer = sym (T .same) ∙ right;
+              counts = sym (C .same) ∙ e;
+            };
+          }
 
 -- one law for each way
 pub ruleset header-ways = (header-short, header-wrong, header-over, header-right)

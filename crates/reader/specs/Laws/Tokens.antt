@@ -121,7 +121,7 @@ module _ (t : List ℕ) (i : ℕ) where
   size-other h = rw (le-ltb _ _ h)
 
 -- each token has a byte
-size-pos : (t : List ℕ) (i : ℕ) → 0 < sizeAt t i
+pub size-pos : (t : List ℕ) (i : ℕ) → 0 < sizeAt t i
 unfolding sizeAt
 size-pos t i =
     let m : ℕ = getD t i 0 in

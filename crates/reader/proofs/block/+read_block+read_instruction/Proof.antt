@@ -1,3 +1,4 @@
+-- `reader::block::read_block` and `reader::block::read_instruction` meet their contracts.
 use borrow.Author.Needs.{needs}
 use Rattle.reader.proofs.Blocks.{BlockFrom, block-ways}
 use Prim.Native.Nat.{ℕ, _+_, _-_, _<_}

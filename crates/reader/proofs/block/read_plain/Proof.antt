@@ -1,12 +1,8 @@
+-- `reader::block::read_plain` meets its contract.
 use borrow.Author.Needs.{needs}
 use Rattle.reader.proofs.Plain.{plain-ways}
-use borrow.Author.Needs.{needs}
 use Rattle.reader.proofs.block.read_plain.Statement.{statement}
 use Rattle.reader.proofs.block.read_plain.Tie as tie
-use Rattle.reader.proofs.block.read_plain.Reads as reads
-use Rattle.reader.proofs.block.read_plain.Lts as lts
-use Rattle.reader.proofs.block.may_select.Reads as may-select-reads
-use Rattle.reader.proofs.block.read_values.Reads as read-values-reads
 
 pub read-plain-spec : {M : Type 1} → statement M
 read-plain-spec = tie.close (tie.spec

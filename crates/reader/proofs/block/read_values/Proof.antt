@@ -1,10 +1,8 @@
+-- `reader::block::read_values` meets its contract.
 use borrow.Author.Needs.{needs}
 use Rattle.reader.proofs.Values.{ValuesFrom, values-ways}
 use Rattle.reader.proofs.block.read_values.Statement.{statement}
 use Rattle.reader.proofs.block.read_values.Tie as tie
-use Rattle.reader.proofs.block.read_values.Reads as reads
-use Rattle.reader.proofs.block.read_values.Lts as lts
-use Rattle.reader.proofs.expression.read_expr.Reads as read-expr-reads
 
 abbrev Inv-loop : tie.InvT-loop
 Inv-loop code at count position₀ left₀ position left = ValuesFrom code at count position left

@@ -1,3 +1,4 @@
+-- `reader::expression::read_expr` meets its contract.
 use borrow.Author.Needs.{needs}
 use Rattle.reader.proofs.Expressions.{expr-ways}
 use Prim.Native.Nat.{ℕ, _<_}

@@ -1,12 +1,8 @@
+-- `reader::header::right_counts` meets its contract.
 use borrow.Author.Needs.{needs}
 use Rattle.reader.proofs.Trailers.{counts-ways}
-use borrow.Author.Needs.{needs}
 use Rattle.reader.proofs.header.right_counts.Statement.{statement}
 use Rattle.reader.proofs.header.right_counts.Tie as tie
-use Rattle.reader.proofs.header.right_counts.Reads as reads
-use Rattle.reader.proofs.header.right_counts.Lts as lts
-use Rattle.reader.proofs.header.within.Reads as within-reads
-use Rattle.reader.proofs.limits.of.Reads as of-reads
 
 pub right-counts-spec : {M : Type 1} → statement M
 right-counts-spec = tie.close (tie.spec

@@ -1,11 +1,8 @@
+-- `reader::header::right_trailer` meets its contract.
 use borrow.Author.Needs.{needs}
 use Rattle.reader.proofs.Trailers.{trailer-ways}
-use borrow.Author.Needs.{needs}
 use Rattle.reader.proofs.header.right_trailer.Statement.{statement}
 use Rattle.reader.proofs.header.right_trailer.Tie as tie
-use Rattle.reader.proofs.header.right_trailer.Reads as reads
-use Rattle.reader.proofs.header.right_trailer.Lts as lts
-use Rattle.reader.proofs.header.kind_mark.Reads as kind-mark-reads
 
 pub right-trailer-spec : {M : Type 1} → statement M
 right-trailer-spec = tie.close (tie.spec

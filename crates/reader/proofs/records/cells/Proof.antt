@@ -1,10 +1,8 @@
+-- `reader::records::cells` meets its contract.
 use borrow.Author.Needs.{needs}
 use Rattle.reader.proofs.Rule3.{CellsFrom, cells-ways}
 use Rattle.reader.proofs.records.cells.Statement.{statement}
 use Rattle.reader.proofs.records.cells.Tie as tie
-use Rattle.reader.proofs.records.cells.Reads as reads
-use Rattle.reader.proofs.records.cells.Lts as lts
-use Rattle.value.proofs.bytes.two_bytes.Reads as two-bytes-reads
 
 abbrev Inv-loop : tie.InvT-loop
 Inv-loop body at count total₀ position₀ left₀ total position left = CellsFrom body at count total position left

@@ -1,9 +1,8 @@
+-- `reader::records::right_locals` meets its contract.
 use borrow.Author.Needs.{needs}
 use Rattle.reader.proofs.Rule3.{LocalsFrom, locals-ways}
 use Rattle.reader.proofs.records.right_locals.Statement.{statement}
 use Rattle.reader.proofs.records.right_locals.Tie as tie
-use Rattle.reader.proofs.records.right_locals.Reads as reads
-use Rattle.reader.proofs.records.right_locals.Lts as lts
 
 abbrev Inv-loop : tie.InvT-loop
 Inv-loop body at count most position₀ left₀ position left = LocalsFrom body at count most position left

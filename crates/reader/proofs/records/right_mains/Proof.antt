@@ -1,11 +1,8 @@
+-- `reader::records::right_mains` meets its contract.
 use borrow.Author.Needs.{needs}
 use Rattle.reader.proofs.Rule3.{MainsFrom, mains-ways}
 use Rattle.reader.proofs.records.right_mains.Statement.{statement}
 use Rattle.reader.proofs.records.right_mains.Tie as tie
-use Rattle.reader.proofs.records.right_mains.Reads as reads
-use Rattle.reader.proofs.records.right_mains.Lts as lts
-use Rattle.reader.proofs.records.begun.Reads as begun-reads
-use Rattle.value.proofs.bytes.two_bytes.Reads as two-bytes-reads
 
 abbrev Inv-loop : tie.InvT-loop
 Inv-loop body at count records procedures position₀ left₀ position left = MainsFrom body at count records procedures position left

@@ -1,10 +1,8 @@
+-- `reader::records::right_sizes` meets its contract.
 use borrow.Author.Needs.{needs}
 use Rattle.reader.proofs.Rule3.{SizesFrom, sizes-ways}
 use Rattle.reader.proofs.records.right_sizes.Statement.{statement}
 use Rattle.reader.proofs.records.right_sizes.Tie as tie
-use Rattle.reader.proofs.records.right_sizes.Reads as reads
-use Rattle.reader.proofs.records.right_sizes.Lts as lts
-use Rattle.value.proofs.bytes.two_bytes.Reads as two-bytes-reads
 
 abbrev Inv-loop : tie.InvT-loop
 Inv-loop body at count position₀ left₀ position left = SizesFrom body at count position left
