@@ -6,3 +6,5 @@ pub mod Values
 pub mod Operands
 -- one law for each way through the walks that fill the jump table
 pub mod Jumping
+-- the evaluator, way by way
+pub mod Evaluating

@@ -120,3 +120,77 @@ fn one(mark: u8, operand: Answer) -> Answer
         Value::Location(_) => Answer::Nothing,
     }
 }
+
+// A leaf's value.
+fn leaf(t: &[u8], locals: &[u64; WORDS], base: usize, at: usize) -> Valued
+    requires { ⌜ Ready (now t) (now locals) base at 1 ⌝ }
+    ensures { λ r. ⌜ Evaluates (now (t .entry)) (now (locals .entry)) base at 1 r ⌝ }
+{
+    match t[at] {
+        0x01 => Valued {
+            answer: Answer::Is(Value::Whole(bytes::number_of(table::four(t, at + 1)))),
+            next: at + 5,
+        },
+        0x02 => Valued {
+            answer: Answer::Is(Value::Location(table::two(t, at + 1))),
+            next: at + 3,
+        },
+        0x03 => Valued {
+            answer: Answer::Is(Value::Truth(false)),
+            next: at + 1,
+        },
+        0x04 => Valued {
+            answer: Answer::Is(Value::Truth(true)),
+            next: at + 1,
+        },
+        _ => Valued {
+            answer: locals::get(locals, base, t[at + 1] as usize),
+            next: at + 2,
+        },
+    }
+}
+
+// The value of an operator's expression. A leaf among its operands is evaluated here, without a call of this function.
+fn operation(t: &[u8], locals: &[u64; WORDS], base: usize, at: usize, depth: usize) -> Valued
+    requires { ⌜ Ready (now t) (now locals) base at depth × (6 ≤ getD (now t) at 0) ⌝ }
+    ensures { λ r. ⌜ Evaluates (now (t .entry)) (now (locals .entry)) base at depth r ⌝ }
+{
+    let mark = t[at];
+    let first = at + 1;
+    let a = if t[first] < LEAVES {
+        leaf(t, locals, base, first)
+    } else {
+        operation(t, locals, base, first, depth - 1)
+    };
+    let left = a.answer;
+    let second = a.next;
+    if marks::operands(mark) == 2 {
+        let b = if t[second] < LEAVES {
+            leaf(t, locals, base, second)
+        } else {
+            operation(t, locals, base, second, depth - 1)
+        };
+        let right = b.answer;
+        Valued {
+            answer: two(mark, left, right),
+            next: b.next,
+        }
+    } else {
+        Valued {
+            answer: one(mark, left),
+            next: second,
+        }
+    }
+}
+
+// The value of an expression, and where it ends.
+pub fn evaluate(t: &[u8], locals: &[u64; WORDS], base: usize, at: usize) -> Valued
+    requires { ⌜ Ready (now t) (now locals) base at 16 ⌝ }
+    ensures { λ r. ⌜ Evaluates (now (t .entry)) (now (locals .entry)) base at 16 r ⌝ }
+{
+    if t[at] < LEAVES {
+        leaf(t, locals, base, at)
+    } else {
+        operation(t, locals, base, at, DEPTH)
+    }
+}

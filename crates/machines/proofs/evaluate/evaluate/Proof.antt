@@ -1,0 +1,14 @@
+-- `machines::evaluate::evaluate` meets its contract.
+use borrow.Author.Needs.{needs}
+use Rattle.machines.proofs.Evaluating.{eval-ways}
+use Rattle.machines.proofs.evaluate.evaluate.Statement.{statement}
+use Rattle.machines.proofs.evaluate.evaluate.Tie as tie
+
+pub evaluate-spec : {M : Type 1} → statement M
+evaluate-spec =
+    tie.close (tie.spec
+    (λ c. search (eval-ways, needs))
+    (λ c κs. search (eval-ways, needs))
+    (λ c κs. search needs)
+    (λ c. search (eval-ways, needs))
+    (λ c. search needs))
