@@ -7,7 +7,7 @@ use lib.ListN.{length, getD, set, length-append}
 use lib.Seq.{getD-set-same}
 use lib.Dec.{ltb}
 use borrow.Author.Tests.{ltb-true, ltb-false}
-use Rattle.value.specs.Maybe.{is}
+use Rattle.value.specs.Maybe.{is, nothing}
 use Rattle.value.specs.Lists.{at}
 use Rattle.value.specs.Laws.Maybes.{is-inj, missing}
 use Rattle.value.specs.Laws.Tests.{by-test}
@@ -25,7 +25,7 @@ use Rattle.reader.specs.Laws.Spots.{itself, onward, spot-after, spot-body, spot
 use Rattle.reader.specs.declared.labels.Counted.{Counted}
 use Rattle.reader.proofs.Counting.{instr-in, block-in, body-in, then-in, else-in, then-counts, expr-after}
 use Rattle.machines.specs.Work.{Beside}
-use Rattle.machines.specs.Jumps.{positions, Settled, last, first, Entry, Jumps, Onward, FilledBlock, FilledInstr, FillsBlock, FillsInstr, FillsJumps}
+use Rattle.machines.specs.Jumps.{positions, Settled, last, first, beyond, Entry, Jumps, Onward, FilledBlock, FilledInstr, FillsBlock, FillsInstr, FillsJumps}
 use Rattle.machines.specs.Laws.Work.{beside-same, beside-set}
 
 -- ---- numbers stored here and there
@@ -56,9 +56,26 @@ inner-before {d = d} (thens {e = e} {b = b} {f = f} p) =
 inner-before {d = d} (elses {e = e} {b = b} {f = f} p) =
     let q = spot-inside p in omega (arith, block-some d, length-append (expr e) (block b ++ block f), length-append (block b) (block f))
 
+-- a while or an if holds code
+abbrev Holding : Instr Plain → Type 0
+Holding (assign x e) = ⊥
+Holding (write y o e) = ⊥
+Holding (read x y o) = ⊥
+Holding (while e b) = Unit {0}
+Holding (if e b f) = Unit {0}
+Holding (call n es) = ⊥
+Holding (atomic b) = ⊥
+Holding (select x y) = ⊥
+
+-- no other instruction has a spot inside
+holding : {k i : ℕ} {s : Instr Plain} {d r c : Block Plain} → Inner k d r i tt s c → Holding s
+holding (body p) = tt
+holding (thens p) = tt
+holding (elses p) = tt
+
 -- the end of a block is a spot of it
 end-spot : (b c : Block Plain) (i : ℕ) → Spot (i + length (block b) - 1) end c i b c
-end-spot end c i = here (omega arith) refl refl
+end-spot end c i = let same : i ≡ i + 1 - 1 = omega arith in here same refl refl
 end-spot (step a s b) c i =
     let same : i + length (instr s) + length (block b) - 1 ≡ i + length (instr s ++ block b) - 1 = omega (arith, length-append (instr s) (block b)) in
     later (subst (λ (k : ℕ). Spot k end c (i + length (instr s)) b c) same (end-spot b c (i + length (instr s))))
@@ -84,6 +101,14 @@ module _ {t : List ℕ} {i n : ℕ} where
 
 pub ruleset onward-ways = (onward-end, onward-here)
 
+-- the code beyond is one
+entry-to : {ps : List (Proc Plain)} {m v : ℕ} {d r x : Block Plain} → beyond d r ≡ is x → Settled ps m v x → Entry ps m v d r
+entry-to {ps} {m} {v} e s = record { goes = λ y f. subst (Settled ps m v) (is-inj (sym e ∙ f)) s }
+
+-- there is none
+entry-none : {ps : List (Proc Plain)} {m v : ℕ} {d r : Block Plain} → beyond d r ≡ nothing → Entry ps m v d r
+entry-none e = record { goes = λ y f. missing (sym e ∙ f) }
+
 -- ---- instructions
 
 -- the entry of a position that was stored, and not again
@@ -95,37 +120,19 @@ module _ {t : List ℕ} {i d n : ℕ} {js : List ℕ} where
   pub fills-plain : (getD t i 0 ≡ 0x23 → ⊥) → (getD t i 0 ≡ 0x24 → ⊥) → FillsInstr t i d n js js
   fills-plain a b = record { gives = λ long small. go }
     where
-      plain : (s : Instr Plain) (j : ℕ) → ((ps : List (Proc Plain)) (m : ℕ) (b c : Block Plain) → Entry ps m (getD js i 0) (step tt s b) c)
-          → ((c : Block Plain) (k : ℕ) (d r : Block Plain) → Inner k d r i tt s c → ⊥) → FilledInstr i s j n js js
-      plain s j f g = record { beside = beside-same; itself = λ ps m b c h l. f ps m b c; inner = λ ps m b c h l k d r p. absurd (g (b ⊕ c) k d r p) }
+      plain : (s : Instr Plain) (j : ℕ) → ((b c : Block Plain) → beyond (step tt s b) c ≡ nothing)
+          → (Holding s → ⊥) → FilledInstr i s j n js js
+      plain s j f g = record { beside = beside-same; itself = λ ps m b c h l. entry-none (f b c); inner = λ ps m b c h l k d r p. absurd (g (holding p)) }
 
       go : (s : Instr Plain) (j : ℕ) → Grammar.InstrAt t i d s j → FilledInstr i s j n js js
-      go (assign x e) j h = plain (assign x e) j (λ ps m b c. tt) (λ c k d r p. none p)
-        where
-          none : {c d r : Block Plain} {k : ℕ} → Inner k d r i tt (assign x e) c → ⊥
-          none ()
-      go (write y o e) j h = plain (write y o e) j (λ ps m b c. tt) (λ c k d r p. none p)
-        where
-          none : {c d r : Block Plain} {k : ℕ} → Inner k d r i tt (write y o e) c → ⊥
-          none ()
-      go (read x y o) j h = plain (read x y o) j (λ ps m b c. tt) (λ c k d r p. none p)
-        where
-          none : {c d r : Block Plain} {k : ℕ} → Inner k d r i tt (read x y o) c → ⊥
-          none ()
+      go (assign x e) j h = plain (assign x e) j (λ b c. refl) (λ z. z)
+      go (write y o e) j h = plain (write y o e) j (λ b c. refl) (λ z. z)
+      go (read x y o) j h = plain (read x y o) j (λ b c. refl) (λ z. z)
       go (while e w) j h = absurd (a (Stands.first (h .stands)))
       go (if e w f) j h = absurd (b (Stands.first (h .stands)))
-      go (call q es) j h = plain (call q es) j (λ ps m b c. tt) (λ c k d r p. none p)
-        where
-          none : {c d r : Block Plain} {k : ℕ} → Inner k d r i tt (call q es) c → ⊥
-          none ()
-      go (atomic w) j h = plain (atomic w) j (λ ps m b c. tt) (λ c k d r p. none p)
-        where
-          none : {c d r : Block Plain} {k : ℕ} → Inner k d r i tt (atomic w) c → ⊥
-          none ()
-      go (select x y) j h = plain (select x y) j (λ ps m b c. tt) (λ c k d r p. none p)
-        where
-          none : {c d r : Block Plain} {k : ℕ} → Inner k d r i tt (select x y) c → ⊥
-          none ()
+      go (call q es) j h = plain (call q es) j (λ b c. refl) (λ z. z)
+      go (atomic w) j h = plain (atomic w) j (λ b c. refl) (λ z. z)
+      go (select x y) j h = plain (select x y) j (λ b c. refl) (λ z. z)
 
   -- "23 e block": after the body comes the loop
   pub fills-while : {b : ℕ} {js₁ js₂ : List ℕ} → getD t i 0 ≡ 0x23 → js₁ ≡ set js i n → ExprEnds t (i + 1) b → FillsBlock t b d i js₁ js₂
@@ -142,13 +149,13 @@ module _ {t : List ℕ} {i d n : ℕ} {js : List ℕ} where
         let ends : b < j = Grammar.block-inside block .0 in
         let kept : getD js₂ i 0 ≡ n = F .beside .below i (omega arith) ∙ ap (λ (z : List ℕ). getD z i 0) S ∙ getD-set-same js i n 0 low in
         let loops : (ps : List (Proc Plain)) (m : ℕ) (x c : Block Plain) → CodeAt ps m i (step tt (while (w .e) (w .b)) x) c
-            → CodeAt ps m b (w .b) (step tt (while (w .e) (w .b)) (x ⊕ c)) =
+        → CodeAt ps m b (w .b) (step tt (while (w .e) (w .b)) (x ⊕ c)) =
         λ ps m x c a. subst (λ (z : ℕ). CodeAt ps m z (w .b) (step tt (while (w .e) (w .b)) (x ⊕ c))) (sym place) (code-in a (inner (body itself)))
         in
         subst (λ (z : Instr Plain). FilledInstr i z j n js js₂) (sym (w .is))
         (record {
           beside = beside-both (beside-in one (omega arith) (omega arith)) (beside-in (F .beside) (omega arith) (omega arith));
-          itself = λ ps m x c a l. subst (λ (z : ℕ). Settled ps m z (x ⊕ c)) (sym kept) l;
+          itself = λ ps m x c a l. entry-to refl (subst (λ (z : ℕ). Settled ps m z (x ⊕ c)) (sym kept) l);
           inner = λ ps m x c a l k y r p. in-body w place F ps m x c a (loops ps m x c a) k y r p;
         });
   }
@@ -188,9 +195,10 @@ module _ {t : List ℕ} {i d n : ℕ} {js : List ℕ} where
               beside-both (beside-in one (omega arith) (omega arith))
               (beside-both (beside-in (F .beside) (omega arith) (omega arith)) (beside-in (G .beside) (omega arith) (omega arith)));
           itself = λ ps m z c a l.
-              subst (λ (v : ℕ). Settled ps m v (w .c ⊕ (z ⊕ c))) (sym kept)
+              entry-to refl
+              (subst (λ (v : ℕ). Settled ps m v (w .c ⊕ (z ⊕ c))) (sym kept)
               (O .gives d (w .c) j else ps m (z ⊕ c)
-              (subst (λ (v : ℕ). CodeAt ps m v (w .c) (z ⊕ c)) (sym second) (code-in a (inner (elses itself)))) l);
+              (subst (λ (v : ℕ). CodeAt ps m v (w .c) (z ⊕ c)) (sym second) (code-in a (inner (elses itself)))) l));
           inner = λ ps m z c a l k y r p. in-branch w place second at F G ps m z c a l k y r p;
         });
   }
@@ -222,18 +230,20 @@ filled-step : {i k j f n : ℕ} {s : Instr Plain} {b : Block Plain} {js js′ js
     → FilledInstr i s k f js js′ → FilledBlock k b j n js′ js″ → FilledBlock i (step tt s b) j n js js″
 filled-step {i} {k} {j} {f} {n} {s} {b} {js} {js′} {js″} place ends goes I R = record {
   beside = beside-both (beside-in (I .beside) (omega arith) ends) (beside-in (R .beside) (omega arith) (omega arith));
-  entries = λ ps m c a l. go ps m c a l;
+  entries = go;
 }
   where
-    module _ (ps : List (Proc Plain)) (m : ℕ) (c : Block Plain) (a : CodeAt ps m i (step tt s b) c) (l : Settled ps m n c) where
-      after : CodeAt ps m k b c
-      after = subst (λ (z : ℕ). CodeAt ps m z b c) (sym place) (code-in a (later itself))
+    after : {ps : List (Proc Plain)} {m : ℕ} {c : Block Plain} → CodeAt ps m i (step tt s b) c → CodeAt ps m k b c
+    after {ps} {m} {c} a = subst (λ (z : ℕ). CodeAt ps m z b c) (sym place) (code-in a (later itself))
 
-      go : (z : ℕ) (d r : Block Plain) → Spot z d r i (step tt s b) c → Entry ps m (getD js″ z 0) d r
-      go z d r (here e g h) =
-          rw (← e, ← g, ← h) (entry-kept (R .beside .below i (omega (arith, instr-some s))) (I .itself ps m b c a (goes ps m c after l)))
-      go z d r (later p) = R .entries ps m c after l z d r (subst (λ (y : ℕ). Spot z d r y b c) (sym place) p)
-      go z d r (inner p) = entry-kept (R .beside .below z (omega (arith, inner-before p))) (I .inner ps m b c a (goes ps m c after l) z d r p)
+    go : (ps : List (Proc Plain)) (m : ℕ) (c : Block Plain) → CodeAt ps m i (step tt s b) c → Settled ps m n c
+        → (z : ℕ) (d r : Block Plain) → Spot z d r i (step tt s b) c → Entry ps m (getD js″ z 0) d r
+    go ps m c a l z d r (here e g h) =
+        rw (← e, ← g, ← h)
+        (entry-kept (R .beside .below i (omega (arith, instr-some s))) (I .itself ps m b c a (goes ps m c (after a) l)))
+    go ps m c a l z d r (later p) = R .entries ps m c (after a) l z d r (subst (λ (y : ℕ). Spot z d r y b c) (sym place) p)
+    go ps m c a l z d r (inner p) =
+        entry-kept (R .beside .below z (omega (arith, inner-before p))) (I .inner ps m b c a (goes ps m c (after a) l) z d r p)
 
 module _ {t : List ℕ} {i d n : ℕ} {js : List ℕ} where
   -- from the beginning
@@ -251,6 +261,11 @@ module _ {t : List ℕ} {i d n : ℕ} {js : List ℕ} where
       let w = Grammar.step-here (F .rest .there) q in
       rw (X .gives (w .s) (w .k) (w .here)) (block-in (w .after))
 
+  pub fill-rest-inside : {i′ : ℕ} {js′ : List ℕ} {x : Counted} → Filling t i d n js i′ js′ → (getD t i′ 0 ≡ 0 → ⊥) → CountsInstr t i′ (d - 1) x
+      → x .next < length t
+  fill-rest-inside F q X = fill-rest-in F q X .inside
+
+  -- and is filled with it
   pub fill-next : {i′ f : ℕ} {js′ js″ : List ℕ} {x : Counted} → Filling t i d n js i′ js′ → (getD t i′ 0 ≡ 0 → ⊥) → CountsInstr t i′ (d - 1) x
       → Onward t (x .next) n f → FillsInstr t i′ (d - 1) f js′ js″ → Filling t i d n js (x .next) js″
   fill-next {i′} {f} {js′} {js″} {x} F q X O I = record {
@@ -276,16 +291,24 @@ module _ {t : List ℕ} {i d n : ℕ} {js : List ℕ} where
         let same : getD js″ i′ 0 ≡ n = ap (λ (z : List ℕ). getD z i′ 0) S ∙ getD-set-same js′ i′ n 0 low in
         rw (v .0, v .1, S) (record {
           beside = beside-set js′ i′ n;
-          entries = λ ps m c a l k y r p. only ps m c (subst (λ (z : ℕ). Settled ps m z c) (sym (rw S at same)) l) k y r p;
+          entries = λ ps m c a l k y r p. only (set js′ i′ n) ps m c (subst (λ (z : ℕ). Settled ps m z c) (sym (rw S at same)) l) k y r p;
         });
   })
     where
-      only : {v : List ℕ} (ps : List (Proc Plain)) (m : ℕ) (c : Block Plain) → Settled ps m (getD v i′ 0) c → (k : ℕ) (y r : Block Plain)
+      only : (v : List ℕ) (ps : List (Proc Plain)) (m : ℕ) (c : Block Plain) → Settled ps m (getD v i′ 0) c → (k : ℕ) (y r : Block Plain)
           → Spot k y r i′ end c → Entry ps m (getD v k 0) y r
-      only ps m c l k y r (here e f g) = rw (← e, ← f, ← g) l
+      only v ps m c l k y r (here e f g) = rw (← e, ← f, ← g) (entry-to refl l)
+
+-- the second branch
+pub else-inside : {t : List ℕ} {i d k : ℕ} {x : Counted} → InstrIn t i d → getD t i 0 ≡ 0x24 → ExprEnds t (i + 1) k → CountsBlock t k d x → x .next < length t
+else-inside h q K X = else-in h q K X .inside
+
+-- where code goes on there is an entry
+pub onward-below : {t : List ℕ} {i n f : ℕ} → Onward t i n f → n < positions → length t ≤ positions → f < positions
+onward-below O h l = O .below h l
 
 -- one law for each way
-pub ruleset fill-ways = (body-in, then-in, else-in, fills-plain, fills-while, fills-if, fill-start, fill-instr-in, fill-rest-in, fill-next, fill-end)
+pub ruleset fill-ways = (else-inside, onward-below, fill-rest-inside, body-in, then-in, else-in, fills-plain, fills-while, fills-if, fill-start, fill-instr-in, fill-rest-in, fill-next, fill-end)
 
 -- ---- all bodies
 

@@ -3,6 +3,7 @@ use Prim.Native.Nat.{ℕ, _≤_, _<_}
 use mathlib.Core.Path.{_≡_}
 use mathlib.Core.List.{List}
 use lib.ListN.{length, getD}
+use Rattle.value.specs.Maybe.{Maybe, is, nothing}
 use Rattle.reader.specs.Syntax.{Instr, assign, write, read, while, if, call, atomic, select, Block, end, step, _⊕_, Proc, Plain}
 use Rattle.reader.specs.Spots.{Spot, Inner, CodeAt}
 use Rattle.reader.specs.Walks.{BodiesAt}
@@ -18,18 +19,22 @@ pub data Settled (ps : List (Proc Plain)) (m k : ℕ) (x : Block Plain) : Type 0
   last : CodeAt ps m k end end → x ≡ end → Settled ps m k x
   first : (i : Instr Plain) (d r : Block Plain) → CodeAt ps m k (step tt i d) r → x ≡ step tt i (d ⊕ r) → Settled ps m k x
 
--- v is the right entry for a position where d stands and r remains after it: "After the last instruction of a while body comes the
--- while; after the last of a branch, what follows the if"
-abbrev pub Entry : List (Proc Plain) → ℕ → ℕ → Block Plain → Block Plain → Type 0
-Entry ps m v end r = Settled ps m v r
-Entry ps m v (step a (while e b) d) r = Settled ps m v (d ⊕ r)
-Entry ps m v (step a (if e b f) d) r = Settled ps m v (f ⊕ (d ⊕ r))
-Entry ps m v (step a (assign x e) d) r = Unit {0}
-Entry ps m v (step a (write y o e) d) r = Unit {0}
-Entry ps m v (step a (read x y o) d) r = Unit {0}
-Entry ps m v (step a (call n es) d) r = Unit {0}
-Entry ps m v (step a (atomic b) d) r = Unit {0}
-Entry ps m v (step a (select x y) d) r = Unit {0}
+-- where d stands and r remains after it: the code that follows a block that ends there, or a test that fails. "After the last
+-- instruction of a while body comes the while; after the last of a branch, what follows the if"
+abbrev pub beyond : Block Plain → Block Plain → Maybe (Block Plain)
+beyond end r = is r
+beyond (step a (while e b) d) r = is (d ⊕ r)
+beyond (step a (if e b f) d) r = is (f ⊕ (d ⊕ r))
+beyond (step a (assign x e) d) r = nothing
+beyond (step a (write y o e) d) r = nothing
+beyond (step a (read x y o) d) r = nothing
+beyond (step a (call n es) d) r = nothing
+beyond (step a (atomic b) d) r = nothing
+beyond (step a (select x y) d) r = nothing
+
+-- v is the right entry there
+pub record Entry (ps : List (Proc Plain)) (m v : ℕ) (d r : Block Plain) : Type 0 where
+  pub goes : (x : Block Plain) → beyond d r ≡ is x → Settled ps m v x
 
 -- each entry is right
 pub record Jumps (ps : List (Proc Plain)) (js : List ℕ) : Type 0 where
