@@ -8,3 +8,5 @@ pub mod Operands
 pub mod Jumping
 -- the evaluator, way by way
 pub mod Evaluating
+-- finding a cell, way by way
+pub mod Placing
