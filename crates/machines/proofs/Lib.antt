@@ -10,3 +10,5 @@ pub mod Jumping
 pub mod Evaluating
 -- finding a cell, way by way
 pub mod Placing
+-- the stack of frames
+pub mod Framing
