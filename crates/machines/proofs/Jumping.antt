@@ -25,7 +25,7 @@ use Rattle.reader.specs.Laws.Spots.{itself, onward, spot-after, spot-body, spot
 use Rattle.reader.specs.declared.labels.Counted.{Counted}
 use Rattle.reader.proofs.Counting.{instr-in, block-in, body-in, then-in, else-in, then-counts, expr-after}
 use Rattle.machines.specs.Work.{Beside}
-use Rattle.machines.specs.Jumps.{positions, Settled, last, first, beyond, Entry, Jumps, Onward, FilledBlock, FilledInstr, FillsBlock, FillsInstr, FillsJumps}
+use Rattle.machines.specs.Jumps.{positions, Settled, last, first, beyond, Entry, Jumps, Onward, FilledBlock, FilledInstr, FillsBlock, FillsInstr, FillsJumps, Settles}
 use Rattle.machines.specs.Laws.Work.{beside-same, beside-set}
 
 -- ---- numbers stored here and there
@@ -423,3 +423,17 @@ module _ {t : List ℕ} {c : ℕ} {js : List ℕ} where
 
 -- one law for each way through the loop over the bodies
 pub ruleset bodies-ways = (bodies-start, bodies-in, bodies-next, bodies-end)
+
+-- ---- going on
+
+module _ {t js : List ℕ} {k : ℕ} where
+  -- at a block's end
+  pub settles-end : {v : ℕ} → getD t k 0 ≡ 0 → v ≡ getD js k 0 → Settles t js k v
+  settles-end q e = record { ended = λ z. e; other = λ n. absurd (n q) }
+
+  -- elsewhere
+  pub settles-here : (getD t k 0 ≡ 0 → ⊥) → Settles t js k k
+  settles-here n = record { ended = λ q. absurd (n q); other = λ z. refl }
+
+-- one law for each way
+pub ruleset settle-ways = (settles-end, settles-here)

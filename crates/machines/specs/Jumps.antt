@@ -73,3 +73,10 @@ pub record FillsInstr (t : List ℕ) (i d n : ℕ) (js js′ : List ℕ) : Type 
 -- of the bodies of c procedures
 pub record FillsJumps (t : List ℕ) (c : ℕ) (js js′ : List ℕ) : Type 0 where
   pub gives : length js ≡ positions → length t ≤ positions → (ps : List (Proc Plain)) (j : ℕ) → BodiesAt t 0 c ps j → Jumps ps js′
+
+-- ---- what going on promises
+
+-- the entry of k at a block's end, and k elsewhere
+pub record Settles (t js : List ℕ) (k v : ℕ) : Type 0 where
+  pub ended : getD t k 0 ≡ 0 → v ≡ getD js k 0
+  pub other : (getD t k 0 ≡ 0 → ⊥) → v ≡ k

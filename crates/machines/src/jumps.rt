@@ -11,7 +11,7 @@ ghost use mathlib.Core.Path.{_≡_};
 ghost use Prim.Native.Nat.{_≤_, _<_};
 ghost use lib.ListN.{length};
 ghost use Rattle.reader.specs.Walks.{BlockIn, InstrIn, BodiesIn};
-ghost use Rattle.machines.specs.Jumps.{positions, Onward, FillsBlock, FillsInstr, FillsJumps};
+ghost use Rattle.machines.specs.Jumps.{positions, Onward, FillsBlock, FillsInstr, FillsJumps, Settles};
 
 // "over 65,536 bytes" is refused.
 pub const POSITIONS: usize = 65536;
@@ -80,4 +80,19 @@ pub fn fill(t: &[u8], procedures: usize, jumps: &mut [u16; POSITIONS])
         at = next;
         m += 1;
     }
+}
+
+// An entry as a position.
+fn wide(entry: u16) -> usize
+    ensures { λ r. ⌜ r ≡ entry ⌝ }
+{
+    entry as usize
+}
+
+// Where a run goes on whose next block, or the rest of one, stands at `at`.
+pub fn settle(t: &[u8], jumps: &[u16; POSITIONS], at: usize) -> usize
+    requires { ⌜ (at < length (now t)) × (length (now t) ≤ positions) ⌝ }
+    ensures { λ r. ⌜ Settles (now (t .entry)) (now (jumps .entry)) at r ⌝ }
+{
+    if t[at] == END { wide(jumps[at]) } else { at }
 }
