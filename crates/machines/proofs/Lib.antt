@@ -12,3 +12,5 @@ pub mod Evaluating
 pub mod Placing
 -- the stack of frames
 pub mod Framing
+-- what stands where a run goes on
+pub mod Standing
