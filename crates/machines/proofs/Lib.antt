@@ -14,3 +14,5 @@ pub mod Placing
 pub mod Framing
 -- what stands where a run goes on
 pub mod Standing
+-- one step of the definition, instruction by instruction
+pub mod Nexts
