@@ -16,3 +16,5 @@ pub mod Framing
 pub mod Standing
 -- one step of the definition, instruction by instruction
 pub mod Nexts
+-- carrying out a step, way by way
+pub mod Carrying

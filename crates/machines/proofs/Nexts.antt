@@ -28,6 +28,15 @@ recoded f b = record { proc = f .proc; env = f .env; code = b }
 abbrev pub rebound : Frame Plain → ℕ → Value → Block Plain → Frame Plain
 rebound f x v b = record { proc = f .proc; env = bound (f .env) x v; code = b }
 
+-- the event of a cell
+abbrev pub eventAt : C.Config → Bool → ℕ → ℕ → Value → Event
+eventAt c true l i v = record { thread = c .last; way = writing; place = l; index = i; value = v }
+eventAt c false l i v = record { thread = c .last; way = reading; place = l; index = i; value = v }
+
+-- the events after it
+abbrev pub eventsWith : ℕ → C.Config → Event → List Event
+eventsWith h c e = pick (ltb (e .place) h) (c .events ++ (e ∷ [])) (c .events)
+
 module _ (h : ℕ) (procs : List (Proc Plain)) (c : C.Config) where
   -- no frame is left
   pub next-none : c .stack ≡ [] → C.next h procs c ≡ C.ended finished
@@ -43,25 +52,16 @@ module _ (h : ℕ) (procs : List (Proc Plain)) (c : C.Config) where
         → C.next h procs c ≡ C.goes (restacked c (rebound f x v b ∷ s))
     next-assign q w = rw (e, q, w)
 
-    -- the event of a cell
-    abbrev pub eventAt : Bool → ℕ → ℕ → Value → Event
-    eventAt true l i v = record { thread = c .last; way = writing; place = l; index = i; value = v }
-    eventAt false l i v = record { thread = c .last; way = reading; place = l; index = i; value = v }
-
-    -- the events after it
-    abbrev pub eventsWith : Event → List Event
-    eventsWith ev = pick (ltb (ev .place) h) (c .events ++ (ev ∷ [])) (c .events)
-
     -- x := y[o]
     pub next-read : {x y : ℕ} {o : Expr} {b : Block Plain} {i l : ℕ} {v : Value} → f .code ≡ step tt (read x y o) b → (eval (f .env) o >>= index) ≡ is i
         → (lookup (f .env) y >>= place) ≡ is l → cell (c .memory) l i ≡ is v
-        → C.next h procs c ≡ C.goes (record { stack = rebound f x v b ∷ s; memory = c .memory; todo = c .todo; last = c .last; events = eventsWith (eventAt false l i v) })
+        → C.next h procs c ≡ C.goes (record { stack = rebound f x v b ∷ s; memory = c .memory; todo = c .todo; last = c .last; events = eventsWith h c (eventAt c false l i v) })
     next-read q u w z = rw (e, q, u, w, z)
 
     -- y[o] := e
     pub next-write : {y : ℕ} {o a : Expr} {b : Block Plain} {i l : ℕ} {v u : Value} → f .code ≡ step tt (write y o a) b → eval (f .env) a ≡ is v
         → (eval (f .env) o >>= index) ≡ is i → (lookup (f .env) y >>= place) ≡ is l → cell (c .memory) l i ≡ is u
-        → C.next h procs c ≡ C.goes (record { stack = recoded f b ∷ s; memory = stored (c .memory) l i v; todo = c .todo; last = c .last; events = eventsWith (eventAt true l i v) })
+        → C.next h procs c ≡ C.goes (record { stack = recoded f b ∷ s; memory = stored (c .memory) l i v; todo = c .todo; last = c .last; events = eventsWith h c (eventAt c true l i v) })
     next-write q r u w z = rw (e, q, r, u, w, z)
 
     -- while

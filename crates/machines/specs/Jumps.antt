@@ -2,6 +2,7 @@
 use Prim.Native.Nat.{ℕ, _≤_, _<_}
 use mathlib.Core.Path.{_≡_}
 use mathlib.Core.List.{List}
+use mathlib.Core.Bool.{Bool, true, false}
 use lib.ListN.{length, getD}
 use Rattle.value.specs.Maybe.{Maybe, is, nothing}
 use Rattle.reader.specs.Syntax.{Instr, assign, write, read, while, if, call, atomic, select, Block, end, step, _⊕_, Proc, Plain}
@@ -80,3 +81,8 @@ pub record FillsJumps (t : List ℕ) (c : ℕ) (js js′ : List ℕ) : Type 0 wh
 pub record Settles (t js : List ℕ) (k v : ℕ) : Type 0 where
   pub ended : getD t k 0 ≡ 0 → v ≡ getD js k 0
   pub other : (getD t k 0 ≡ 0 → ⊥) → v ≡ k
+
+-- after a test at k: where its block begins, at n, or the entry of k
+pub record Branches (t js : List ℕ) (k : ℕ) (q : Bool) (n v : ℕ) : Type 0 where
+  pub yes : q ≡ true → Settles t js n v
+  pub no : q ≡ false → v ≡ getD js k 0

@@ -1,0 +1,134 @@
+-- The sequential machine at work: what its code keeps, which step is due, and what a step leaves.
+use Prim.Native.Nat.{ℕ, _+_, _*_, _≤_}
+use mathlib.Core.Path.{_≡_}
+use mathlib.Core.List.{List, [], _∷_, _++_, map}
+use lib.ListN.{length, getD, set, drop}
+use lib.Dec.{ltb}
+use Rattle.value.specs.Maybe.{Maybe, is, nothing, pick}
+use Rattle.value.specs.Values.{numberAt}
+use Rattle.value.specs.declared.Value.{Value}
+use Rattle.reader.specs.Syntax.{Expr, Instr, assign, write, read, while, if, call, atomic, select, Block, end, step, _⊕_, Program, Plain, sequential}
+use Rattle.reader.specs.Encode.{expr, instr, table}
+use Rattle.reader.specs.Spots.{CodeAt}
+use Rattle.reader.specs.Laws.Sound.{Sound}
+use Rattle.reader.specs.Laws.TablePlaces.{recordsAt}
+use Rattle.machines.specs.declared.decide.Step.{Step}
+use Rattle.machines.specs.declared.decide.Step.the-variants.{Return, Blocked}
+use Rattle.machines.specs.declared.sequential.State.{State}
+use Rattle.machines.specs.Memory.{evals, Event}
+use Rattle.machines.specs.Step.{Frame, Stack}
+use Rattle.machines.specs.Copy as C
+use Rattle.machines.specs.Work.{Clears, frameWords, Framed, Holds, Bases}
+use Rattle.machines.specs.Events.{Logged}
+use Rattle.machines.specs.Decided.{Act, assigns, writes, reads, tests, calls, decided, chosen}
+use Rattle.machines.specs.Jumps.{positions, Jumps}
+use Rattle.machines.specs.Frames.{Stacked}
+use Rattle.machines.specs.Laws.Cells.{shape}
+
+-- ---- what a run keeps
+
+-- "P not 1..512": so many frames, and none of number 0
+abbrev pub mostFrames : ℕ
+mostFrames = 512
+
+-- the table of a program that keeps the rules, where its records begin, its jump table and its first cells
+pub record Loaded (t : List ℕ) (records : ℕ) (js ss : List ℕ) : Type 0 where
+  pub program : Program Plain
+  pub same : t ≡ table sequential program
+  pub sound : Sound sequential program
+  pub place : records ≡ recordsAt program
+  pub jumps : Jumps (program .procs) js
+  pub starts : Bases (program .sizes) ss
+
+-- the words of the locals, the positions of the callers, the words of the cells, the lent buffer of events and the state s are a
+-- configuration, where ts is the schedule and `lent` the buffer as it was lent
+pub record Present (p : Program Plain) (lent ts ls bs cs es : List ℕ) (s : State) (c : C.Config) : Type 0 where
+  pub depth : s .depth ≡ length (c .stack)
+  pub frames : Stacked (p .procs) ls bs (s .at) (c .stack)
+  pub backs : length bs ≡ mostFrames + 1
+  pub memory : Holds (c .memory) cs
+  pub sizes : shape (c .memory) ≡ p .sizes
+  pub todo : c .todo ≡ drop (s .taken) ts
+  pub taken : s .taken ≤ length ts
+  pub last : c .last ≡ s .thread
+  pub events : Logged lent (c .events) es (s .events)
+
+-- ---- the step that is due
+
+-- what an instruction asks; select asks the schedule
+abbrev pub actOf : Instr Plain → Maybe Act
+actOf (assign x e) = is (assigns x e)
+actOf (write y o e) = is (writes y o e)
+actOf (read x y o) = is (reads x y o)
+actOf (while e b) = is (tests e)
+actOf (if e b f) = is (tests e)
+actOf (call m es) = is (calls m es)
+actOf (atomic b) = nothing
+actOf (select a b) = nothing
+
+-- where an instruction at k ends, or its test
+abbrev pub endOf : ℕ → Instr Plain → ℕ
+endOf k (assign x e) = k + length (instr {A = Plain} (assign x e))
+endOf k (write y o e) = k + length (instr {A = Plain} (write y o e))
+endOf k (read x y o) = k + length (instr {A = Plain} (read x y o))
+endOf k (while e b) = k + 1 + length (expr e)
+endOf k (if e b f) = k + 1 + length (expr e)
+endOf k (call m es) = k + length (instr {A = Plain} (call m es))
+endOf k (atomic b) = k + length (instr (atomic b))
+endOf k (select a b) = k + length (instr {A = Plain} (select a b))
+
+-- the step x is decided for the frame f, whose code goes on at k
+pub data Decision (p : Program Plain) (c : C.Config) (f : Frame Plain) (k : ℕ) (x : Step) : Type 0 where
+  leaves : f .code ≡ end → x ≡ Return → Decision p c f k x
+  acts : (i : Instr Plain) (d r : Block Plain) (a : Act) → CodeAt (p .procs) (f .proc) k (step tt i d) r → f .code ≡ step tt i (d ⊕ r) → actOf i ≡ is a
+      → x ≡ decided (f .env) (c .memory) a (endOf k i) → Decision p c f k x
+  selects : (a b t : ℕ) (ts : List ℕ) (d r : Block Plain) → CodeAt (p .procs) (f .proc) k (step tt (select a b) d) r
+      → f .code ≡ step tt (select a b) (d ⊕ r) → c .todo ≡ t ∷ ts → x ≡ chosen (c .memory) a b t (endOf k (select a b)) → Decision p c f k x
+
+-- the step x is due, and does not block
+pub record Due (t : List ℕ) (records : ℕ) (ts js ss ls bs cs es : List ℕ) (s : State) (x : Step) : Type 0 where
+  pub loaded : Loaded t records js ss
+  pub lent : List ℕ
+  pub config : C.Config
+  pub present : Present (loaded .program) lent ts ls bs cs es s config
+  pub frame : Frame Plain
+  pub below : Stack Plain
+  pub stack : config .stack ≡ frame ∷ below
+  pub decision : Decision (loaded .program) config frame (s .at) x
+  pub args : (m : ℕ) (es : List Expr) (b : Block Plain) (vs : List Value) → frame .code ≡ step tt (call m es) b → evals (frame .env) es ≡ is vs
+      → Framed ls (frameWords * s .depth) (map is vs)
+  pub going : x ≡ Blocked → ⊥
+  pub some : 1 ≤ s .depth
+  pub few : s .depth ≤ mostFrames
+  pub small : length t ≤ positions
+
+-- ---- what it leaves
+
+-- "records only locations below h": an event was written as number n, or not
+pub record Recorded (h : ℕ) (es : List ℕ) (n : ℕ) (e : Event) (es′ : List ℕ) (n′ : ℕ) : Type 0 where
+  pub logged : (lent : List ℕ) (evs : List Event) → Logged lent evs es n → Logged lent (pick (ltb (e .place) h) (evs ++ (e ∷ [])) evs) es′ n′
+  pub most : n′ ≤ n + 1
+
+-- there is room for the frame of procedure m above d others, and its record is right
+pub record Enterable (t : List ℕ) (records d m : ℕ) : Type 0 where
+  pub inside : records + 6 * m + 6 ≤ length t
+  pub params : getD t (records + 6 * m) 0 ≤ getD t (records + 6 * m + 1) 0
+  pub locals : getD t (records + 6 * m + 1) 0 ≤ frameWords
+  pub few : d ≤ mostFrames
+
+-- procedure m began above d frames, the topmost of which goes on at k; its body begins at v
+pub record Enters (t : List ℕ) (records d m k : ℕ) (ls bs ls′ bs′ : List ℕ) (v : ℕ) : Type 0 where
+  pub back : bs′ ≡ set bs d k
+  pub clears : Clears ls ls′ (frameWords * d + getD t (records + 6 * m) 0) (frameWords * d + getD t (records + 6 * m + 1) 0)
+  pub start : v ≡ numberAt 4 t (records + 6 * m + 2)
+
+-- the definition's step from c, and its configuration at work
+pub record Moves (p : Program Plain) (lent ts : List ℕ) (h : ℕ) (c : C.Config) (ls bs cs es : List ℕ) (s : State) : Type 0 where
+  pub config : C.Config
+  pub goes : C.next h (p .procs) c ≡ C.goes config
+  pub present : Present p lent ts ls bs cs es s config
+
+-- the step that is due was carried out
+pub record CarriesOut (t : List ℕ) (records : ℕ) (ts js ss : List ℕ) (h : ℕ) (ls bs cs es : List ℕ) (s : State) (x : Step) (ls′ bs′ cs′ es′ : List ℕ)
+    (s′ : State) : Type 0 where
+  pub moves : (d : Due t records ts js ss ls bs cs es s x) → Moves (d .loaded .program) (d .lent) ts h (d .config) ls′ bs′ cs′ es′ s′
