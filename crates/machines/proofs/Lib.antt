@@ -18,3 +18,5 @@ pub mod Standing
 pub mod Nexts
 -- carrying out a step, way by way
 pub mod Carrying
+-- deciding a step, way by way
+pub mod Deciding

@@ -2,11 +2,19 @@
 use value::bytes::join;
 use value::bytes::pair;
 ghost use mathlib.Core.Path.{_≡_};
-ghost use Prim.Native.Nat.{_+_, _≤_};
-ghost use lib.ListN.{length};
+ghost use Prim.Native.Nat.{_+_, _≤_, _<_};
+ghost use lib.ListN.{length, getD};
 ghost use Rattle.value.specs.Values.{numberAt};
 
-// The number of two bytes.
+// The number of one byte.
+pub fn byte(t: &[u8], at: usize) -> usize
+    requires { ⌜ at < length (now t) ⌝ }
+    ensures { λ r. ⌜ (r ≡ getD (now (t .entry)) at 0) × (r < 256) ⌝ }
+{
+    t[at] as usize
+}
+
+// The number of two.
 pub fn two(t: &[u8], at: usize) -> u16
     requires { ⌜ at + 2 ≤ length (now t) ⌝ }
     ensures { λ r. ⌜ r ≡ numberAt 2 (now (t .entry)) at ⌝ }

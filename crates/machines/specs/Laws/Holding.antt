@@ -61,6 +61,12 @@ flat-below [] l i h = absurd (omega arith)
 flat-below (row ∷ η) zero i h = omega (arith, length-append row (flat η))
 flat-below (row ∷ η) (suc l) i h = omega (arith, length-append row (flat η), flat-below η l i h)
 
+-- a cell has something in it
+pub cell-full : (η : Memory) {l i k : ℕ} → IsCell η l i k → (u : Value) × (cell η l i ≡ is u)
+cell-full η {l} {i} c =
+    let n : ℕ = sum (take l (shape η)) + i in
+    (getD (flat η) n (Whole (pos 0)), flat-cell η l i (c .size) ∙ at-getD (flat η) n (Whole (pos 0)) (flat-below η l i (c .size)))
+
 -- a store past the first of two rows
 set-after : {A : Type 0} (xs ys : List A) (k : ℕ) (a : A) → set (xs ++ ys) (length xs + k) a ≡ xs ++ set ys k a
 set-after [] ys k a = let none : 0 + k ≡ k = omega arith in rw none
@@ -94,12 +100,6 @@ module _ {η : Memory} {cs : List ℕ} (h : Holds η cs) where
   -- and the word holds what the cell does
   pub cell-held : {l i k : ℕ} → IsCell η l i k → held (getD cs k 0) ≡ cell η l i
   cell-held {l} {i} c = rw (c .number) (h .each (sum (take l (shape η)) + i) (flat-below η l i (c .size)) ∙ sym (flat-cell η l i (c .size)))
-
-  -- there is something in it
-  pub cell-full : {l i k : ℕ} → IsCell η l i k → (u : Value) × (cell η l i ≡ is u)
-  cell-full {l} {i} c =
-      let u : Value = getD (flat η) (sum (take l (shape η)) + i) (Whole (pos 0)) in
-      (u, flat-cell η l i (c .size) ∙ at-getD (flat η) (sum (take l (shape η)) + i) (Whole (pos 0)) (flat-below η l i (c .size)))
 
   -- a store
   pub holds-put : {l i k : ℕ} {v : Value} {cs′ : List ℕ} → IsCell η l i k → Puts cs cs′ k v → Holds (stored η l i v) cs′

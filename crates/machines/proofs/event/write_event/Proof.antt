@@ -20,9 +20,24 @@ write-event-spec =
     (λ c. search needs)
     (λ c κs. simp length-set (omega arith))
     (λ c. search needs)
-    (λ c κs. let long : length (c .before .before .before .write-two .last .0) ≡ length (c .before .before .before .before .before .before .before .before .args .out .now) = c .before .before .before .write-two .kept .0 ∙ simp length-set in omega arith)
+    (λ c κs.
+    let first = c .before .before .before in
+    let a = first .before .before .before .before .before .args in
+    let long : length (first .write-two .last .0) ≡ length (a .out .now) = first .write-two .kept .0 ∙ simp length-set in
+    omega arith)
     (λ c. search needs)
     (λ c κs. search needs)
-    (λ c. c .before .before .write-value .kept .0 ∙ c .before .before .before .before .before .before .write-two2 .kept .0 ∙ c .before .before .before .before .before .before .before .before .before .before .write-two .kept .0 ∙ simp length-set)
-    (λ c. let a = c .before .before .before .before .before .before .before .before .before .before .before .before .before .before .before .args in event-stored (a .out .now) (a .count) (eventOf (a .e)) (c .before .before .before .before .before .before .before .before .before .before .before .before .before .if1 .taken) (c .before .before .before .before .before .before .before .before .before .before .before .before .way .ensures) (c .before .before .before .before .before .before .before .before .before .before .write-two .ensures) (c .before .before .before .before .before .before .write-two2 .ensures) (c .before .before .write-value .ensures .1))
+    (λ c.
+    let last = c .before .before in
+    let second = last .before .before .before .before in
+    let first = second .before .before .before .before in
+    last .write-value .kept .0 ∙ second .write-two2 .kept .0 ∙ first .write-two .kept .0 ∙ simp length-set)
+    (λ c.
+    let last = c .before .before in
+    let second = last .before .before .before .before in
+    let first = second .before .before .before .before in
+    let test = first .before .before .before in
+    let a = test .before .before .args in
+    event-stored (a .out .now) (a .count) (eventOf (a .e)) (test .if1 .taken) (first .before .before .way .ensures)
+    (first .write-two .ensures) (second .write-two2 .ensures) (last .write-value .ensures .1))
     (λ c. let a = c .before .before .args in event-past (a .out .now) (a .count) (eventOf (a .e)) (c .if1 .left)))

@@ -1,0 +1,296 @@
+-- Deciding a step, way by way.
+use Prim.Native.Nat.{ℕ, _+_, _≤_, _<_}
+use native.Mathlib.Omega.{arith}
+use mathlib.Core.Path.{_≡_, refl, sym, ap, ap₂, subst, _∙_}
+use mathlib.Core.Logic.{⊎-elim}
+use mathlib.Core.List.{List, [], _∷_}
+use mathlib.Core.Bool.{Bool, true, false}
+use lib.ListN.{length, getD}
+use types.Run.{OneOf, miss}
+use denote.Enum.Declared.{tagOf}
+use Rattle.value.proofs.Value.{the-type}
+use Rattle.value.specs.Maybe.{Maybe, is, nothing, _>>=_}
+use Rattle.value.specs.Values.{given}
+use Rattle.value.specs.declared.Value.{Value}
+use Rattle.value.specs.declared.Value.the-variants.{Whole, Location, Truth}
+use Rattle.value.specs.declared.Answer.{Answer}
+use Rattle.value.specs.declared.Answer.the-variants.{Is, Nothing}
+use Rattle.reader.specs.Syntax.{Expr}
+use Rattle.reader.specs.Laws.Grammar.{ExprAt, expr-inside}
+use Rattle.machines.specs.declared.evaluate.Valued.{Valued}
+use Rattle.machines.specs.declared.memory.Spot.{Spot}
+use Rattle.machines.specs.declared.memory.Spot.the-variants.{At, Nowhere}
+use Rattle.machines.specs.declared.decide.Step.{Step}
+use Rattle.machines.specs.declared.decide.Step.the-variants.{Return, Assign, Read, Write, Test, Call, Select, Blocked}
+use Rattle.machines.specs.Memory.{Env, lookup, eval, index, place, truth, Memory, cell}
+use Rattle.machines.specs.Work.{localWords, Framed, cellWords, Holds, Bases, IsCell, Placed, Places}
+use Rattle.machines.specs.Words.{held}
+use Rattle.machines.specs.Evaluated.{Below, Ready, Evaluates}
+use Rattle.machines.specs.Laws.Cells.{shape}
+use Rattle.machines.specs.Laws.Holding.{cell-full, cell-word, cell-held}
+use Rattle.machines.specs.Decided.{Act, assigns, writes, reads, tests, calls, returns, numberOf, decided, orBlocked, AssignHere, WriteHere, ReadHere, Tests, TestHere, CallHere, ActAt, Poised, Laid, Lies, Kept, Decides}
+
+-- ---- what stands there, by its mark
+
+module _ {t : List ℕ} {i n : ℕ} where
+  -- "20 x e"
+  see-assign : (a : Act) {j : ℕ} → ActAt t i n a j → getD t i 0 ≡ 0x20 → (x : ℕ) × (e : Expr) × (a ≡ assigns x e) × AssignHere t i n x e j
+  see-assign (assigns x e) h q = (x, e, refl, h)
+  see-assign (writes y o e) h q = absurd (omega (arith, h .mark))
+  see-assign (reads x y o) h q = absurd (omega (arith, h .mark))
+  see-assign (tests e) h q = absurd (⊎-elim (λ m. omega arith) (λ m. omega arith) (h .mark))
+  see-assign (calls m es) h q = absurd (omega (arith, h .mark))
+  see-assign returns h q = absurd (omega (arith, h .mark))
+
+  -- "21 y o e"
+  see-write : (a : Act) {j : ℕ} → ActAt t i n a j → getD t i 0 ≡ 0x21 → (y : ℕ) × (o e : Expr) × (a ≡ writes y o e) × WriteHere t i n y o e j
+  see-write (writes y o e) h q = (y, o, e, refl, h)
+  see-write (assigns x e) h q = absurd (omega (arith, h .mark))
+  see-write (reads x y o) h q = absurd (omega (arith, h .mark))
+  see-write (tests e) h q = absurd (⊎-elim (λ m. omega arith) (λ m. omega arith) (h .mark))
+  see-write (calls m es) h q = absurd (omega (arith, h .mark))
+  see-write returns h q = absurd (omega (arith, h .mark))
+
+  -- "22 x y o"
+  see-read : (a : Act) {j : ℕ} → ActAt t i n a j → getD t i 0 ≡ 0x22 → (x y : ℕ) × (o : Expr) × (a ≡ reads x y o) × ReadHere t i n x y o j
+  see-read (reads x y o) h q = (x, y, o, refl, h)
+  see-read (assigns x e) h q = absurd (omega (arith, h .mark))
+  see-read (writes y o e) h q = absurd (omega (arith, h .mark))
+  see-read (tests e) h q = absurd (⊎-elim (λ m. omega arith) (λ m. omega arith) (h .mark))
+  see-read (calls m es) h q = absurd (omega (arith, h .mark))
+  see-read returns h q = absurd (omega (arith, h .mark))
+
+  -- "23 e block", "24 e block block"
+  see-test : (a : Act) {j : ℕ} → ActAt t i n a j → Tests t i → (e : Expr) × (a ≡ tests e) × TestHere t i n e j
+  see-test (tests e) h q = (e, refl, h)
+  see-test (assigns x e) h q = absurd (⊎-elim (λ m. omega (arith, h .mark)) (λ m. omega (arith, h .mark)) q)
+  see-test (writes y o e) h q = absurd (⊎-elim (λ m. omega (arith, h .mark)) (λ m. omega (arith, h .mark)) q)
+  see-test (reads x y o) h q = absurd (⊎-elim (λ m. omega (arith, h .mark)) (λ m. omega (arith, h .mark)) q)
+  see-test (calls m es) h q = absurd (⊎-elim (λ m. omega (arith, h .mark)) (λ m. omega (arith, h .mark)) q)
+  see-test returns h q = absurd (⊎-elim (λ m. omega (arith, h .mark)) (λ m. omega (arith, h .mark)) q)
+
+-- an expression of an instruction, over the instruction's frame
+abbrev ready : {t ls : List ℕ} {fb i j : ℕ} {ρ : Env} {e : Expr} → Framed ls fb ρ → ExprAt t i 16 e j → Below (length ρ) e → Ready t ls fb i 16
+ready {j = j} {ρ} {e} f h b = record { env = ρ; framed = f; e = e; j = j; here = h; below = b }
+
+module _ {t ls : List ℕ} {fb i : ℕ} where
+  -- ---- "x := e"
+
+  -- its expression
+  pub assign-ready : Poised t ls fb i → getD t i 0 ≡ 0x20 → Ready t ls fb (i + 2) 16
+  assign-ready h q = let s = see-assign (h .act) (h .here) q in ready (h .framed) (s .3 .source) (s .3 .below .1)
+
+  -- what its value decides
+  assign-step : {r : Valued} {x : ℕ} (h : Poised t ls fb i) (η : Memory) → getD t i 0 ≡ 0x20 → Evaluates t ls fb (i + 2) 16 r → x ≡ getD t (i + 1) 0
+      → orBlocked (given (r .answer) >>= λ v. is (Assign x v (r .next))) ≡ decided (h .env) η (h .act) (h .j)
+  assign-step {x = x} h η q E a =
+      let w = see-assign (h .act) (h .here) q in
+      let p = ready (h .framed) (w .3 .source) (w .3 .below .1) in
+      ap₂ (λ a j. orBlocked (a >>= λ v. is (Assign x v j))) (E .value p) (E .next p)
+      ∙ ap (λ x. orBlocked (eval (h .env) (w .1) >>= λ v. is (Assign x v (h .j)))) (a ∙ w .3 .target)
+      ∙ sym (ap (λ a. decided (h .env) η a (h .j)) (w .2))
+
+  -- it has none
+  pub assign-none : {M : Memory → Type 0} {r : Valued} → getD t i 0 ≡ 0x20 → Evaluates t ls fb (i + 2) 16 r → r .answer ≡ Nothing
+      → Decides t ls fb i M Blocked
+  assign-none q E e = record { step = λ h η m. rw (ap given e) at (assign-step h η q E refl) }
+
+  -- it has one
+  pub assign-some : {M : Memory → Type 0} {r : Valued} {v : Value} {x : ℕ} → getD t i 0 ≡ 0x20 → Evaluates t ls fb (i + 2) 16 r → r .answer ≡ Is v
+      → x ≡ getD t (i + 1) 0 → Decides t ls fb i M (Assign x v (r .next))
+  assign-some q E e a = record { step = λ h η m. rw (ap given e) at (assign-step h η q E a) }
+
+  -- ---- the test of a while or an if
+
+  -- its expression
+  pub test-ready : Poised t ls fb i → Tests t i → Ready t ls fb (i + 1) 16
+  test-ready h q = let s = see-test (h .act) (h .here) q in ready (h .framed) (s .2 .test) (s .2 .below)
+
+  -- what its value decides
+  test-step : {r : Valued} (h : Poised t ls fb i) (η : Memory) → Tests t i → Evaluates t ls fb (i + 1) 16 r
+      → orBlocked (given (r .answer) >>= truth >>= λ b. is (Test b (r .next))) ≡ decided (h .env) η (h .act) (h .j)
+  test-step h η q E =
+      let w = see-test (h .act) (h .here) q in
+      let p = ready (h .framed) (w .2 .test) (w .2 .below) in
+      ap₂ (λ a j. orBlocked (a >>= truth >>= λ b. is (Test b j))) (E .value p) (E .next p) ∙ sym (ap (λ a. decided (h .env) η a (h .j)) (w .1))
+
+  -- it has none
+  pub test-none : {M : Memory → Type 0} {r : Valued} → Tests t i → Evaluates t ls fb (i + 1) 16 r → r .answer ≡ Nothing → Decides t ls fb i M Blocked
+  test-none q E e = record { step = λ h η m. rw (ap given e) at (test-step h η q E) }
+
+  -- it has one of another kind
+  pub test-other : {M : Memory → Type 0} {r : Valued} {v : Value} → Tests t i → Evaluates t ls fb (i + 1) 16 r → r .answer ≡ Is v
+      → OneOf (0 ∷ 1 ∷ []) (tagOf the-type v) → Decides t ls fb i M Blocked
+  test-other {v = v} q E e k = record { step = λ h η m. rw (ap given e, no-truth v k) at (test-step h η q E) }
+    where
+      no-truth : (v : Value) → OneOf (0 ∷ 1 ∷ []) (tagOf the-type v) → truth v ≡ nothing
+      no-truth (Truth b) h = absurd (miss (0 ∷ 1 ∷ []) 2 tt h)
+      no-truth (Whole z) h = refl
+      no-truth (Location l) h = refl
+
+  -- it is true or false
+  pub test-some : {M : Memory → Type 0} {r : Valued} {v : Value} {b : Bool} → Tests t i → Evaluates t ls fb (i + 1) 16 r → r .answer ≡ Is v
+      → v ≡ Truth b → Decides t ls fb i M (Test b (r .next))
+  test-some q E e f = record { step = λ h η m. rw (ap given e, f) at (test-step h η q E) }
+
+-- ---- a pointer and an index
+
+-- without a cell nothing is done
+nowhere : {A : Type 0} (η : Memory) (a b : Maybe ℕ) (f : ℕ → ℕ → Value → Maybe A) → (a >>= λ k. b >>= λ l. cell η l k) ≡ nothing
+    → (a >>= λ k. b >>= λ l. cell η l k >>= f l k) ≡ nothing
+nowhere η nothing b f e = refl
+nowhere η (is k) nothing f e = refl
+nowhere η (is k) (is l) f e = rw e
+
+-- what the cell of a pointer and an index holds
+in-cell : {bs cs : List ℕ} (p o : Maybe Value) (a : Answer) {s : Spot} {l j c : ℕ} → Places bs p o s → s ≡ At l j c → given a ≡ held (getD cs c 0)
+    → (η : Memory) → Lies bs cs η → ((o >>= index) ≡ is j) × ((p >>= place) ≡ is l) × (cell η l j ≡ given a)
+in-cell p o a P n r η m =
+    let found = subst (Placed η p o) n (P .placed η (m .bases)) in
+    (found .0, found .1, sym (r ∙ cell-held (m .holds) (found .2)))
+
+-- what a value, an index and a pointer decide
+abbrev write-of : Memory → ℕ → Maybe Value → Maybe Value → Maybe Value → Step
+write-of η j a o p =
+    orBlocked (a >>= λ v. o >>= index >>= λ k. p >>= place >>= λ l. cell η l k >>= λ _. is (Write l k (numberOf η l k) v j))
+
+-- and an index and a pointer alone
+abbrev read-of : Memory → ℕ → ℕ → Maybe Value → Maybe Value → Step
+read-of η x j o p = orBlocked (o >>= index >>= λ k. p >>= place >>= λ l. cell η l k >>= λ v. is (Read x l k v j))
+
+module _ {t ls : List ℕ} {fb i : ℕ} where
+  -- a local of the instruction is one of the frame's
+  word : {y k : ℕ} (h : Poised t ls fb i) → y < length (h .env) → k ≡ y → fb + k < localWords
+  word h l e = omega (arith, h .framed .room)
+
+  -- and what the frame says
+  holds : {y k : ℕ} {a : Maybe Value} (h : Poised t ls fb i) → y < length (h .env) → k ≡ y → a ≡ held (getD ls (fb + k) 0) → a ≡ lookup (h .env) y
+  holds {y} h l e g = g ∙ ap (λ k. held (getD ls (fb + k) 0)) e ∙ h .framed .each y l
+
+  -- ---- "y[o] := e"
+
+  -- its index
+  pub offset-ready : Poised t ls fb i → getD t i 0 ≡ 0x21 → Ready t ls fb (i + 2) 16
+  offset-ready h q = let w = see-write (h .act) (h .here) q in ready (h .framed) (w .4 .offset) (w .4 .below .1)
+
+  -- its value, after the index
+  source-at : {x : Valued} (h : Poised t ls fb i) (q : getD t i 0 ≡ 0x21) → Evaluates t ls fb (i + 2) 16 x
+      → let w = see-write (h .act) (h .here) q in ExprAt t (x .next) 16 (w .2) (h .j)
+  source-at {x} h q X =
+      let w = see-write (h .act) (h .here) q in
+      let k : x .next ≡ w .4 .k = X .next (ready (h .framed) (w .4 .offset) (w .4 .below .1)) in
+      rw k (w .4 .source)
+
+  pub source-ready : {x : Valued} → Poised t ls fb i → getD t i 0 ≡ 0x21 → Evaluates t ls fb (i + 2) 16 x → Ready t ls fb (x .next) 16
+  source-ready h q X = let w = see-write (h .act) (h .here) q in ready (h .framed) (source-at h q X) (w .4 .below .2)
+
+  -- its pointer
+  pub write-word : {k : ℕ} → Poised t ls fb i → getD t i 0 ≡ 0x21 → k ≡ getD t (i + 1) 0 → fb + k < localWords
+  write-word h q e = let w = see-write (h .act) (h .here) q in word h (w .4 .below .0) (e ∙ w .4 .pointer)
+
+  -- what they decide
+  write-step : {x y : Valued} (m : Maybe Value) (h : Poised t ls fb i) (η : Memory) (q : getD t i 0 ≡ 0x21) → Evaluates t ls fb (i + 2) 16 x
+      → Evaluates t ls fb (x .next) 16 y → m ≡ lookup (h .env) (see-write (h .act) (h .here) q .0)
+      → write-of η (y .next) (given (y .answer)) (given (x .answer)) m ≡ decided (h .env) η (h .act) (h .j)
+  write-step {x} {y} m h η q X Y g =
+      let w = see-write (h .act) (h .here) q in
+      let o = ready (h .framed) (w .4 .offset) (w .4 .below .1) in
+      let s = ready (h .framed) (source-at h q X) (w .4 .below .2) in
+      ap₂ (λ a j. write-of η j a (given (x .answer)) m) (Y .value s) (Y .next s)
+      ∙ ap₂ (λ o p. write-of η (h .j) (eval (h .env) (w .2)) o p) (X .value o) g
+      ∙ sym (ap (λ a. decided (h .env) η a (h .j)) (w .3))
+
+  -- the pointer as the code reads it
+  write-pointer : (h : Poised t ls fb i) (q : getD t i 0 ≡ 0x21) {a : Maybe Value} {k : ℕ} → k ≡ getD t (i + 1) 0 → a ≡ held (getD ls (fb + k) 0)
+      → a ≡ lookup (h .env) (see-write (h .act) (h .here) q .0)
+  write-pointer h q e g = let w = see-write (h .act) (h .here) q in holds h (w .4 .below .0) (e ∙ w .4 .pointer) g
+
+  module _ {bs : List ℕ} {x y : Valued} (q : getD t i 0 ≡ 0x21) (X : Evaluates t ls fb (i + 2) 16 x) (Y : Evaluates t ls fb (x .next) 16 y) where
+    -- there is no value
+    pub write-none : y .answer ≡ Nothing → Decides t ls fb i (Laid bs) Blocked
+    write-none e = record { step = λ h η b. rw (ap given e) at (write-step (lookup (h .env) (see-write (h .act) (h .here) q .0)) h η q X Y refl) }
+
+    -- there is no such cell
+    pub write-nowhere : (p : Answer) {k : ℕ} {v : Value} {s : Spot} → y .answer ≡ Is v → k ≡ getD t (i + 1) 0 → given p ≡ held (getD ls (fb + k) 0)
+        → Places bs (given p) (given (x .answer)) s → s ≡ Nowhere → Decides t ls fb i (Laid bs) Blocked
+    write-nowhere p {v = v} e a g P n = record {
+      step = λ h η b.
+          let none = nowhere η (given (x .answer) >>= index) (given p >>= place) (λ l k u. is (Write l k (numberOf η l k) v (y .next)))
+              (subst (Placed η (given p) (given (x .answer))) n (P .placed η (b .bases))) in
+          sym (ap orBlocked none) ∙ rw (ap given e) at (write-step (given p) h η q X Y (write-pointer h q a g));
+    }
+
+    -- there is one
+    pub write-some : (p : Answer) {k : ℕ} {v : Value} {s : Spot} {l j c : ℕ} → y .answer ≡ Is v → k ≡ getD t (i + 1) 0
+        → given p ≡ held (getD ls (fb + k) 0) → Places bs (given p) (given (x .answer)) s → s ≡ At l j c
+        → Decides t ls fb i (Laid bs) (Write l j c v (y .next))
+    write-some p {v = v} {l = l} {j} {c} e a g P n = record {
+      step = λ h η b.
+          let found = subst (Placed η (given p) (given (x .answer))) n (P .placed η (b .bases)) in
+          let full = cell-full η (found .2) in
+          let done = rw (ap given e, found .0, found .1, full .1) at (write-step (given p) h η q X Y (write-pointer h q a g)) in
+          ap (λ c. Write l j c v (y .next)) (found .2 .number) ∙ done;
+    }
+
+  -- ---- "x := y[o]"
+
+  -- its index
+  pub read-ready : Poised t ls fb i → getD t i 0 ≡ 0x22 → Ready t ls fb (i + 3) 16
+  read-ready h q = let w = see-read (h .act) (h .here) q in ready (h .framed) (w .4 .offset) (w .4 .below .2)
+
+  -- its pointer
+  pub read-word : {k : ℕ} → Poised t ls fb i → getD t i 0 ≡ 0x22 → k ≡ getD t (i + 2) 0 → fb + k < localWords
+  read-word h q e = let w = see-read (h .act) (h .here) q in word h (w .4 .below .1) (e ∙ w .4 .pointer)
+
+  -- what they decide
+  read-step : {x : Valued} {m : Maybe Value} {k z : ℕ} (h : Poised t ls fb i) (η : Memory) → getD t i 0 ≡ 0x22 → Evaluates t ls fb (i + 3) 16 x
+      → k ≡ getD t (i + 2) 0 → m ≡ held (getD ls (fb + k) 0) → z ≡ getD t (i + 1) 0
+      → read-of η z (x .next) (given (x .answer)) m ≡ decided (h .env) η (h .act) (h .j)
+  read-step {x} {m} {k} {z} h η q X e g a =
+      let w = see-read (h .act) (h .here) q in
+      let o = ready (h .framed) (w .4 .offset) (w .4 .below .2) in
+      ap₂ (λ a j. read-of η z j a m) (X .value o) (X .next o)
+      ∙ ap₂ (λ z p. read-of η z (h .j) (eval (h .env) (w .2)) p) (a ∙ w .4 .target) (holds h (w .4 .below .1) (e ∙ w .4 .pointer) g)
+      ∙ sym (ap (λ a. decided (h .env) η a (h .j)) (w .3))
+
+  module _ {bs cs : List ℕ} {x : Valued} (p : Answer) {k : ℕ} {s : Spot} (q : getD t i 0 ≡ 0x22) (X : Evaluates t ls fb (i + 3) 16 x)
+      (e : k ≡ getD t (i + 2) 0) (g : given p ≡ held (getD ls (fb + k) 0)) (P : Places bs (given p) (given (x .answer)) s) where
+    -- there is no such cell
+    pub read-nowhere : s ≡ Nowhere → Decides t ls fb i (Lies bs cs) Blocked
+    read-nowhere n = record {
+      step = λ h η m.
+          let none = nowhere η (given (x .answer) >>= index) (given p >>= place) (λ l k v. is (Read (getD t (i + 1) 0) l k v (x .next)))
+              (subst (Placed η (given p) (given (x .answer))) n (P .placed η (m .bases))) in
+          sym (ap orBlocked none) ∙ read-step h η q X e g refl;
+    }
+
+    -- it holds nothing
+    pub read-empty : {l j c : ℕ} (a : Answer) → s ≡ At l j c → given a ≡ held (getD cs c 0) → a ≡ Nothing
+        → Decides t ls fb i (Lies bs cs) Blocked
+    read-empty a n r f = record {
+      step = λ h η m.
+          let w = in-cell (given p) (given (x .answer)) a P n r η m in
+          rw (w .0, w .1, w .2, ap given f) at (read-step {z = getD t (i + 1) 0} h η q X e g refl);
+    }
+
+    -- it holds a value
+    pub read-some : {l j c z : ℕ} (a : Answer) {v : Value} → s ≡ At l j c → given a ≡ held (getD cs c 0) → a ≡ Is v → z ≡ getD t (i + 1) 0
+        → Decides t ls fb i (Lies bs cs) (Read z l j v (x .next))
+    read-some a n r f b = record {
+      step = λ h η m.
+          let w = in-cell (given p) (given (x .answer)) a P n r η m in
+          rw (w .0, w .1, w .2, ap given f) at (read-step h η q X e g b);
+    }
+
+-- a cell that is found is one of the words
+pub found-word : {bs cs : List ℕ} (p o : Maybe Value) {s : Spot} {l j c : ℕ} → Kept bs cs → Places bs p o s → s ≡ At l j c → c < cellWords
+found-word p o k P n = cell-word (k .lies .holds) (subst (Placed (k .memory) p o) n (P .placed (k .memory) (k .lies .bases)) .2)
+
+-- one law for each way
+pub ruleset assign-ways = (assign-ready, assign-none, assign-some)
+
+pub ruleset test-ways = (test-ready, test-none, test-other, test-some)
+
+pub ruleset write-ways = (offset-ready, source-ready, write-word, write-none, write-nowhere, write-some)
+
+pub ruleset read-ways = (read-ready, read-word, found-word, read-nowhere, read-empty, read-some)

@@ -1,0 +1,205 @@
+-- The deciding half of a step: what an instruction asks, where it stands, and the step that the code answers.
+use Prim.Native.Nat.{ℕ, _+_, _≤_, _<_}
+use mathlib.Core.Path.{_≡_}
+use mathlib.Core.Logic.{_⊎_}
+use mathlib.Core.List.{List, [], _∷_, map}
+use mathlib.Core.Bool as B
+use mathlib.Core.Bool.{Bool}
+use lib.ListN.{length, getD, take}
+use lib.IntN.{pos}
+use lib.Dec.{eqb}
+use Rattle.value.specs.Maybe.{Maybe, is, nothing, _>>=_, when, pick, either}
+use Rattle.value.specs.Lists.{at, sum}
+use Rattle.value.specs.Values.{numberAt}
+use Rattle.value.specs.declared.Value.{Value}
+use Rattle.value.specs.Laws.Lists.{Each}
+use Rattle.reader.specs.Syntax.{Expr, Instr, assign, write, read, while, if, call, atomic, select, Block, step, _⊕_, Proc}
+use Rattle.reader.specs.Laws.Grammar.{ExprAt, ExprsAt}
+use Rattle.machines.specs.declared.decide.Passed.{Passed}
+use Rattle.machines.specs.declared.decide.Passed.the-variants.{All, Missing}
+use Rattle.machines.specs.declared.decide.Step.{Step}
+use Rattle.machines.specs.declared.decide.Step.the-variants.{Return, Assign, Read, Write, Test, Call, Select, Blocked}
+use Rattle.machines.specs.Memory.{Env, lookup, bound, eval, evals, index, place, truth, Memory, cell, stored, reading, writing}
+use Rattle.machines.specs.Step.{Frame, Stack, Moved, entered, quiet, runs}
+use Rattle.machines.specs.Copy.{running}
+use Rattle.machines.specs.Work.{Beside, frameWords, localWords, Framed, Holds, Bases}
+use Rattle.machines.specs.Evaluated.{Below}
+use Rattle.machines.specs.Laws.Cells.{shape}
+
+-- ---- what an instruction asks
+
+-- of its frame and of memory, without the blocks that it may hold; or the return at the end of a body
+pub data Act : Type 0 where
+  assigns : ℕ → Expr → Act
+  writes : ℕ → Expr → Expr → Act
+  reads : ℕ → ℕ → Expr → Act
+  tests : Expr → Act
+  calls : ℕ → List Expr → Act
+  returns : Act
+
+-- the arguments of a call
+abbrev pub argsOf : Act → List Expr
+argsOf (calls m es) = es
+argsOf (assigns x e) = []
+argsOf (writes y o e) = []
+argsOf (reads x y o) = []
+argsOf (tests e) = []
+argsOf returns = []
+
+-- ---- the step that is decided
+
+-- the number of a cell among all cells
+abbrev pub numberOf : Memory → ℕ → ℕ → ℕ
+numberOf η l i = sum (take l (shape η)) + i
+
+-- what is done, if nothing is missing; j is where the instruction, or its test, ends
+abbrev pub deed : Env → Memory → Act → ℕ → Maybe Step
+deed ρ η (assigns x e) j = eval ρ e >>= λ v. is (Assign x v j)
+deed ρ η (writes y o e) j =
+    eval ρ e >>= λ v.
+    eval ρ o >>= index >>= λ i.
+    lookup ρ y >>= place >>= λ l.
+    cell η l i >>= λ _.
+    is (Write l i (numberOf η l i) v j)
+deed ρ η (reads x y o) j =
+    eval ρ o >>= index >>= λ i.
+    lookup ρ y >>= place >>= λ l.
+    cell η l i >>= λ v.
+    is (Read x l i v j)
+deed ρ η (tests e) j = eval ρ e >>= truth >>= λ q. is (Test q j)
+deed ρ η (calls m es) j = evals ρ es >>= λ vs. is (Call m j)
+deed ρ η returns j = is Return
+
+-- "a missing value, a wrong kind or an index outside the size blocks"
+abbrev pub orBlocked : Maybe Step → Step
+orBlocked (is s) = s
+orBlocked nothing = Blocked
+
+-- the step of an act
+abbrev pub decided : Env → Memory → Act → ℕ → Step
+decided ρ η a j = orBlocked (deed ρ η a j)
+
+-- "Select .. writes t into a[0], .. if b[t] exists and is a number other than 0"
+abbrev pub chosen : Memory → ℕ → ℕ → ℕ → ℕ → Step
+chosen η a b t j = orBlocked (cell η b t >>= λ v. when (running v) (is (Select (numberOf η a 0) t j)))
+
+-- ---- where it stands
+
+-- n is the number of locals of the frame
+
+-- "20 x e"
+pub record AssignHere (t : List ℕ) (i n x : ℕ) (e : Expr) (j : ℕ) : Type 0 where
+  pub mark : getD t i 0 ≡ 0x20
+  pub target : getD t (i + 1) 0 ≡ x
+  pub source : ExprAt t (i + 2) 16 e j
+  pub below : (x < n) × Below n e
+
+-- "21 y o e"
+pub record WriteHere (t : List ℕ) (i n y : ℕ) (o e : Expr) (j : ℕ) : Type 0 where
+  pub mark : getD t i 0 ≡ 0x21
+  pub pointer : getD t (i + 1) 0 ≡ y
+  pub k : ℕ
+  pub offset : ExprAt t (i + 2) 16 o k
+  pub source : ExprAt t k 16 e j
+  pub below : (y < n) × Below n o × Below n e
+
+-- "22 x y o"
+pub record ReadHere (t : List ℕ) (i n x y : ℕ) (o : Expr) (j : ℕ) : Type 0 where
+  pub mark : getD t i 0 ≡ 0x22
+  pub target : getD t (i + 1) 0 ≡ x
+  pub pointer : getD t (i + 2) 0 ≡ y
+  pub offset : ExprAt t (i + 3) 16 o j
+  pub below : (x < n) × (y < n) × Below n o
+
+-- "23 e block", "24 e block block"
+abbrev pub Tests : List ℕ → ℕ → Type 0
+Tests t i = (getD t i 0 ≡ 0x23) ⊎ (getD t i 0 ≡ 0x24)
+
+-- their expression
+pub record TestHere (t : List ℕ) (i n : ℕ) (e : Expr) (j : ℕ) : Type 0 where
+  pub mark : Tests t i
+  pub test : ExprAt t (i + 1) 16 e j
+  pub below : Below n e
+
+-- "25 m(2) n(1) n expressions"
+pub record CallHere (t : List ℕ) (i n m : ℕ) (es : List Expr) (j : ℕ) : Type 0 where
+  pub mark : getD t i 0 ≡ 0x25
+  pub inside : i + 4 ≤ length t
+  pub callee : numberAt 2 t (i + 1) ≡ m
+  pub args : ExprsAt t (i + 4) (getD t (i + 3) 0) es j
+  pub below : Each (Below n) es
+  pub few : length es ≤ frameWords
+
+-- "a block ends with byte 00"
+pub record ReturnHere (t : List ℕ) (i : ℕ) : Type 0 where
+  pub mark : getD t i 0 ≡ 0x00
+  pub inside : i < length t
+
+-- what stands at i, up to j
+abbrev pub ActAt : List ℕ → ℕ → ℕ → Act → ℕ → Type 0
+ActAt t i n (assigns x e) j = AssignHere t i n x e j
+ActAt t i n (writes y o e) j = WriteHere t i n y o e j
+ActAt t i n (reads x y o) j = ReadHere t i n x y o j
+ActAt t i n (tests e) j = TestHere t i n e j
+ActAt t i n (calls m es) j = CallHere t i n m es j
+ActAt t i n returns j = ReturnHere t i
+
+-- at i stands an instruction or a return, over the locals of the frame at fb; there is room for a frame above that
+pub record Poised (t ls : List ℕ) (fb i : ℕ) : Type 0 where
+  pub env : Env
+  pub framed : Framed ls fb env
+  pub act : Act
+  pub j : ℕ
+  pub here : ActAt t i (length env) act j
+  pub narrow : length env ≤ frameWords
+  pub room : fb + frameWords + frameWords ≤ localWords
+
+-- n expressions stand at i, over the locals of the frame at fb
+pub record Passable (t ls : List ℕ) (fb i n : ℕ) : Type 0 where
+  pub env : Env
+  pub framed : Framed ls fb env
+  pub es : List Expr
+  pub j : ℕ
+  pub args : ExprsAt t i n es j
+  pub below : Each (Below (length env)) es
+  pub few : n ≤ frameWords
+  pub narrow : length env ≤ frameWords
+  pub room : fb + frameWords + frameWords ≤ localWords
+
+-- a memory of these first cells
+pub record Laid (bs : List ℕ) (η : Memory) : Type 0 where
+  pub bases : Bases (shape η) bs
+
+-- one that these words hold
+pub record Lies (bs cs : List ℕ) (η : Memory) : Type 0 where
+  pub bases : Bases (shape η) bs
+  pub holds : Holds η cs
+
+-- there is one
+pub record Kept (bs cs : List ℕ) : Type 0 where
+  pub memory : Memory
+  pub lies : Lies bs cs memory
+
+-- any memory
+pub record Any (η : Memory) : Type 0 where
+
+-- ---- what the code answers
+
+-- the step of what stands there, in each memory of which M is known
+pub record Decides (t ls : List ℕ) (fb i : ℕ) (M : Memory → Type 0) (s : Step) : Type 0 where
+  pub step : (h : Poised t ls fb i) (η : Memory) → M η → s ≡ decided (h .env) η (h .act) (h .j)
+
+-- the arguments of a call were passed: the words of the frame above hold their values; or one has none
+abbrev pub PassedAs : {t ls : List ℕ} {fb i n : ℕ} → Passable t ls fb i n → List ℕ → Passed → Type 0
+PassedAs {fb = fb} h ls′ (All k) = (k ≡ h .j) × ((vs : List Value) × (evals (h .env) (h .es) ≡ is vs) × Framed ls′ (fb + frameWords) (map is vs))
+PassedAs h ls′ Missing = evals (h .env) (h .es) ≡ nothing
+
+-- and no other words were touched
+pub record PassesAll (t ls ls′ : List ℕ) (fb i n : ℕ) (r : Passed) : Type 0 where
+  pub beside : Beside ls ls′ (fb + frameWords) (fb + frameWords + n)
+  pub passed : (h : Passable t ls fb i n) → PassedAs h ls′ r
+
+-- the same of what stands at i, a call or not
+pub record Passes (t ls ls′ : List ℕ) (fb i : ℕ) : Type 0 where
+  pub beside : (h : Poised t ls fb i) → Beside ls ls′ (fb + frameWords) (fb + frameWords + length (argsOf (h .act)))
+  pub passed : (h : Poised t ls fb i) (vs : List Value) → evals (h .env) (argsOf (h .act)) ≡ is vs → Framed ls′ (fb + frameWords) (map is vs)

@@ -1,0 +1,177 @@
+// The deciding half of a step: reads the instruction that stands at a place, and answers what is to be done.
+use super::evaluate;
+use super::locals;
+use super::locals::FRAME;
+use super::memory;
+use super::memory::STARTS;
+use super::memory::Spot;
+use super::table;
+use value::Answer;
+use value::Value;
+ghost use mathlib.Core.Path.{_≡_};
+ghost use Prim.Native.Nat.{_+_, _<_};
+ghost use lib.ListN.{length, getD};
+ghost use Rattle.machines.specs.Decided.{Tests, Poised, Passable, Laid, Lies, Kept, Any, Decides, PassesAll};
+
+// What a step does. `next` is where the instruction ends, of a test where its expression ends.
+pub enum Step {
+    Return,
+    Assign {
+        x: usize,
+        value: Value,
+        next: usize,
+    },
+    Read {
+        x: usize,
+        location: usize,
+        index: usize,
+        value: Value,
+        next: usize,
+    },
+    Write {
+        location: usize,
+        index: usize,
+        cell: usize,
+        value: Value,
+        next: usize,
+    },
+    Test {
+        truth: bool,
+        next: usize,
+    },
+    Call {
+        procedure: usize,
+        next: usize,
+    },
+    Select {
+        cell: usize,
+        thread: u8,
+        next: usize,
+    },
+    Blocked,
+}
+
+// "x := e".
+fn decide_assign(t: &[u8], words: &[u64; locals::WORDS], base: usize, at: usize) -> Step
+    requires { ⌜ Poised (now t) (now words) base at × (getD (now t) at 0 ≡ 0x20) × (at + 2 < length (now t)) ⌝ }
+    ensures { λ r. ⌜ Decides (now (t .entry)) (now (words .entry)) base at Any r ⌝ }
+{
+    let e = evaluate::evaluate(t, words, base, at + 2);
+    let answer = e.answer;
+    let Answer::Is(value) = answer else {
+        return Step::Blocked;
+    };
+    Step::Assign {
+        x: table::byte(t, at + 1),
+        value,
+        next: e.next,
+    }
+}
+
+// The test of a while or an if.
+fn decide_test(t: &[u8], words: &[u64; locals::WORDS], base: usize, at: usize) -> Step
+    requires { ⌜ Poised (now t) (now words) base at × Tests (now t) at × (at + 1 < length (now t)) ⌝ }
+    ensures { λ r. ⌜ Decides (now (t .entry)) (now (words .entry)) base at Any r ⌝ }
+{
+    let e = evaluate::evaluate(t, words, base, at + 1);
+    let answer = e.answer;
+    let Answer::Is(value) = answer else {
+        return Step::Blocked;
+    };
+    let Value::Truth(truth) = value else {
+        return Step::Blocked;
+    };
+    Step::Test {
+        truth,
+        next: e.next,
+    }
+}
+
+// "y[o] := e".
+fn decide_write(
+    t: &[u8],
+    words: &[u64; locals::WORDS],
+    base: usize,
+    starts: &[u32; STARTS],
+    at: usize,
+) -> Step
+    requires { ⌜ Poised (now t) (now words) base at × (getD (now t) at 0 ≡ 0x21) × (at + 2 < length (now t)) ⌝ }
+    ensures { λ r. ⌜ Decides (now (t .entry)) (now (words .entry)) base at (Laid (now (starts .entry))) r ⌝ }
+{
+    let o = evaluate::evaluate(t, words, base, at + 2);
+    let offset = o.answer;
+    let middle = o.next;
+    let e = evaluate::evaluate(t, words, base, middle);
+    let answer = e.answer;
+    let Answer::Is(value) = answer else {
+        return Step::Blocked;
+    };
+    let pointer = locals::get(words, base, table::byte(t, at + 1));
+    let Spot::At { location, index, cell } = memory::place(starts, pointer, offset) else {
+        return Step::Blocked;
+    };
+    Step::Write {
+        location,
+        index,
+        cell,
+        value,
+        next: e.next,
+    }
+}
+
+// "x := y[o]".
+fn decide_read(
+    t: &[u8],
+    words: &[u64; locals::WORDS],
+    base: usize,
+    starts: &[u32; STARTS],
+    cells: &[u64; memory::WORDS],
+    at: usize,
+) -> Step
+    requires { ⌜ Poised (now t) (now words) base at × (getD (now t) at 0 ≡ 0x22) × (at + 3 < length (now t)) × Kept (now starts) (now cells) ⌝ }
+    ensures { λ r. ⌜ Decides (now (t .entry)) (now (words .entry)) base at (Lies (now (starts .entry)) (now (cells .entry))) r ⌝ }
+{
+    let o = evaluate::evaluate(t, words, base, at + 3);
+    let offset = o.answer;
+    let pointer = locals::get(words, base, table::byte(t, at + 2));
+    let Spot::At { location, index, cell } = memory::place(starts, pointer, offset) else {
+        return Step::Blocked;
+    };
+    let Answer::Is(value) = memory::get(cells, cell) else {
+        return Step::Blocked;
+    };
+    Step::Read {
+        x: table::byte(t, at + 1),
+        location,
+        index,
+        value,
+        next: o.next,
+    }
+}
+
+// The arguments of a call: all were passed, and the last one ends here; or one has no value.
+pub enum Passed {
+    All(usize),
+    Missing,
+}
+
+// The values of `count` expressions go to the frame above, which is no part of the state before the call.
+fn pass(t: &[u8], words: &mut [u64; locals::WORDS], base: usize, from: usize, count: usize) -> Passed
+    requires { ⌜ Passable (now t) (now words) base from count ⌝ }
+    ensures { λ r. ⌜ PassesAll (now (t .entry)) (now (words .entry)) (now (words .exit)) base from count r ⌝ }
+{
+    let above = base + FRAME;
+    let mut at = from;
+    let mut i = 0;
+    while i < count {
+        let e = evaluate::evaluate(t, words, base, at);
+        let answer = e.answer;
+        let Answer::Is(v) = answer else {
+            return Passed::Missing;
+        };
+        locals::put(words, above, i, v);
+        at = e.next;
+        i += 1;
+    }
+    Passed::All(at)
+}
