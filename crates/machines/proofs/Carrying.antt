@@ -7,10 +7,11 @@ use mathlib.Core.Bool.{Bool, true, false}
 use lib.ListN.{length, getD, set, drop, length-append, length-map, length-set, length-drop, length-replicate}
 use lib.Seq.{getD-set-same, drop-drop}
 use lib.Dec.{ltb}
-use borrow.Author.Tests.{ltb-true, ltb-false}
+use borrow.Author.Tests.{ltb-true, ltb-false, lt-ltb, le-ltb}
 use lib.IntN.{pos}
 use Rattle.value.specs.Maybe.{Maybe, is, nothing, _>>=_, when, pick}
 use Rattle.value.specs.Lists.{at, sum}
+use Rattle.value.specs.Values.{numberAt}
 use Rattle.value.specs.declared.Value.{Value}
 use Rattle.value.specs.declared.Value.the-variants.{Whole}
 use Rattle.value.specs.Laws.Maybes.{is-inj, missing, bind-is}
@@ -33,13 +34,14 @@ use Rattle.machines.specs.Step.{Frame, Stack, entered}
 use Rattle.machines.specs.Copy as C
 use Rattle.machines.specs.Decided.{Act, assigns, writes, reads, tests, calls, returns, decided, orBlocked, numberOf, chosen}
 use Rattle.machines.specs.Work.{Puts, Beside, Clears, frameWords, localWords, Framed, cellWords, Holds, IsCell}
-use Rattle.machines.specs.Events.{Logged}
+use Rattle.machines.specs.Events.{Logged, withEvent}
 use Rattle.machines.specs.Jumps.{positions, Settled, last, first, Jumps, Settles, Branches}
 use Rattle.machines.specs.Frames.{FrameAt, Called, Stacked, none, more}
 use Rattle.machines.specs.Sequential.{mostFrames, Loaded, Present, actOf, endOf, Decision, leaves, acts, selects, Due, Recorded, Enterable, Enters, Moves, CarriesOut}
 use Rattle.machines.specs.Laws.Work.{beside-same, beside-put, framed-put, framed-below, framed-entered}
 use Rattle.machines.specs.Laws.Holding.{cell-word, holds-put, no-cell}
 use Rattle.machines.specs.Laws.Cells.{shape, shape-stored}
+use Rattle.machines.specs.Laws.Logging.{logged-more}
 use Rattle.machines.proofs.Jumping.{code-in}
 use Rattle.machines.proofs.Standing.{code-inside, code-named, settles-code, HeadAt, head-at, settled-body}
 use Rattle.machines.proofs.Framing.{frame-small, stacked-below, stacked-back, code-calls, stacked-few, never-runs}
@@ -184,7 +186,7 @@ code-then : {ps : List (Proc Plain)} {m k n : ℕ} {e : Expr} {b f d r : Block P
     → CodeAt ps m n b (d ⊕ r)
 code-then {ps} {m} {b = b} {d = d} {r} c q = subst (λ (z : ℕ). CodeAt ps m z b (d ⊕ r)) (sym q) (code-in c (inner (thens itself)))
 
-module _ {t : List ℕ} {records : ℕ} {ts js ss ls bs cs es : List ℕ} {s : State} {x : Step} (d : Due t records ts js ss ls bs cs es s x) where
+module _ {t : List ℕ} {records : ℕ} {js ls bs cs es : List ℕ} {s : State} {x : Step} (d : Due t records js ls bs cs es s x) where
   -- the program, its procedures and the configuration
   abbrev P : Program Plain
   P = d .loaded .program
@@ -210,7 +212,7 @@ module _ {t : List ℕ} {records : ℕ} {ts js ss ls bs cs es : List ℕ} {s : S
 
   -- it goes on, and nothing else has changed
   went-on : {ls′ : List ℕ} {k : ℕ} (f : Frame Plain) → Stacked (P .procs) ls′ bs k (f ∷ d .below)
-      → Present P (d .lent) ts ls′ bs cs es (to k) (restacked c (f ∷ d .below))
+      → Present P (d .lent) (d .schedule) ls′ bs cs es (to k) (restacked c (f ∷ d .below))
   went-on f S = record {
     depth = deep;
     frames = S;
@@ -265,7 +267,7 @@ some-size (n ∷ ns) zero h m = omega (arith, h .0 .low)
 some-size (n ∷ ns) (suc l) h m = some-size ns l (h .1) (omega arith)
 
 -- the cell that select writes
-select-cell : {t : List ℕ} {records : ℕ} {ts js ss ls bs cs es : List ℕ} {s : State} {x : Step} (d : Due t records ts js ss ls bs cs es s x)
+select-cell : {t : List ℕ} {records : ℕ} {js ls bs cs es : List ℕ} {s : State} {x : Step} (d : Due t records js ls bs cs es s x)
     {a b k q : ℕ} {y r : Block Plain} → CodeAt (d .loaded .program .procs) (d .frame .proc) k (step tt (select a b) y) r
     → q ≡ numberOf (d .config .memory) a 0 → IsCell (d .config .memory) a 0 q
 select-cell d {a} o f =
@@ -286,9 +288,9 @@ After t (Call m n) = n < length t
 After t (Select j u n) = n < length t
 After t Blocked = Unit {0}
 
-module _ {t : List ℕ} {records : ℕ} {ts js ss ls bs cs es : List ℕ} {s : State} {x : Step} where
+module _ {t : List ℕ} {records : ℕ} {js ls bs cs es : List ℕ} {s : State} {x : Step} where
   -- there is room for the frame of a call
-  pub call-enterable : {m n : ℕ} → Due t records ts js ss ls bs cs es s x → x ≡ Call m n → Enterable t records (s .depth) m
+  pub call-enterable : {m n : ℕ} → Due t records js ls bs cs es s x → x ≡ Call m n → Enterable t records (s .depth) m
   call-enterable {m} {n} d e = go (done d e)
     where
       go : Doing (d .loaded .program) (d .config) (d .frame) (s .at) (Call m n) → Enterable t records (s .depth) m
@@ -304,7 +306,7 @@ module _ {t : List ℕ} {records : ℕ} {ts js ss ls bs cs es : List ℕ} {s : S
             few = d .few;
           }
 
-  after-inside : (d : Due t records ts js ss ls bs cs es s x) (y : Step) → Doing (d .loaded .program) (d .config) (d .frame) (s .at) y → After t y
+  after-inside : (d : Due t records js ls bs cs es s x) (y : Step) → Doing (d .loaded .program) (d .config) (d .frame) (s .at) y → After t y
   after-inside d Return (returning q) = tt
   after-inside d (Assign y v n) (assigning a b r o q z u) = code-inside (d .loaded .same) (d .loaded .sound) (code-after o z)
   after-inside d (Read y l i v n) (reading y′ a b r o q z u u′ u″) = code-inside (d .loaded .same) (d .loaded .sound) (code-after o z)
@@ -315,29 +317,29 @@ module _ {t : List ℕ} {records : ℕ} {ts js ss ls bs cs es : List ℕ} {s : S
   after-inside d (Select j i n) (selecting a b us b′ r v o q z u u′ u″ f) = code-inside (d .loaded .same) (d .loaded .sound) (code-after o z)
 
   -- by the step
-  pub assign-after : {y n : ℕ} {v : Value} → Due t records ts js ss ls bs cs es s x → x ≡ Assign y v n → n < length t
+  pub assign-after : {y n : ℕ} {v : Value} → Due t records js ls bs cs es s x → x ≡ Assign y v n → n < length t
   assign-after d e = after-inside d _ (done d e)
 
-  pub read-after : {y l i n : ℕ} {v : Value} → Due t records ts js ss ls bs cs es s x → x ≡ Read y l i v n → n < length t
+  pub read-after : {y l i n : ℕ} {v : Value} → Due t records js ls bs cs es s x → x ≡ Read y l i v n → n < length t
   read-after d e = after-inside d _ (done d e)
 
-  pub write-after : {l i j n : ℕ} {v : Value} → Due t records ts js ss ls bs cs es s x → x ≡ Write l i j v n → n < length t
+  pub write-after : {l i j n : ℕ} {v : Value} → Due t records js ls bs cs es s x → x ≡ Write l i j v n → n < length t
   write-after d e = after-inside d _ (done d e)
 
-  pub test-after : {q : Bool} {n : ℕ} → Due t records ts js ss ls bs cs es s x → x ≡ Test q n → n < length t
+  pub test-after : {q : Bool} {n : ℕ} → Due t records js ls bs cs es s x → x ≡ Test q n → n < length t
   test-after d e = after-inside d _ (done d e)
 
-  pub call-after : {m n : ℕ} → Due t records ts js ss ls bs cs es s x → x ≡ Call m n → n < length t
+  pub call-after : {m n : ℕ} → Due t records js ls bs cs es s x → x ≡ Call m n → n < length t
   call-after d e = after-inside d _ (done d e)
 
-  pub select-after : {j u n : ℕ} → Due t records ts js ss ls bs cs es s x → x ≡ Select j u n → n < length t
+  pub select-after : {j u n : ℕ} → Due t records js ls bs cs es s x → x ≡ Select j u n → n < length t
   select-after d e = after-inside d _ (done d e)
 
   -- a local of the top frame
-  frame-room : (d : Due t records ts js ss ls bs cs es s x) (y : ℕ) → y < length (d .frame .env) → frameWords * (s .depth - 1) + y < localWords
+  frame-room : (d : Due t records js ls bs cs es s x) (y : ℕ) → y < length (d .frame .env) → frameWords * (s .depth - 1) + y < localWords
   frame-room d y l = omega (arith, deep d, top-frame (tower d) .framed .room)
 
-  pub assign-room : {y n : ℕ} {v : Value} → Due t records ts js ss ls bs cs es s x → x ≡ Assign y v n → frameWords * (s .depth - 1) + y < localWords
+  pub assign-room : {y n : ℕ} {v : Value} → Due t records js ls bs cs es s x → x ≡ Assign y v n → frameWords * (s .depth - 1) + y < localWords
   assign-room {y} {n} {v} d e = go (done d e)
     where
       go : Doing (d .loaded .program) (d .config) (d .frame) (s .at) (Assign y v n) → frameWords * (s .depth - 1) + y < localWords
@@ -345,7 +347,7 @@ module _ {t : List ℕ} {records : ℕ} {ts js ss ls bs cs es : List ℕ} {s : S
           let F = top-frame (tower d) in
           frame-room d y (omega (arith, F .long, code-named (d .loaded .same) (d .loaded .sound) (F .found) o .0))
 
-  pub read-room : {y l i n : ℕ} {v : Value} → Due t records ts js ss ls bs cs es s x → x ≡ Read y l i v n → frameWords * (s .depth - 1) + y < localWords
+  pub read-room : {y l i n : ℕ} {v : Value} → Due t records js ls bs cs es s x → x ≡ Read y l i v n → frameWords * (s .depth - 1) + y < localWords
   read-room {y} {l} {i} {n} {v} d e = go (done d e)
     where
       go : Doing (d .loaded .program) (d .config) (d .frame) (s .at) (Read y l i v n) → frameWords * (s .depth - 1) + y < localWords
@@ -354,13 +356,13 @@ module _ {t : List ℕ} {records : ℕ} {ts js ss ls bs cs es : List ℕ} {s : S
           frame-room d y (omega (arith, F .long, code-named (d .loaded .same) (d .loaded .sound) (F .found) o .0))
 
   -- the number of a cell
-  pub write-room : {l i j n : ℕ} {v : Value} → Due t records ts js ss ls bs cs es s x → x ≡ Write l i j v n → j < cellWords
+  pub write-room : {l i j n : ℕ} {v : Value} → Due t records js ls bs cs es s x → x ≡ Write l i j v n → j < cellWords
   write-room {l} {i} {j} {n} {v} d e = go (done d e)
     where
       go : Doing (d .loaded .program) (d .config) (d .frame) (s .at) (Write l i j v n) → j < cellWords
       go (writing y a w b r u o q z u₀ u₁ u₂ u₃ f) = cell-word (d .present .memory) (cell-is (d .config .memory) l i u₃ f)
 
-  pub select-room : {j u n : ℕ} → Due t records ts js ss ls bs cs es s x → x ≡ Select j u n → j < cellWords
+  pub select-room : {j u n : ℕ} → Due t records js ls bs cs es s x → x ≡ Select j u n → j < cellWords
   select-room {j} {u} {n} d e = go (done d e)
     where
       go : Doing (d .loaded .program) (d .config) (d .frame) (s .at) (Select j u n) → j < cellWords
@@ -368,15 +370,15 @@ module _ {t : List ℕ} {records : ℕ} {ts js ss ls bs cs es : List ℕ} {s : S
 
 -- ---- one law for each step
 
-module _ {t : List ℕ} {records : ℕ} {ts js ss : List ℕ} {h : ℕ} {ls bs cs es : List ℕ} {s : State} {x : Step} where
+module _ {t : List ℕ} {records : ℕ} {js : List ℕ} {h : ℕ} {ls bs cs es : List ℕ} {s : State} {x : Step} where
   -- "x := e"
   pub did-assign : {y n k : ℕ} {v : Value} {ls′ : List ℕ} → x ≡ Assign y v n → Puts ls ls′ (frameWords * (s .depth - 1) + y) v → Settles t js n k
-      → CarriesOut t records ts js ss h ls bs cs es s x ls′ bs cs es
+      → CarriesOut t records js h ls bs cs es s x ls′ bs cs es
       (record { at = k; depth = s .depth; thread = s .thread; taken = s .taken; events = s .events })
   did-assign {y} {n} {k} {v} {ls′} e w g = record { moves = λ d. go d (done d e) }
     where
-      go : (d : Due t records ts js ss ls bs cs es s x) → Doing (d .loaded .program) (d .config) (d .frame) (s .at) (Assign y v n)
-          → Moves (d .loaded .program) (d .lent) ts h (d .config) ls′ bs cs es (to d k)
+      go : (d : Due t records js ls bs cs es s x) → Doing (d .loaded .program) (d .config) (d .frame) (s .at) (Assign y v n)
+          → Moves (d .loaded .program) (d .lent) (d .schedule) h (d .config) ls′ bs cs es (to d k)
       go d (assigning a b r o q z u) =
           let F = top-frame (tower d) in
           let low : y < length (d .frame .env) = omega (arith, F .long, code-named (d .loaded .same) (d .loaded .sound) (F .found) o .0) in
@@ -388,12 +390,12 @@ module _ {t : List ℕ} {records : ℕ} {ts js ss : List ℕ} {h : ℕ} {ls bs c
 
   -- "while", "if, then, else"
   pub did-test : {n k : ℕ} {q : Bool} → x ≡ Test q n → Branches t js (s .at) q n k
-      → CarriesOut t records ts js ss h ls bs cs es s x ls bs cs es
+      → CarriesOut t records js h ls bs cs es s x ls bs cs es
       (record { at = k; depth = s .depth; thread = s .thread; taken = s .taken; events = s .events })
   did-test {n} {k} {q} e B = record { moves = λ d. go d q refl (done d e) }
     where
-      go : (d : Due t records ts js ss ls bs cs es s x) (g : Bool) → q ≡ g → Doing (d .loaded .program) (d .config) (d .frame) (s .at) (Test q n)
-          → Moves (d .loaded .program) (d .lent) ts h (d .config) ls bs cs es (to d k)
+      go : (d : Due t records js ls bs cs es s x) (g : Bool) → q ≡ g → Doing (d .loaded .program) (d .config) (d .frame) (s .at) (Test q n)
+          → Moves (d .loaded .program) (d .lent) (d .schedule) h (d .config) ls bs cs es (to d k)
       go d true f (looping a b b′ r o w z u) =
           let all : Block Plain = b ⊕ step tt (while a b) (b′ ⊕ r) in
           record {
@@ -423,12 +425,12 @@ module _ {t : List ℕ} {records : ℕ} {ts js ss : List ℕ} {h : ℕ} {ls bs c
 
   -- the end of a body: the frame below goes on where its caller wrote
   pub did-return : x ≡ Return
-      → CarriesOut t records ts js ss h ls bs cs es s x ls bs cs es
+      → CarriesOut t records js h ls bs cs es s x ls bs cs es
       (record { at = getD bs (s .depth - 1) 0; depth = s .depth - 1; thread = s .thread; taken = s .taken; events = s .events })
   did-return e = record { moves = λ d. go d (done d e) }
     where
-      go : (d : Due t records ts js ss ls bs cs es s x) → Doing (d .loaded .program) (d .config) (d .frame) (s .at) Return
-          → Moves (d .loaded .program) (d .lent) ts h (d .config) ls bs cs es
+      go : (d : Due t records js ls bs cs es s x) → Doing (d .loaded .program) (d .config) (d .frame) (s .at) Return
+          → Moves (d .loaded .program) (d .lent) (d .schedule) h (d .config) ls bs cs es
           (record { at = getD bs (s .depth - 1) 0; depth = s .depth - 1; thread = s .thread; taken = s .taken; events = s .events })
       go d (returning q) =
           let less : s .depth - 1 ≡ length (d .below) = omega (arith, deep d) in
@@ -451,12 +453,12 @@ module _ {t : List ℕ} {records : ℕ} {ts js ss : List ℕ} {h : ℕ} {ls bs c
   -- "x := y[o]"
   pub did-read : {y l i n k a : ℕ} {v : Value} {ls′ es′ : List ℕ} → x ≡ Read y l i v n → Puts ls ls′ (frameWords * (s .depth - 1) + y) v
       → Recorded h es (s .events) (record { thread = s .thread; way = M.reading; place = l; index = i; value = v }) es′ a → Settles t js n k
-      → CarriesOut t records ts js ss h ls bs cs es s x ls′ bs cs es′
+      → CarriesOut t records js h ls bs cs es s x ls′ bs cs es′
       (record { at = k; depth = s .depth; thread = s .thread; taken = s .taken; events = a })
   did-read {y} {l} {i} {n} {k} {a} {v} {ls′} {es′} e w E g = record { moves = λ d. go d (done d e) }
     where
-      go : (d : Due t records ts js ss ls bs cs es s x) → Doing (d .loaded .program) (d .config) (d .frame) (s .at) (Read y l i v n)
-          → Moves (d .loaded .program) (d .lent) ts h (d .config) ls′ bs cs es′
+      go : (d : Due t records js ls bs cs es s x) → Doing (d .loaded .program) (d .config) (d .frame) (s .at) (Read y l i v n)
+          → Moves (d .loaded .program) (d .lent) (d .schedule) h (d .config) ls′ bs cs es′
           (record { at = k; depth = s .depth; thread = s .thread; taken = s .taken; events = a })
       go d (reading y′ o b r p q z u u′ u″) =
           let F = top-frame (tower d) in
@@ -486,12 +488,12 @@ module _ {t : List ℕ} {records : ℕ} {ts js ss : List ℕ} {h : ℕ} {ls bs c
   -- "y[o] := e"
   pub did-write : {l i j n k a : ℕ} {v : Value} {cs′ es′ : List ℕ} → x ≡ Write l i j v n → Puts cs cs′ j v
       → Recorded h es (s .events) (record { thread = s .thread; way = M.writing; place = l; index = i; value = v }) es′ a → Settles t js n k
-      → CarriesOut t records ts js ss h ls bs cs es s x ls bs cs′ es′
+      → CarriesOut t records js h ls bs cs es s x ls bs cs′ es′
       (record { at = k; depth = s .depth; thread = s .thread; taken = s .taken; events = a })
   did-write {l} {i} {j} {n} {k} {a} {v} {cs′} {es′} e w E g = record { moves = λ d. go d (done d e) }
     where
-      go : (d : Due t records ts js ss ls bs cs es s x) → Doing (d .loaded .program) (d .config) (d .frame) (s .at) (Write l i j v n)
-          → Moves (d .loaded .program) (d .lent) ts h (d .config) ls bs cs′ es′
+      go : (d : Due t records js ls bs cs es s x) → Doing (d .loaded .program) (d .config) (d .frame) (s .at) (Write l i j v n)
+          → Moves (d .loaded .program) (d .lent) (d .schedule) h (d .config) ls bs cs′ es′
           (record { at = k; depth = s .depth; thread = s .thread; taken = s .taken; events = a })
       go d (writing y o m b r u p q z u₀ u₁ u₂ u₃ f) = record {
         config = record {
@@ -517,17 +519,17 @@ module _ {t : List ℕ} {records : ℕ} {ts js ss : List ℕ} {h : ℕ} {ls bs c
 
   -- "select"
   pub did-select : {j u n k : ℕ} {cs′ : List ℕ} → x ≡ Select j u n → Puts cs cs′ j (Whole (pos u)) → Settles t js n k
-      → CarriesOut t records ts js ss h ls bs cs es s x ls bs cs′ es
+      → CarriesOut t records js h ls bs cs es s x ls bs cs′ es
       (record { at = k; depth = s .depth; thread = u; taken = s .taken + 1; events = s .events })
   did-select {j} {u} {n} {k} {cs′} e w g = record { moves = λ d. go d (done d e) }
     where
-      go : (d : Due t records ts js ss ls bs cs es s x) → Doing (d .loaded .program) (d .config) (d .frame) (s .at) (Select j u n)
-          → Moves (d .loaded .program) (d .lent) ts h (d .config) ls bs cs′ es
+      go : (d : Due t records js ls bs cs es s x) → Doing (d .loaded .program) (d .config) (d .frame) (s .at) (Select j u n)
+          → Moves (d .loaded .program) (d .lent) (d .schedule) h (d .config) ls bs cs′ es
           (record { at = k; depth = s .depth; thread = u; taken = s .taken + 1; events = s .events })
       go d (selecting a b us b′ r v p q z u₀ u₁ u₂ f) =
           let F = top-frame (tower d) in
           let η : Memory = d .config .memory in
-          let rest : drop (s .taken) ts ≡ u ∷ us = sym (d .present .todo) ∙ u₀ in
+          let rest : drop (s .taken) (d .schedule) ≡ u ∷ us = sym (d .present .todo) ∙ u₀ in
           record {
             config = record {
               stack = recoded (d .frame) (b′ ⊕ r) ∷ d .below;
@@ -543,8 +545,8 @@ module _ {t : List ℕ} {records : ℕ} {ts js ss : List ℕ} {h : ℕ} {ls bs c
               backs = d .present .backs;
               memory = holds-put (d .present .memory) (select-cell d p f) w;
               sizes = shape-stored η a 0 (Whole (pos u)) ∙ d .present .sizes;
-              todo = sym (ap (drop 1) rest) ∙ drop-drop 1 (s .taken) ts;
-              taken = omega (arith, length-drop (s .taken) ts, ap length rest);
+              todo = sym (ap (drop 1) rest) ∙ drop-drop 1 (s .taken) (d .schedule);
+              taken = omega (arith, length-drop (s .taken) (d .schedule), ap length rest);
               last = refl;
               events = d .present .events;
             };
@@ -552,12 +554,12 @@ module _ {t : List ℕ} {records : ℕ} {ts js ss : List ℕ} {h : ℕ} {ls bs c
 
   -- "call procedure m"
   pub did-call : {m n k v : ℕ} {ls′ bs′ : List ℕ} → x ≡ Call m n → Settles t js n k → Enters t records (s .depth) m k ls bs ls′ bs′ v
-      → CarriesOut t records ts js ss h ls bs cs es s x ls′ bs′ cs es
+      → CarriesOut t records js h ls bs cs es s x ls′ bs′ cs es
       (record { at = v; depth = s .depth + 1; thread = s .thread; taken = s .taken; events = s .events })
   did-call {m} {n} {k} {v} {ls′} {bs′} e g N = record { moves = λ d. go d (done d e) }
     where
-      go : (d : Due t records ts js ss ls bs cs es s x) → Doing (d .loaded .program) (d .config) (d .frame) (s .at) (Call m n)
-          → Moves (d .loaded .program) (d .lent) ts h (d .config) ls′ bs′ cs es
+      go : (d : Due t records js ls bs cs es s x) → Doing (d .loaded .program) (d .config) (d .frame) (s .at) (Call m n)
+          → Moves (d .loaded .program) (d .lent) (d .schedule) h (d .config) ls′ bs′ cs es
           (record { at = v; depth = s .depth + 1; thread = s .thread; taken = s .taken; events = s .events })
       go d (calling as′ b r vs o w z u) =
           let ps : List (Proc Plain) = d .loaded .program .procs in
@@ -606,3 +608,49 @@ module _ {t : List ℕ} {records : ℕ} {ts js ss : List ℕ} {h : ℕ} {ls bs c
               events = d .present .events;
             };
           }
+
+-- one law for each way through a step
+pub ruleset carry-ways = (
+  call-enterable,
+  assign-after,
+  read-after,
+  write-after,
+  test-after,
+  call-after,
+  select-after,
+  assign-room,
+  read-room,
+  write-room,
+  select-room,
+  did-assign,
+  did-test,
+  did-return,
+  did-read,
+  did-write,
+  did-select,
+  did-call,
+)
+
+-- ---- events
+
+module _ {h : ℕ} {es : List ℕ} {n : ℕ} {e : M.Event} where
+  -- of a location below h
+  pub event-kept : {es′ : List ℕ} → e .place < h → es′ ≡ withEvent es n e → Recorded h es n e es′ (n + 1)
+  event-kept l q = record { logged = λ lent evs L. rw (lt-ltb (e .place) h l) (logged-more e L q); most = omega arith }
+
+  -- of another
+  pub event-passed : h ≤ e .place → Recorded h es n e es n
+  event-passed l = record { logged = λ lent evs L. rw (le-ltb (e .place) h l) L; most = omega arith }
+
+-- one law for each way
+pub ruleset event-ways = (event-kept, event-passed)
+
+-- ---- a procedure begins
+
+pub did-enter : {t : List ℕ} {records d m k a b v w : ℕ} {ls bs ls′ : List ℕ} → a ≡ getD t (records + 6 * m) 0 → b ≡ getD t (records + 6 * m + 1) 0
+    → Clears ls ls′ (frameWords * d + a) (frameWords * d + b) → v ≡ w → w ≡ numberAt 4 t (records + 6 * m + 2)
+    → Enters t records d m k ls bs ls′ (set bs d k) v
+did-enter {d = d} {ls = ls} {ls′ = ls′} e f C g h = record { back = refl; clears = rw (← e, ← f) C; start = g ∙ h }
+
+-- the one way
+pub ruleset enter-ways = (did-enter)

@@ -3,6 +3,7 @@ use Prim.Native.Nat.{ℕ, zero, suc, _+_, _-_, _≤_, _<_}
 use native.Mathlib.Omega.{arith}
 use mathlib.Core.Path.{_≡_, refl, sym, ap, subst, _∙_}
 use mathlib.Core.List.{List, [], _∷_, _++_}
+use mathlib.Core.Bool.{Bool, true, false}
 use lib.ListN.{length, getD, set, length-append}
 use lib.Seq.{getD-set-same}
 use lib.Dec.{ltb}
@@ -10,7 +11,7 @@ use borrow.Author.Tests.{ltb-true, ltb-false}
 use Rattle.value.specs.Maybe.{is, nothing}
 use Rattle.value.specs.Lists.{at}
 use Rattle.value.specs.Laws.Maybes.{is-inj, missing}
-use Rattle.value.specs.Laws.Tests.{by-test}
+use Rattle.value.specs.Laws.Tests.{by-test, never}
 use Rattle.value.specs.Laws.Lists.{at-below, at-getD, each-at}
 use Rattle.reader.specs.Syntax.{Expr, Instr, assign, write, read, while, if, call, atomic, select, Block, end, step, _⊕_, Proc, Plain}
 use Rattle.reader.specs.Encode.{expr, instr, block, each, bodiesOf}
@@ -25,7 +26,7 @@ use Rattle.reader.specs.Laws.Spots.{itself, onward, spot-after, spot-body, spot
 use Rattle.reader.specs.declared.labels.Counted.{Counted}
 use Rattle.reader.proofs.Counting.{instr-in, block-in, body-in, then-in, else-in, then-counts, expr-after}
 use Rattle.machines.specs.Work.{Beside}
-use Rattle.machines.specs.Jumps.{positions, Settled, last, first, beyond, Entry, Jumps, Onward, FilledBlock, FilledInstr, FillsBlock, FillsInstr, FillsJumps, Settles}
+use Rattle.machines.specs.Jumps.{positions, Settled, last, first, beyond, Entry, Jumps, Onward, FilledBlock, FilledInstr, FillsBlock, FillsInstr, FillsJumps, Settles, Branches}
 use Rattle.machines.specs.Laws.Work.{beside-same, beside-set}
 
 -- ---- numbers stored here and there
@@ -435,5 +436,13 @@ module _ {t js : List ℕ} {k : ℕ} where
   pub settles-here : (getD t k 0 ≡ 0 → ⊥) → Settles t js k k
   settles-here n = record { ended = λ q. absurd (n q); other = λ z. refl }
 
+-- a test holds
+pub branch-yes : {t js : List ℕ} {k n v : ℕ} {q : Bool} → q ≡ true → Settles t js n v → Branches t js k q n v
+branch-yes e S = record { yes = λ f. S; no = λ f. absurd (never (sym f ∙ e)) }
+
+-- it fails
+pub branch-no : {t js : List ℕ} {k n v : ℕ} {q : Bool} → q ≡ false → v ≡ getD js k 0 → Branches t js k q n v
+branch-no e h = record { yes = λ f. absurd (never (sym e ∙ f)); no = λ f. h }
+
 -- one law for each way
-pub ruleset settle-ways = (settles-end, settles-here)
+pub ruleset settle-ways = (settles-end, settles-here, branch-yes, branch-no)

@@ -1,5 +1,5 @@
 -- The sequential machine at work: what its code keeps, which step is due, and what a step leaves.
-use Prim.Native.Nat.{ℕ, _+_, _*_, _≤_}
+use Prim.Native.Nat.{ℕ, _+_, _*_, _^_, _≤_, _<_}
 use mathlib.Core.Path.{_≡_}
 use mathlib.Core.List.{List, [], _∷_, _++_, map}
 use lib.ListN.{length, getD, set, drop}
@@ -86,11 +86,13 @@ pub data Decision (p : Program Plain) (c : C.Config) (f : Frame Plain) (k : ℕ)
       → f .code ≡ step tt (select a b) (d ⊕ r) → c .todo ≡ t ∷ ts → x ≡ chosen (c .memory) a b t (endOf k (select a b)) → Decision p c f k x
 
 -- the step x is due, and does not block
-pub record Due (t : List ℕ) (records : ℕ) (ts js ss ls bs cs es : List ℕ) (s : State) (x : Step) : Type 0 where
-  pub loaded : Loaded t records js ss
+pub record Due (t : List ℕ) (records : ℕ) (js ls bs cs es : List ℕ) (s : State) (x : Step) : Type 0 where
+  pub starts : List ℕ
+  pub loaded : Loaded t records js starts
   pub lent : List ℕ
+  pub schedule : List ℕ
   pub config : C.Config
-  pub present : Present (loaded .program) lent ts ls bs cs es s config
+  pub present : Present (loaded .program) lent schedule ls bs cs es s config
   pub frame : Frame Plain
   pub below : Stack Plain
   pub stack : config .stack ≡ frame ∷ below
@@ -101,6 +103,9 @@ pub record Due (t : List ℕ) (records : ℕ) (ts js ss ls bs cs es : List ℕ) 
   pub some : 1 ≤ s .depth
   pub few : s .depth ≤ mostFrames
   pub small : length t ≤ positions
+  -- the counts fit their words
+  pub entries : s .taken + 1 < 2 ^ 64
+  pub counted : s .events + 1 < 2 ^ 64
 
 -- ---- what it leaves
 
@@ -129,6 +134,6 @@ pub record Moves (p : Program Plain) (lent ts : List ℕ) (h : ℕ) (c : C.Confi
   pub present : Present p lent ts ls bs cs es s config
 
 -- the step that is due was carried out
-pub record CarriesOut (t : List ℕ) (records : ℕ) (ts js ss : List ℕ) (h : ℕ) (ls bs cs es : List ℕ) (s : State) (x : Step) (ls′ bs′ cs′ es′ : List ℕ)
+pub record CarriesOut (t : List ℕ) (records : ℕ) (js : List ℕ) (h : ℕ) (ls bs cs es : List ℕ) (s : State) (x : Step) (ls′ bs′ cs′ es′ : List ℕ)
     (s′ : State) : Type 0 where
-  pub moves : (d : Due t records ts js ss ls bs cs es s x) → Moves (d .loaded .program) (d .lent) ts h (d .config) ls′ bs′ cs′ es′ s′
+  pub moves : (d : Due t records js ls bs cs es s x) → Moves (d .loaded .program) (d .lent) (d .schedule) h (d .config) ls′ bs′ cs′ es′ s′

@@ -11,7 +11,7 @@ ghost use mathlib.Core.Path.{_≡_};
 ghost use Prim.Native.Nat.{_≤_, _<_};
 ghost use lib.ListN.{length};
 ghost use Rattle.reader.specs.Walks.{BlockIn, InstrIn, BodiesIn};
-ghost use Rattle.machines.specs.Jumps.{positions, Onward, FillsBlock, FillsInstr, FillsJumps, Settles};
+ghost use Rattle.machines.specs.Jumps.{positions, Onward, FillsBlock, FillsInstr, FillsJumps, Settles, Branches};
 
 // "over 65,536 bytes" is refused.
 pub const POSITIONS: usize = 65536;
@@ -95,4 +95,12 @@ pub fn settle(t: &[u8], jumps: &[u16; POSITIONS], at: usize) -> usize
     ensures { λ r. ⌜ Settles (now (t .entry)) (now (jumps .entry)) at r ⌝ }
 {
     if t[at] == END { wide(jumps[at]) } else { at }
+}
+
+// Where a run goes on after a test at `at`: `next` is where the expression ends.
+pub fn branch(t: &[u8], jumps: &[u16; POSITIONS], at: usize, truth: bool, next: usize) -> usize
+    requires { ⌜ (at < positions) × (next < length (now t)) × (length (now t) ≤ positions) ⌝ }
+    ensures { λ r. ⌜ Branches (now (t .entry)) (now (jumps .entry)) at truth next r ⌝ }
+{
+    if truth { settle(t, jumps, next) } else { wide(jumps[at]) }
 }
