@@ -375,7 +375,7 @@ module _ {t : List ℕ} {records : ℕ} {js : List ℕ} {h : ℕ} {ls bs cs es :
   pub did-assign : {y n k : ℕ} {v : Value} {ls′ : List ℕ} → x ≡ Assign y v n → Puts ls ls′ (frameWords * (s .depth - 1) + y) v → Settles t js n k
       → CarriesOut t records js h ls bs cs es s x ls′ bs cs es
       (record { at = k; depth = s .depth; thread = s .thread; taken = s .taken; events = s .events })
-  did-assign {y} {n} {k} {v} {ls′} e w g = record { moves = λ d. go d (done d e) }
+  did-assign {y} {n} {k} {v} {ls′} e w g = record { moves = λ d. go d (done d e); most = omega arith }
     where
       go : (d : Due t records js ls bs cs es s x) → Doing (d .loaded .program) (d .config) (d .frame) (s .at) (Assign y v n)
           → Moves (d .loaded .program) (d .lent) (d .schedule) h (d .config) ls′ bs cs es (to d k)
@@ -392,7 +392,7 @@ module _ {t : List ℕ} {records : ℕ} {js : List ℕ} {h : ℕ} {ls bs cs es :
   pub did-test : {n k : ℕ} {q : Bool} → x ≡ Test q n → Branches t js (s .at) q n k
       → CarriesOut t records js h ls bs cs es s x ls bs cs es
       (record { at = k; depth = s .depth; thread = s .thread; taken = s .taken; events = s .events })
-  did-test {n} {k} {q} e B = record { moves = λ d. go d q refl (done d e) }
+  did-test {n} {k} {q} e B = record { moves = λ d. go d q refl (done d e); most = omega arith }
     where
       go : (d : Due t records js ls bs cs es s x) (g : Bool) → q ≡ g → Doing (d .loaded .program) (d .config) (d .frame) (s .at) (Test q n)
           → Moves (d .loaded .program) (d .lent) (d .schedule) h (d .config) ls bs cs es (to d k)
@@ -424,14 +424,14 @@ module _ {t : List ℕ} {records : ℕ} {js : List ℕ} {h : ℕ} {ls bs cs es :
           }
 
   -- the end of a body: the frame below goes on where its caller wrote
-  pub did-return : x ≡ Return
+  pub did-return : {k : ℕ} → x ≡ Return → k ≡ getD bs (s .depth - 1) 0
       → CarriesOut t records js h ls bs cs es s x ls bs cs es
-      (record { at = getD bs (s .depth - 1) 0; depth = s .depth - 1; thread = s .thread; taken = s .taken; events = s .events })
-  did-return e = record { moves = λ d. go d (done d e) }
+      (record { at = k; depth = s .depth - 1; thread = s .thread; taken = s .taken; events = s .events })
+  did-return {k} e f = record { moves = λ d. go d (done d e); most = omega arith }
     where
       go : (d : Due t records js ls bs cs es s x) → Doing (d .loaded .program) (d .config) (d .frame) (s .at) Return
           → Moves (d .loaded .program) (d .lent) (d .schedule) h (d .config) ls bs cs es
-          (record { at = getD bs (s .depth - 1) 0; depth = s .depth - 1; thread = s .thread; taken = s .taken; events = s .events })
+          (record { at = k; depth = s .depth - 1; thread = s .thread; taken = s .taken; events = s .events })
       go d (returning q) =
           let less : s .depth - 1 ≡ length (d .below) = omega (arith, deep d) in
           record {
@@ -439,7 +439,7 @@ module _ {t : List ℕ} {records : ℕ} {js : List ℕ} {h : ℕ} {ls bs cs es :
             goes = next-return h (d .loaded .program .procs) (d .config) (d .stack) q;
             present = record {
               depth = less;
-              frames = rw less (top-rest (tower d));
+              frames = rw (f, less) (top-rest (tower d));
               backs = d .present .backs;
               memory = d .present .memory;
               sizes = d .present .sizes;
@@ -455,7 +455,7 @@ module _ {t : List ℕ} {records : ℕ} {js : List ℕ} {h : ℕ} {ls bs cs es :
       → Recorded h es (s .events) (record { thread = s .thread; way = M.reading; place = l; index = i; value = v }) es′ a → Settles t js n k
       → CarriesOut t records js h ls bs cs es s x ls′ bs cs es′
       (record { at = k; depth = s .depth; thread = s .thread; taken = s .taken; events = a })
-  did-read {y} {l} {i} {n} {k} {a} {v} {ls′} {es′} e w E g = record { moves = λ d. go d (done d e) }
+  did-read {y} {l} {i} {n} {k} {a} {v} {ls′} {es′} e w E g = record { moves = λ d. go d (done d e); most = E .most }
     where
       go : (d : Due t records js ls bs cs es s x) → Doing (d .loaded .program) (d .config) (d .frame) (s .at) (Read y l i v n)
           → Moves (d .loaded .program) (d .lent) (d .schedule) h (d .config) ls′ bs cs es′
@@ -490,7 +490,7 @@ module _ {t : List ℕ} {records : ℕ} {js : List ℕ} {h : ℕ} {ls bs cs es :
       → Recorded h es (s .events) (record { thread = s .thread; way = M.writing; place = l; index = i; value = v }) es′ a → Settles t js n k
       → CarriesOut t records js h ls bs cs es s x ls bs cs′ es′
       (record { at = k; depth = s .depth; thread = s .thread; taken = s .taken; events = a })
-  did-write {l} {i} {j} {n} {k} {a} {v} {cs′} {es′} e w E g = record { moves = λ d. go d (done d e) }
+  did-write {l} {i} {j} {n} {k} {a} {v} {cs′} {es′} e w E g = record { moves = λ d. go d (done d e); most = E .most }
     where
       go : (d : Due t records js ls bs cs es s x) → Doing (d .loaded .program) (d .config) (d .frame) (s .at) (Write l i j v n)
           → Moves (d .loaded .program) (d .lent) (d .schedule) h (d .config) ls bs cs′ es′
@@ -518,16 +518,15 @@ module _ {t : List ℕ} {records : ℕ} {js : List ℕ} {h : ℕ} {ls bs cs es :
       }
 
   -- "select"
-  pub did-select : {j u n k : ℕ} {cs′ : List ℕ} → x ≡ Select j u n → Puts cs cs′ j (Whole (pos u)) → Settles t js n k
+  pub did-select : {j u n k : ℕ} {v : Value} {cs′ : List ℕ} → x ≡ Select j u n → v ≡ Whole (pos u) → Puts cs cs′ j v → Settles t js n k
       → CarriesOut t records js h ls bs cs es s x ls bs cs′ es
       (record { at = k; depth = s .depth; thread = u; taken = s .taken + 1; events = s .events })
-  did-select {j} {u} {n} {k} {cs′} e w g = record { moves = λ d. go d (done d e) }
+  did-select {j} {u} {n} {k} {v} {cs′} e i w g = record { moves = λ d. go d (done d e); most = omega arith }
     where
       go : (d : Due t records js ls bs cs es s x) → Doing (d .loaded .program) (d .config) (d .frame) (s .at) (Select j u n)
           → Moves (d .loaded .program) (d .lent) (d .schedule) h (d .config) ls bs cs′ es
           (record { at = k; depth = s .depth; thread = u; taken = s .taken + 1; events = s .events })
-      go d (selecting a b us b′ r v p q z u₀ u₁ u₂ f) =
-          let F = top-frame (tower d) in
+      go d (selecting a b us b′ r o p q z u₀ u₁ u₂ f) =
           let η : Memory = d .config .memory in
           let rest : drop (s .taken) (d .schedule) ≡ u ∷ us = sym (d .present .todo) ∙ u₀ in
           record {
@@ -543,7 +542,7 @@ module _ {t : List ℕ} {records : ℕ} {js : List ℕ} {h : ℕ} {ls bs cs es :
               depth = deep d;
               frames = recodes d (goes-on d b′ g (code-after p z));
               backs = d .present .backs;
-              memory = holds-put (d .present .memory) (select-cell d p f) w;
+              memory = rw (← i) (holds-put (d .present .memory) (select-cell d p f) w);
               sizes = shape-stored η a 0 (Whole (pos u)) ∙ d .present .sizes;
               todo = sym (ap (drop 1) rest) ∙ drop-drop 1 (s .taken) (d .schedule);
               taken = omega (arith, length-drop (s .taken) (d .schedule), ap length rest);
@@ -556,7 +555,7 @@ module _ {t : List ℕ} {records : ℕ} {js : List ℕ} {h : ℕ} {ls bs cs es :
   pub did-call : {m n k v : ℕ} {ls′ bs′ : List ℕ} → x ≡ Call m n → Settles t js n k → Enters t records (s .depth) m k ls bs ls′ bs′ v
       → CarriesOut t records js h ls bs cs es s x ls′ bs′ cs es
       (record { at = v; depth = s .depth + 1; thread = s .thread; taken = s .taken; events = s .events })
-  did-call {m} {n} {k} {v} {ls′} {bs′} e g N = record { moves = λ d. go d (done d e) }
+  did-call {m} {n} {k} {v} {ls′} {bs′} e g N = record { moves = λ d. go d (done d e); most = omega arith }
     where
       go : (d : Due t records js ls bs cs es s x) → Doing (d .loaded .program) (d .config) (d .frame) (s .at) (Call m n)
           → Moves (d .loaded .program) (d .lent) (d .schedule) h (d .config) ls′ bs′ cs es
@@ -609,8 +608,18 @@ module _ {t : List ℕ} {records : ℕ} {js : List ℕ} {h : ℕ} {ls bs cs es :
             };
           }
 
+  -- a step that blocks is not carried out
+  pub did-nothing : x ≡ Blocked → CarriesOut t records js h ls bs cs es s x ls bs cs es s
+  did-nothing e = record { moves = λ d. absurd (d .going e); most = omega arith }
+
+-- where a run goes on there is an entry
+pub settles-below : {t js : List ℕ} {k v : ℕ} → Settles t js k v → v < positions
+settles-below S = S .below
+
 -- one law for each way through a step
 pub ruleset carry-ways = (
+  settles-below,
+  did-nothing,
   call-enterable,
   assign-after,
   read-after,

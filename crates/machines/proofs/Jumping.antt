@@ -429,12 +429,12 @@ pub ruleset bodies-ways = (bodies-start, bodies-in, bodies-next, bodies-end)
 
 module _ {t js : List ℕ} {k : ℕ} where
   -- at a block's end
-  pub settles-end : {v : ℕ} → getD t k 0 ≡ 0 → v ≡ getD js k 0 → Settles t js k v
-  settles-end q e = record { ended = λ z. e; other = λ n. absurd (n q) }
+  pub settles-end : {v : ℕ} → getD t k 0 ≡ 0 → v ≡ getD js k 0 → v < positions → Settles t js k v
+  settles-end q e l = record { ended = λ z. e; other = λ n. absurd (n q); below = l }
 
   -- elsewhere
-  pub settles-here : (getD t k 0 ≡ 0 → ⊥) → Settles t js k k
-  settles-here n = record { ended = λ q. absurd (n q); other = λ z. refl }
+  pub settles-here : (getD t k 0 ≡ 0 → ⊥) → k < length t → length t ≤ positions → Settles t js k k
+  settles-here n l m = record { ended = λ q. absurd (n q); other = λ z. refl; below = omega arith }
 
 -- a test holds
 pub branch-yes : {t js : List ℕ} {k n v : ℕ} {q : Bool} → q ≡ true → Settles t js n v → Branches t js k q n v

@@ -81,6 +81,7 @@ pub record FillsJumps (t : List ℕ) (c : ℕ) (js js′ : List ℕ) : Type 0 wh
 pub record Settles (t js : List ℕ) (k v : ℕ) : Type 0 where
   pub ended : getD t k 0 ≡ 0 → v ≡ getD js k 0
   pub other : (getD t k 0 ≡ 0 → ⊥) → v ≡ k
+  pub below : v < positions
 
 -- after a test at k: where its block begins, at n, or the entry of k
 pub record Branches (t js : List ℕ) (k : ℕ) (q : Bool) (n v : ℕ) : Type 0 where

@@ -103,6 +103,7 @@ pub record Due (t : List ℕ) (records : ℕ) (js ls bs cs es : List ℕ) (s : S
   pub some : 1 ≤ s .depth
   pub few : s .depth ≤ mostFrames
   pub small : length t ≤ positions
+  pub inside : s .at < length t
   -- the counts fit their words
   pub entries : s .taken + 1 < 2 ^ 64
   pub counted : s .events + 1 < 2 ^ 64
@@ -137,3 +138,4 @@ pub record Moves (p : Program Plain) (lent ts : List ℕ) (h : ℕ) (c : C.Confi
 pub record CarriesOut (t : List ℕ) (records : ℕ) (js : List ℕ) (h : ℕ) (ls bs cs es : List ℕ) (s : State) (x : Step) (ls′ bs′ cs′ es′ : List ℕ)
     (s′ : State) : Type 0 where
   pub moves : (d : Due t records js ls bs cs es s x) → Moves (d .loaded .program) (d .lent) (d .schedule) h (d .config) ls′ bs′ cs′ es′ s′
+  pub most : s′ .events ≤ s .events + 1

@@ -84,7 +84,7 @@ pub fn fill(t: &[u8], procedures: usize, jumps: &mut [u16; POSITIONS])
 
 // An entry as a position.
 fn wide(entry: u16) -> usize
-    ensures { λ r. ⌜ r ≡ entry ⌝ }
+    ensures { λ r. ⌜ (r ≡ entry) × (r < positions) ⌝ }
 {
     entry as usize
 }
@@ -102,5 +102,9 @@ pub fn branch(t: &[u8], jumps: &[u16; POSITIONS], at: usize, truth: bool, next: 
     requires { ⌜ (at < positions) × (next < length (now t)) × (length (now t) ≤ positions) ⌝ }
     ensures { λ r. ⌜ Branches (now (t .entry)) (now (jumps .entry)) at truth next r ⌝ }
 {
-    if truth { settle(t, jumps, next) } else { wide(jumps[at]) }
+    if truth {
+        settle(t, jumps, next)
+    } else {
+        wide(jumps[at])
+    }
 }
