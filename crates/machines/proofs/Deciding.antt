@@ -3,32 +3,37 @@ use Prim.Native.Nat.{ℕ, _+_, _≤_, _<_}
 use native.Mathlib.Omega.{arith}
 use mathlib.Core.Path.{_≡_, refl, sym, ap, ap₂, subst, _∙_}
 use mathlib.Core.Logic.{⊎-elim}
-use mathlib.Core.List.{List, [], _∷_}
+use mathlib.Core.List.{List, [], _∷_, map}
 use mathlib.Core.Bool.{Bool, true, false}
 use lib.ListN.{length, getD}
 use types.Run.{OneOf, miss}
 use denote.Enum.Declared.{tagOf}
 use Rattle.value.proofs.Value.{the-type}
 use Rattle.value.specs.Maybe.{Maybe, is, nothing, _>>=_}
-use Rattle.value.specs.Values.{given}
+use Rattle.value.specs.Values.{given, numberAt}
 use Rattle.value.specs.declared.Value.{Value}
 use Rattle.value.specs.declared.Value.the-variants.{Whole, Location, Truth}
 use Rattle.value.specs.declared.Answer.{Answer}
 use Rattle.value.specs.declared.Answer.the-variants.{Is, Nothing}
+use Rattle.value.specs.Laws.Maybes.{is-inj, missing}
 use Rattle.reader.specs.Syntax.{Expr}
 use Rattle.reader.specs.Laws.Grammar.{ExprAt, expr-inside}
 use Rattle.machines.specs.declared.evaluate.Valued.{Valued}
+use Rattle.machines.specs.declared.decide.Passed.{Passed}
+use Rattle.machines.specs.declared.decide.Passed.the-variants.{All, Missing}
 use Rattle.machines.specs.declared.memory.Spot.{Spot}
 use Rattle.machines.specs.declared.memory.Spot.the-variants.{At, Nowhere}
 use Rattle.machines.specs.declared.decide.Step.{Step}
 use Rattle.machines.specs.declared.decide.Step.the-variants.{Return, Assign, Read, Write, Test, Call, Select, Blocked}
-use Rattle.machines.specs.Memory.{Env, lookup, eval, index, place, truth, Memory, cell}
-use Rattle.machines.specs.Work.{localWords, Framed, cellWords, Holds, Bases, IsCell, Placed, Places}
+use Rattle.machines.specs.Memory.{Env, lookup, eval, evals, index, place, truth, Memory, cell}
+use Rattle.machines.specs.Work.{Beside, frameWords, localWords, Framed, cellWords, Holds, Bases, IsCell, Placed, Places}
 use Rattle.machines.specs.Words.{held}
 use Rattle.machines.specs.Evaluated.{Below, Ready, Evaluates}
+use Rattle.machines.specs.Laws.Work.{beside-same, framed-none}
 use Rattle.machines.specs.Laws.Cells.{shape}
 use Rattle.machines.specs.Laws.Holding.{cell-full, cell-word, cell-held}
-use Rattle.machines.specs.Decided.{Act, assigns, writes, reads, tests, calls, returns, numberOf, decided, orBlocked, AssignHere, WriteHere, ReadHere, Tests, TestHere, CallHere, ActAt, Poised, Laid, Lies, Kept, Decides}
+use Rattle.machines.specs.Decided.{Act, assigns, writes, reads, tests, calls, returns, numberOf, decided, orBlocked, AssignHere, WriteHere, ReadHere, Tests, TestHere, CallHere, ActAt}
+use Rattle.machines.specs.Decided.{argsOf, Poised, Passable, Laid, Lies, Kept, Any, Decides, PassedAs, PassesAll, Passes, DecidesAll}
 
 -- ---- what stands there, by its mark
 
@@ -68,6 +73,53 @@ module _ {t : List ℕ} {i n : ℕ} where
   see-test (reads x y o) h q = absurd (⊎-elim (λ m. omega (arith, h .mark)) (λ m. omega (arith, h .mark)) q)
   see-test (calls m es) h q = absurd (⊎-elim (λ m. omega (arith, h .mark)) (λ m. omega (arith, h .mark)) q)
   see-test returns h q = absurd (⊎-elim (λ m. omega (arith, h .mark)) (λ m. omega (arith, h .mark)) q)
+
+  -- "25 m(2) n(1) n expressions"
+  see-call : (a : Act) {j : ℕ} → ActAt t i n a j → getD t i 0 ≡ 0x25 → (m : ℕ) × (es : List Expr) × (a ≡ calls m es) × CallHere t i n m es j
+  see-call (calls m es) h q = (m, es, refl, h)
+  see-call (assigns x e) h q = absurd (omega (arith, h .mark))
+  see-call (writes y o e) h q = absurd (omega (arith, h .mark))
+  see-call (reads x y o) h q = absurd (omega (arith, h .mark))
+  see-call (tests e) h q = absurd (⊎-elim (λ m. omega arith) (λ m. omega arith) (h .mark))
+  see-call returns h q = absurd (omega (arith, h .mark))
+
+module _ (t : List ℕ) (i n : ℕ) where
+  -- another byte has no arguments
+  see-no-call : (a : Act) (j : ℕ) → ActAt t i n a j → (getD t i 0 ≡ 0x25 → ⊥) → argsOf a ≡ []
+  see-no-call (calls m es) j h q = absurd (q (h .mark))
+  see-no-call (assigns x e) j h q = refl
+  see-no-call (writes y o e) j h q = refl
+  see-no-call (reads x y o) j h q = refl
+  see-no-call (tests e) j h q = refl
+  see-no-call returns j h q = refl
+
+  -- "a block ends with byte 00"
+  see-return : (a : Act) (j : ℕ) → ActAt t i n a j → getD t i 0 ≡ 0x00 → a ≡ returns
+  see-return returns j h q = refl
+  see-return (assigns x e) j h q = absurd (omega (arith, h .mark))
+  see-return (writes y o e) j h q = absurd (omega (arith, h .mark))
+  see-return (reads x y o) j h q = absurd (omega (arith, h .mark))
+  see-return (tests e) j h q = absurd (⊎-elim (λ m. omega arith) (λ m. omega arith) (h .mark))
+  see-return (calls m es) j h q = absurd (omega (arith, h .mark))
+
+  -- the byte is one of those of the acts, and none of the others: a test's
+  see-other : (a : Act) (j : ℕ) → ActAt t i n a j → (getD t i 0 ≡ 0x25 → ⊥) → (getD t i 0 ≡ 0x00 → ⊥) → (getD t i 0 ≡ 0x20 → ⊥) → (getD t i 0 ≡ 0x21 → ⊥)
+      → (getD t i 0 ≡ 0x22 → ⊥) → Tests t i
+  see-other (tests e) j h n₁ n₂ n₃ n₄ n₅ = h .mark
+  see-other (calls m es) j h n₁ n₂ n₃ n₄ n₅ = absurd (n₁ (h .mark))
+  see-other returns j h n₁ n₂ n₃ n₄ n₅ = absurd (n₂ (h .mark))
+  see-other (assigns x e) j h n₁ n₂ n₃ n₄ n₅ = absurd (n₃ (h .mark))
+  see-other (writes y o e) j h n₁ n₂ n₃ n₄ n₅ = absurd (n₄ (h .mark))
+  see-other (reads x y o) j h n₁ n₂ n₃ n₄ n₅ = absurd (n₅ (h .mark))
+
+  -- it is a byte of the table
+  see-inside : (a : Act) (j : ℕ) → ActAt t i n a j → i < length t
+  see-inside (assigns x e) j h = omega (arith, expr-inside (h .source))
+  see-inside (writes y o e) j h = omega (arith, expr-inside (h .offset))
+  see-inside (reads x y o) j h = omega (arith, expr-inside (h .offset))
+  see-inside (tests e) j h = omega (arith, expr-inside (h .test))
+  see-inside (calls m es) j h = omega (arith, h .inside)
+  see-inside returns j h = h .inside
 
 -- an expression of an instruction, over the instruction's frame
 abbrev ready : {t ls : List ℕ} {fb i j : ℕ} {ρ : Env} {e : Expr} → Framed ls fb ρ → ExprAt t i 16 e j → Below (length ρ) e → Ready t ls fb i 16
@@ -286,6 +338,132 @@ module _ {t ls : List ℕ} {fb i : ℕ} where
 pub found-word : {bs cs : List ℕ} (p o : Maybe Value) {s : Spot} {l j c : ℕ} → Kept bs cs → Places bs p o s → s ≡ At l j c → c < cellWords
 found-word p o k P n = cell-word (k .lies .holds) (subst (Placed (k .memory) p o) n (P .placed (k .memory) (k .lies .bases)) .2)
 
+-- ---- "call procedure m"
+
+module _ {t ls : List ℕ} {fb i : ℕ} where
+  -- its arguments, k of them
+  abbrev args : {k : ℕ} → Poised t ls fb i → getD t i 0 ≡ 0x25 → k ≡ getD t (i + 3) 0 → Passable t ls fb (i + 4) k
+  args {k} h q e =
+      let w = see-call (h .act) (h .here) q in
+      record {
+        env = h .env;
+        framed = h .framed;
+        es = w .1;
+        j = h .j;
+        args = rw e (w .3 .args);
+        below = w .3 .below;
+        few = omega (arith, w .3 .few, w .3 .args .count);
+        narrow = h .narrow;
+        room = h .room;
+      }
+
+  pub call-ready : {k : ℕ} → Poised t ls fb i → getD t i 0 ≡ 0x25 → k ≡ getD t (i + 3) 0 → Passable t ls fb (i + 4) k
+  call-ready h q e = args h q e
+
+  module _ {ls′ : List ℕ} {k : ℕ} {r : Passed} (q : getD t i 0 ≡ 0x25) (e : k ≡ getD t (i + 3) 0) (P : PassesAll t ls ls′ fb (i + 4) k r) where
+    -- where they went
+    call-beside : (h : Poised t ls fb i) → Beside ls ls′ (fb + frameWords) (fb + frameWords + length (argsOf (h .act)))
+    call-beside h =
+        let w = see-call (h .act) (h .here) q in
+        let same : length (argsOf (h .act)) ≡ k = ap (λ a. length (argsOf a)) (w .2) ∙ w .3 .args .count ∙ sym e in
+        rw same (P .beside)
+
+    -- one has no value
+    pub call-none : {M : Memory → Type 0} → r ≡ Missing → DecidesAll t ls ls′ fb i M Blocked
+    call-none n =
+        let none : (h : Poised t ls fb i) → evals (h .env) (see-call (h .act) (h .here) q .1) ≡ nothing =
+            λ h. subst (PassedAs (args h q e) ls′) n (P .passed (args h q e))
+        in
+        record {
+          decides = record {
+            step = λ h η m.
+                let w = see-call (h .act) (h .here) q in
+                sym (ap (λ x. orBlocked (x >>= λ vs. is (Call (w .0) (h .j)))) (none h)) ∙ sym (ap (λ a. decided (h .env) η a (h .j)) (w .2));
+          };
+          passes = record {
+            beside = call-beside;
+            passed = λ h vs f. missing (sym (none h) ∙ sym (ap (λ a. evals (h .env) (argsOf a)) (see-call (h .act) (h .here) q .2)) ∙ f);
+          };
+        }
+
+    -- all have one
+    pub call-some : {M : Memory → Type 0} {m j : ℕ} → r ≡ All j → m ≡ numberAt 2 t (i + 1) → DecidesAll t ls ls′ fb i M (Call m j)
+    call-some {m = m} {j} n a =
+        let all : (h : Poised t ls fb i) → PassedAs (args h q e) ls′ (All j) = λ h. subst (PassedAs (args h q e) ls′) n (P .passed (args h q e)) in
+        record {
+          decides = record {
+            step = λ h η x.
+                let w = see-call (h .act) (h .here) q in
+                ap₂ Call (a ∙ w .3 .callee) (all h .0)
+                ∙ sym (ap (λ x. orBlocked (x >>= λ vs. is (Call (w .0) (h .j)))) (all h .1 .1))
+                ∙ sym (ap (λ a. decided (h .env) η a (h .j)) (w .2));
+          };
+          passes = record {
+            beside = call-beside;
+            passed = λ h vs f.
+                let w = see-call (h .act) (h .here) q in
+                let same : all h .1 .0 ≡ vs = is-inj (sym (all h .1 .1) ∙ sym (ap (λ a. evals (h .env) (argsOf a)) (w .2)) ∙ f) in
+                subst (λ vs. Framed ls′ (fb + frameWords) (map is vs)) same (all h .1 .2);
+          };
+        }
+
+  -- ---- any instruction
+
+  -- it has a byte
+  pub act-inside : Poised t ls fb i → i < length t
+  act-inside h = see-inside t i (length (h .env)) (h .act) (h .j) (h .here)
+
+  pub assign-inside : Poised t ls fb i → getD t i 0 ≡ 0x20 → i + 2 < length t
+  assign-inside h q = omega (arith, expr-inside (see-assign (h .act) (h .here) q .3 .source))
+
+  pub write-inside : Poised t ls fb i → getD t i 0 ≡ 0x21 → i + 2 < length t
+  write-inside h q = omega (arith, expr-inside (see-write (h .act) (h .here) q .4 .offset))
+
+  pub read-inside : Poised t ls fb i → getD t i 0 ≡ 0x22 → i + 3 < length t
+  read-inside h q = omega (arith, expr-inside (see-read (h .act) (h .here) q .4 .offset))
+
+  pub test-inside : Poised t ls fb i → Tests t i → i + 1 < length t
+  test-inside h q = omega (arith, expr-inside (see-test (h .act) (h .here) q .2 .test))
+
+  pub call-inside : Poised t ls fb i → getD t i 0 ≡ 0x25 → i + 4 ≤ length t
+  call-inside h q = see-call (h .act) (h .here) q .3 .inside
+
+  -- no other byte than those of a test is left
+  pub act-tests : Poised t ls fb i → (getD t i 0 ≡ 0x25 → ⊥) → (getD t i 0 ≡ 0x00 → ⊥) → (getD t i 0 ≡ 0x20 → ⊥) → (getD t i 0 ≡ 0x21 → ⊥)
+      → (getD t i 0 ≡ 0x22 → ⊥) → Tests t i
+  act-tests h n₁ n₂ n₃ n₄ n₅ = see-other t i (length (h .env)) (h .act) (h .j) (h .here) n₁ n₂ n₃ n₄ n₅
+
+  -- where there are no arguments, no words are touched
+  no-args : (getD t i 0 ≡ 0x25 → ⊥) → Passes t ls ls fb i
+  no-args n = record {
+    beside = λ h. beside-same;
+    passed = λ h vs f.
+        let none : vs ≡ [] = sym (is-inj (sym (ap (evals (h .env)) (see-no-call t i (length (h .env)) (h .act) (h .j) (h .here) n)) ∙ f)) in
+        rw none (framed-none (h .framed .long) (omega (arith, h .room)));
+  }
+
+  module _ {bs cs : List ℕ} {s : Step} where
+    -- a step of any memory, of one of these first cells, of one that these words hold
+    pub decides-any : (getD t i 0 ≡ 0x25 → ⊥) → Decides t ls fb i Any s → DecidesAll t ls ls fb i (Lies bs cs) s
+    decides-any n D = record { decides = record { step = λ h η m. D .step h η (record {}) }; passes = no-args n }
+
+    pub decides-laid : (getD t i 0 ≡ 0x25 → ⊥) → Decides t ls fb i (Laid bs) s → DecidesAll t ls ls fb i (Lies bs cs) s
+    decides-laid n D = record { decides = record { step = λ h η m. D .step h η (record { bases = m .bases }) }; passes = no-args n }
+
+    pub decides-lies : (getD t i 0 ≡ 0x25 → ⊥) → Decides t ls fb i (Lies bs cs) s → DecidesAll t ls ls fb i (Lies bs cs) s
+    decides-lies n D = record { decides = D; passes = no-args n }
+
+    -- a call's
+    pub decides-call : {ls′ : List ℕ} → DecidesAll t ls ls′ fb i Any s → DecidesAll t ls ls′ fb i (Lies bs cs) s
+    decides-call D = record { decides = record { step = λ h η m. D .decides .step h η (record {}) }; passes = D .passes }
+
+  -- the end of a body
+  pub decides-return : {bs cs : List ℕ} → getD t i 0 ≡ 0x00 → DecidesAll t ls ls fb i (Lies bs cs) Return
+  decides-return q = record {
+    decides = record { step = λ h η m. sym (ap (λ a. decided (h .env) η a (h .j)) (see-return t i (length (h .env)) (h .act) (h .j) (h .here) q)) };
+    passes = no-args (λ e. omega arith);
+  }
+
 -- one law for each way
 pub ruleset assign-ways = (assign-ready, assign-none, assign-some)
 
@@ -294,3 +472,20 @@ pub ruleset test-ways = (test-ready, test-none, test-other, test-some)
 pub ruleset write-ways = (offset-ready, source-ready, write-word, write-none, write-nowhere, write-some)
 
 pub ruleset read-ways = (read-ready, read-word, found-word, read-nowhere, read-empty, read-some)
+
+pub ruleset call-ways = (call-ready, call-none, call-some)
+
+pub ruleset decide-ways = (
+  act-inside,
+  assign-inside,
+  write-inside,
+  read-inside,
+  test-inside,
+  call-inside,
+  act-tests,
+  decides-any,
+  decides-laid,
+  decides-lies,
+  decides-call,
+  decides-return,
+)

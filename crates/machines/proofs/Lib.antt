@@ -20,3 +20,7 @@ pub mod Nexts
 pub mod Carrying
 -- deciding a step, way by way
 pub mod Deciding
+-- passing the arguments of a call
+pub mod Passing
+-- deciding a select
+pub mod Selecting

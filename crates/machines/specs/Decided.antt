@@ -203,3 +203,29 @@ pub record PassesAll (t ls ls′ : List ℕ) (fb i n : ℕ) (r : Passed) : Type 
 pub record Passes (t ls ls′ : List ℕ) (fb i : ℕ) : Type 0 where
   pub beside : (h : Poised t ls fb i) → Beside ls ls′ (fb + frameWords) (fb + frameWords + length (argsOf (h .act)))
   pub passed : (h : Poised t ls fb i) (vs : List Value) → evals (h .env) (argsOf (h .act)) ≡ is vs → Framed ls′ (fb + frameWords) (map is vs)
+
+-- a step, and the words of the frame above
+pub record DecidesAll (t ls ls′ : List ℕ) (fb i : ℕ) (M : Memory → Type 0) (s : Step) : Type 0 where
+  pub decides : Decides t ls fb i M s
+  pub passes : Passes t ls ls′ fb i
+
+-- ---- select
+
+-- "27 a(2) b(2)": both locations are there, and a has a cell
+pub record SelectHere (t : List ℕ) (i a b : ℕ) (η : Memory) : Type 0 where
+  pub inside : i + 5 ≤ length t
+  pub target : numberAt 2 t (i + 1) ≡ a
+  pub source : numberAt 2 t (i + 3) ≡ b
+  pub there : 0 < getD (shape η) a 0
+
+-- the step of a select that takes entry e
+pub record Selects (t bs cs : List ℕ) (i e : ℕ) (s : Step) : Type 0 where
+  pub step : (a b : ℕ) (η : Memory) → SelectHere t i a b η → Lies bs cs η → s ≡ chosen η a b e (i + 5)
+
+-- there is one
+pub record Selectable (t bs cs : List ℕ) (i : ℕ) : Type 0 where
+  pub a : ℕ
+  pub b : ℕ
+  pub memory : Memory
+  pub here : SelectHere t i a b memory
+  pub lies : Lies bs cs memory

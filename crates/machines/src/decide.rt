@@ -9,9 +9,9 @@ use super::table;
 use value::Answer;
 use value::Value;
 ghost use mathlib.Core.Path.{_≡_};
-ghost use Prim.Native.Nat.{_+_, _<_};
+ghost use Prim.Native.Nat.{_+_, _≤_, _<_};
 ghost use lib.ListN.{length, getD};
-ghost use Rattle.machines.specs.Decided.{Tests, Poised, Passable, Laid, Lies, Kept, Any, Decides, PassesAll};
+ghost use Rattle.machines.specs.Decided.{Tests, Poised, Passable, Laid, Lies, Kept, Any, Decides, PassesAll, DecidesAll, Selectable, Selects};
 
 // What a step does. `next` is where the instruction ends, of a test where its expression ends.
 pub enum Step {
@@ -174,4 +174,70 @@ fn pass(t: &[u8], words: &mut [u64; locals::WORDS], base: usize, from: usize, co
         i += 1;
     }
     Passed::All(at)
+}
+
+// "call procedure m".
+fn decide_call(t: &[u8], words: &mut [u64; locals::WORDS], base: usize, at: usize) -> Step
+    requires { ⌜ Poised (now t) (now words) base at × (getD (now t) at 0 ≡ 0x25) × (at + 4 ≤ length (now t)) ⌝ }
+    ensures { λ r. ⌜ DecidesAll (now (t .entry)) (now (words .entry)) (now (words .exit)) base at Any r ⌝ }
+{
+    let count = table::byte(t, at + 3);
+    let Passed::All(next) = pass(t, words, base, at + 4, count) else {
+        return Step::Blocked;
+    };
+    Step::Call {
+        procedure: table::two(t, at + 1) as usize,
+        next,
+    }
+}
+
+// The step of the instruction or return at `at`, over the locals of the frame at `base`. It is no select and no atomic block.
+pub fn decide(
+    t: &[u8],
+    words: &mut [u64; locals::WORDS],
+    base: usize,
+    starts: &[u32; STARTS],
+    cells: &[u64; memory::WORDS],
+    at: usize,
+) -> Step
+    requires { ⌜ Poised (now t) (now words) base at × Kept (now starts) (now cells) ⌝ }
+    ensures { λ r. ⌜ DecidesAll (now (t .entry)) (now (words .entry)) (now (words .exit)) base at (Lies (now (starts .entry)) (now (cells .entry))) r ⌝ }
+{
+    let mark = t[at];
+    if mark == 0x25 {
+        return decide_call(t, words, base, at);
+    }
+    match mark {
+        0x00 => Step::Return,
+        0x20 => decide_assign(t, words, base, at),
+        0x21 => decide_write(t, words, base, starts, at),
+        0x22 => decide_read(t, words, base, starts, cells, at),
+        _ => decide_test(t, words, base, at),
+    }
+}
+
+// The step of the select at `at`, which takes an entry of the schedule.
+pub fn decide_select(t: &[u8], starts: &[u32; STARTS], cells: &[u64; memory::WORDS], at: usize, thread: u8) -> Step
+    requires { ⌜ Selectable (now t) (now starts) (now cells) at ⌝ }
+    ensures { λ r. ⌜ Selects (now (t .entry)) (now (starts .entry)) (now (cells .entry)) at thread r ⌝ }
+{
+    let source = table::two(t, at + 3) as usize;
+    let Spot::At { location: _, index: _, cell } = memory::find(starts, source, thread as u32) else {
+        return Step::Blocked;
+    };
+    let Answer::Is(value) = memory::get(cells, cell) else {
+        return Step::Blocked;
+    };
+    let Value::Whole(n) = value else {
+        return Step::Blocked;
+    };
+    if n == 0 {
+        return Step::Blocked;
+    }
+    let target = table::two(t, at + 1) as usize;
+    Step::Select {
+        cell: memory::start(starts, target),
+        thread,
+        next: at + 5,
+    }
 }

@@ -59,6 +59,14 @@ pub fn set_starts(t: &[u8], at: usize, count: usize, starts: &mut [u32; STARTS])
     wide(total)
 }
 
+// The first cell of a location.
+pub fn start(starts: &[u32; STARTS], location: usize) -> usize
+    requires { ⌜ location ≤ mostLocations ⌝ }
+    ensures { λ r. ⌜ r ≡ getD (now (starts .entry)) location 0 ⌝ }
+{
+    wide(starts[location])
+}
+
 // The cell of an index of a location.
 pub fn find(starts: &[u32; STARTS], location: usize, index: u32) -> Spot
     ensures { λ r. ⌜ Finds (now (starts .entry)) location index r ⌝ }
