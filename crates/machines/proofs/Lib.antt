@@ -24,3 +24,5 @@ pub mod Deciding
 pub mod Passing
 -- deciding a select
 pub mod Selecting
+-- the run, step by step
+pub mod Running

@@ -2,6 +2,7 @@
 use Prim.Native.Nat.{ℕ, _+_, _*_, _^_, _≤_, _<_}
 use mathlib.Core.Path.{_≡_}
 use mathlib.Core.List.{List, [], _∷_, _++_, map}
+use mathlib.Core.Bool.{Bool, true, false}
 use lib.ListN.{length, getD, set, drop}
 use lib.Dec.{ltb}
 use Rattle.value.specs.Maybe.{Maybe, is, nothing, pick}
@@ -14,11 +15,14 @@ use Rattle.reader.specs.Laws.Sound.{Sound}
 use Rattle.reader.specs.Laws.TablePlaces.{recordsAt}
 use Rattle.machines.specs.declared.decide.Step.{Step}
 use Rattle.machines.specs.declared.decide.Step.the-variants.{Return, Blocked}
+use Rattle.machines.specs.declared.sequential.Ran.{Ran}
 use Rattle.machines.specs.declared.sequential.State.{State}
-use Rattle.machines.specs.Memory.{evals, Event}
+use Rattle.machines.specs.Memory.{evals, fresh, Event}
 use Rattle.machines.specs.Step.{Frame, Stack}
+use Rattle.machines.specs.Threads.{End}
 use Rattle.machines.specs.Copy as C
-use Rattle.machines.specs.Work.{Clears, frameWords, Framed, Holds, Bases}
+use Rattle.machines.specs.Calls.{endNumber}
+use Rattle.machines.specs.Work.{Clears, frameWords, localWords, Framed, Holds, Bases}
 use Rattle.machines.specs.Events.{Logged}
 use Rattle.machines.specs.Decided.{Act, assigns, writes, reads, tests, calls, decided, chosen}
 use Rattle.machines.specs.Jumps.{positions, Jumps}
@@ -139,3 +143,70 @@ pub record CarriesOut (t : List ℕ) (records : ℕ) (js : List ℕ) (h : ℕ) (
     (s′ : State) : Type 0 where
   pub moves : (d : Due t records js ls bs cs es s x) → Moves (d .loaded .program) (d .lent) (d .schedule) h (d .config) ls′ bs′ cs′ es′ s′
   pub most : s′ .events ≤ s .events + 1
+
+-- ---- deciding a step
+
+-- a run with a frame, and with an entry where a select stands
+pub record Facing (t ts ss ls cs : List ℕ) (s : State) : Type 0 where
+  pub records : ℕ
+  pub jumps : List ℕ
+  pub loaded : Loaded t records jumps ss
+  pub lent : List ℕ
+  pub backs : List ℕ
+  pub buffer : List ℕ
+  pub config : C.Config
+  pub present : Present (loaded .program) lent ts ls backs cs buffer s config
+  pub frame : Frame Plain
+  pub below : Stack Plain
+  pub stack : config .stack ≡ frame ∷ below
+  pub entry : getD t (s .at) 0 ≡ 0x27 → s .taken < length ts
+
+-- the step x is decided for it; the arguments of a call are in the frame above
+pub record Faced {t ts ss ls cs : List ℕ} {s : State} (f : Facing t ts ss ls cs s) (ls′ : List ℕ) (x : Step) : Type 0 where
+  pub decision : Decision (f .loaded .program) (f .config) (f .frame) (s .at) x
+  pub present : Present (f .loaded .program) (f .lent) ts ls′ (f .backs) cs (f .buffer) s (f .config)
+  pub args : (m : ℕ) (es : List Expr) (b : Block Plain) (vs : List Value) → f .frame .code ≡ step tt (call m es) b → evals (f .frame .env) es ≡ is vs
+      → Framed ls′ (frameWords * s .depth) (map is vs)
+
+-- of whatever run it is
+pub record Faces (t ts ss ls cs : List ℕ) (s : State) (ls′ : List ℕ) (x : Step) : Type 0 where
+  pub faced : (f : Facing t ts ss ls cs s) → Faced f ls′ x
+
+-- ---- the run
+
+-- "used up (select and no entry)"
+pub record UsedUp (t ts : List ℕ) (s : State) (r : Bool) : Type 0 where
+  pub yes : r ≡ true → (getD t (s .at) 0 ≡ 0x27) × (s .taken ≡ length ts)
+  pub no : r ≡ false → getD t (s .at) 0 ≡ 0x27 → s .taken < length ts
+
+-- what a run came to, in this state
+abbrev pub ranWith : ℕ → ℕ → State → Ran
+ranWith end steps s = record { end = end; steps = steps; taken = s .taken; events = s .events }
+
+-- the words of the locals and of the cells, and the positions of the callers, before the first step
+pub record Starting (t : List ℕ) (records : ℕ) (js ss ls bs cs : List ℕ) : Type 0 where
+  pub loaded : Loaded t records js ss
+  pub zero : (k : ℕ) → getD ls k 0 ≡ 0
+  pub long : length ls ≡ localWords
+  pub backs : length bs ≡ mostFrames + 1
+  pub cells : Holds (fresh (loaded .program .sizes)) cs
+
+-- the run of the definition, with budget n
+abbrev pub runOf : {t : List ℕ} {records : ℕ} {js ss ls bs cs : List ℕ} → Starting t records js ss ls bs cs → List ℕ → ℕ → ℕ → C.Ran
+runOf q ts h n = C.run h (q .loaded .program .procs) n 0 (C.start (q .loaded .program) ts)
+
+-- how it ended, as the code says it
+pub record RanAs {t : List ℕ} {records : ℕ} {js ss ls bs cs : List ℕ} (q : Starting t records js ss ls bs cs) (ts : List ℕ) (h n : ℕ) (lent cs′ es : List ℕ) (r : Ran) : Type 0 where
+  pub how : End
+  pub config : C.Config
+  pub same : runOf q ts h n ≡ record { how = how; steps = r .steps; config = config }
+  pub end : r .end ≡ endNumber how
+  pub memory : Holds (config .memory) cs′
+  pub sizes : shape (config .memory) ≡ q .loaded .program .sizes
+  pub todo : config .todo ≡ drop (r .taken) ts
+  pub taken : r .taken ≤ length ts
+  pub events : Logged lent (config .events) es (r .events)
+
+-- whatever program it is
+pub record Runs (t : List ℕ) (records : ℕ) (ts js ss ls bs cs : List ℕ) (h n : ℕ) (lent cs′ es : List ℕ) (r : Ran) : Type 0 where
+  pub ran : (q : Starting t records js ss ls bs cs) → RanAs q ts h n lent cs′ es r

@@ -1,4 +1,5 @@
 // The sequential machine: report RR-2017-03, figure 1, with select by a schedule, under a budget.
+use super::decide;
 use super::decide::Step;
 use super::event;
 use super::event::Event;
@@ -7,15 +8,18 @@ use super::jumps::POSITIONS;
 use super::locals;
 use super::locals::FRAME;
 use super::memory;
+use super::memory::STARTS;
 use super::table;
+use reader::block::SELECT;
 use value::Value;
 ghost use mathlib.Core.Path.{_≡_};
-ghost use Prim.Native.Nat.{_+_, _-_, _^_, _≤_, _<_};
+ghost use Prim.Native.Nat.{_+_, _^_, _≤_, _<_};
 ghost use lib.IntN.{pos};
+ghost use lib.ListN.{length};
 ghost use Rattle.value.specs.declared.Value.the-variants.{Whole};
 ghost use Rattle.machines.specs.Events.{eventOf};
 ghost use Rattle.machines.specs.Jumps.{positions};
-ghost use Rattle.machines.specs.Sequential.{mostFrames, Recorded, Enterable, Enters, Due, CarriesOut};
+ghost use Rattle.machines.specs.Sequential.{mostFrames, Recorded, Enterable, Enters, Due, CarriesOut, Facing, Faces, UsedUp, ranWith, Starting, Runs};
 
 // "P not 1..512": a position for each frame, by the number of frames up to it.
 pub const FRAMES: usize = 513;
@@ -23,12 +27,29 @@ pub const FRAMES: usize = 513;
 // The bytes of a procedure's record.
 const RECORD: usize = 6;
 
+// A number for each end.
+const FINISHED: u8 = 0;
+
+const USED: u8 = 1;
+
+const BLOCKED: u8 = 2;
+
+const SPENT: u8 = 3;
+
 // The state of a run beside its arrays: where it goes on, how many frames there are, the thread last selected, the entries taken and
 // the events recorded.
 pub struct State {
     pub at: usize,
     pub depth: usize,
     pub thread: u8,
+    pub taken: usize,
+    pub events: usize,
+}
+
+// What a run came to: its end, its steps, the entries taken and the events recorded.
+pub struct Ran {
+    pub end: u8,
+    pub steps: u64,
     pub taken: usize,
     pub events: usize,
 }
@@ -170,5 +191,90 @@ fn carry_out(
             after
         }
         Step::Blocked => after,
+    }
+}
+
+// The step that is due: a select asks the schedule's next entry.
+fn due(
+    t: &[u8],
+    schedule: &[u8],
+    starts: &[u32; STARTS],
+    words: &mut [u64; locals::WORDS],
+    cells: &[u64; memory::WORDS],
+    state: State,
+) -> Step
+    requires { ⌜ Facing (now t) (now schedule) (now starts) (now words) (now cells) state × (state .at < length (now t)) × (1 ≤ state .depth) × (state .depth ≤ mostFrames) ⌝ }
+    ensures { λ r. ⌜ Faces (now (t .entry)) (now (schedule .entry)) (now (starts .entry)) (now (words .entry)) (now (cells .entry)) state (now (words .exit)) r ⌝ }
+{
+    let at = state.at;
+    if t[at] == SELECT {
+        let taken = state.taken;
+        return decide::decide_select(t, starts, cells, at, schedule[taken]);
+    }
+    decide::decide(t, words, FRAME * (state.depth - 1), starts, cells, at)
+}
+
+// "used up (select and no entry)".
+fn used_up(t: &[u8], schedule: &[u8], state: State) -> bool
+    requires { ⌜ (state .at < length (now t)) × (state .taken ≤ length (now schedule)) ⌝ }
+    ensures { λ r. ⌜ UsedUp (now (t .entry)) (now (schedule .entry)) state r ⌝ }
+{
+    let at = state.at;
+    if t[at] == SELECT { state.taken == schedule.len() } else { false }
+}
+
+// How a run ended.
+fn outcome(end: u8, steps: u64, state: State) -> Ran
+    ensures { λ r. ⌜ r ≡ ranWith end steps state ⌝ }
+{
+    Ran {
+        end,
+        steps,
+        taken: state.taken,
+        events: state.events,
+    }
+}
+
+// The run: "Before each step a run is judged finished, at its budget, used up (select and no entry), blocked, in this order".
+fn go(
+    t: &[u8],
+    records: usize,
+    schedule: &[u8],
+    jumps: &[u16; POSITIONS],
+    starts: &[u32; STARTS],
+    words: &mut [u64; locals::WORDS],
+    cells: &mut [u64; memory::WORDS],
+    back: &mut [u32; FRAMES],
+    events: &mut [u8],
+    h: usize,
+    budget: u64,
+) -> Ran
+    requires { ⌜ Starting (now t) records (now jumps) (now starts) (now words) (now back) (now cells) ⌝ }
+    ensures { λ r. ⌜ Runs (now (t .entry)) records (now (schedule .entry)) (now (jumps .entry)) (now (starts .entry)) (now (words .entry)) (now (back .entry)) (now (cells .entry)) h budget (now (events .entry)) (now (cells .exit)) (now (events .exit)) r ⌝ }
+{
+    let mut state = State {
+        at: wide(table::four(t, records + 2)),
+        depth: 1,
+        thread: 0,
+        taken: 0,
+        events: 0,
+    };
+    let mut steps = 0;
+    loop {
+        if state.depth == 0 {
+            return outcome(FINISHED, steps, state);
+        }
+        if steps == budget {
+            return outcome(SPENT, steps, state);
+        }
+        if used_up(t, schedule, state) {
+            return outcome(USED, steps, state);
+        }
+        let step = due(t, schedule, starts, words, cells, state);
+        if let Step::Blocked = step {
+            return outcome(BLOCKED, steps, state);
+        }
+        state = carry_out(t, records, jumps, words, cells, back, events, h, state, step);
+        steps += 1;
     }
 }
