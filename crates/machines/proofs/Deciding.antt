@@ -24,13 +24,12 @@ use Rattle.machines.specs.declared.decide.Passed.the-variants.{All, Miss
 use Rattle.machines.specs.declared.memory.Spot.{Spot}
 use Rattle.machines.specs.declared.memory.Spot.the-variants.{At, Nowhere}
 use Rattle.machines.specs.declared.decide.Step.{Step}
-use Rattle.machines.specs.declared.decide.Step.the-variants.{Return, Assign, Read, Write, Test, Call, Select, Blocked}
+use Rattle.machines.specs.declared.decide.Step.the-variants.{Return, Assign, Read, Write, Test, Call, Blocked}
 use Rattle.machines.specs.Memory.{Env, lookup, eval, evals, index, place, truth, Memory, cell}
-use Rattle.machines.specs.Work.{Beside, frameWords, localWords, Framed, cellWords, Holds, Bases, IsCell, Placed, Places}
+use Rattle.machines.specs.Work.{Beside, frameWords, localWords, Framed, cellWords, Placed, Places}
 use Rattle.machines.specs.Words.{held}
 use Rattle.machines.specs.Evaluated.{Below, Ready, Evaluates}
 use Rattle.machines.specs.Laws.Work.{beside-same, framed-none}
-use Rattle.machines.specs.Laws.Cells.{shape}
 use Rattle.machines.specs.Laws.Holding.{cell-full, cell-word, cell-held}
 use Rattle.machines.specs.Decided.{Act, assigns, writes, reads, tests, calls, returns, numberOf, decided, orBlocked, AssignHere, WriteHere, ReadHere, Tests, TestHere, CallHere, ActAt}
 use Rattle.machines.specs.Decided.{argsOf, Poised, Passable, Laid, Lies, Kept, Any, Decides, PassedAs, PassesAll, Passes, DecidesAll}
@@ -268,7 +267,7 @@ module _ {t ls : List ℕ} {fb i : ℕ} where
     write-nowhere p {v = v} e a g P n = record {
       step = λ h η b.
           let none = nowhere η (given (x .answer) >>= index) (given p >>= place) (λ l k u. is (Write l k (numberOf η l k) v (y .next)))
-              (subst (Placed η (given p) (given (x .answer))) n (P .placed η (b .bases))) in
+          (subst (Placed η (given p) (given (x .answer))) n (P .placed η (b .bases))) in
           sym (ap orBlocked none) ∙ rw (ap given e) at (write-step (given p) h η q X Y (write-pointer h q a g));
     }
 
@@ -312,7 +311,7 @@ module _ {t ls : List ℕ} {fb i : ℕ} where
     read-nowhere n = record {
       step = λ h η m.
           let none = nowhere η (given (x .answer) >>= index) (given p >>= place) (λ l k v. is (Read (getD t (i + 1) 0) l k v (x .next)))
-              (subst (Placed η (given p) (given (x .answer))) n (P .placed η (m .bases))) in
+          (subst (Placed η (given p) (given (x .answer))) n (P .placed η (m .bases))) in
           sym (ap orBlocked none) ∙ read-step h η q X e g refl;
     }
 
@@ -372,7 +371,7 @@ module _ {t ls : List ℕ} {fb i : ℕ} where
     pub call-none : {M : Memory → Type 0} → r ≡ Missing → DecidesAll t ls ls′ fb i M Blocked
     call-none n =
         let none : (h : Poised t ls fb i) → evals (h .env) (see-call (h .act) (h .here) q .1) ≡ nothing =
-            λ h. subst (PassedAs (args h q e) ls′) n (P .passed (args h q e))
+        λ h. subst (PassedAs (args h q e) ls′) n (P .passed (args h q e))
         in
         record {
           decides = record {

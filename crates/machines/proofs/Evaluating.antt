@@ -1,5 +1,5 @@
 -- The evaluator: what stands where, and one law for each way through it.
-use Prim.Native.Nat.{ℕ, _+_, _-_, _^_, _≤_, _<_}
+use Prim.Native.Nat.{ℕ, _+_, _-_, _≤_, _<_}
 use native.Mathlib.Omega.{arith}
 use mathlib.Core.Path.{_≡_, refl, sym, ap, ap₂, subst, _∙_}
 use mathlib.Core.List.{List}
@@ -11,13 +11,13 @@ use borrow.Author.Tests.{eqb-true, eqb-false}
 use mir.Syntax.{w32}
 use mir.Val.{SFits, ofZ, toZ}
 use mir.Facts.{toZ-ofZ}
-use Rattle.value.specs.Maybe.{Maybe, is, nothing, _>>=_}
+use Rattle.value.specs.Maybe.{is, _>>=_}
 use Rattle.value.specs.Values.{One, not, neg, Two, add, sub, mul, less, equal, and, given, numberAt, unword}
-use Rattle.value.specs.Marks.{mark₁, mark₂, Mark, oneMark, twoMark, markOf, operandsOf, applied₁, applied₂}
+use Rattle.value.specs.Marks.{mark₁, mark₂, markOf, operandsOf, applied₁, applied₂}
 use Rattle.value.specs.declared.Value.{Value}
 use Rattle.value.specs.declared.Value.the-variants.{Whole, Location, Truth}
 use Rattle.value.specs.declared.Answer.{Answer}
-use Rattle.value.specs.declared.Answer.the-variants.{Is, Nothing}
+use Rattle.value.specs.declared.Answer.the-variants.{Is}
 use Rattle.value.specs.Laws.Tests.{by-test}
 use Rattle.value.specs.Laws.Bytes.{number-at}
 use Rattle.value.specs.Laws.Marks.{mark₁-marks, mark₂-marks}
@@ -25,9 +25,9 @@ use Rattle.reader.specs.Syntax.{Expr, constant, local, one, two}
 use Rattle.reader.specs.Laws.Exprs.{depth-pos}
 use Rattle.reader.specs.Laws.Stands.{first, others}
 use Rattle.reader.specs.Laws.Grammar.{ExprAt, OneAt, TwoAt, whole-here, location-here, no-here, yes-here, one-here, two-here, expr-inside, expr-deep}
-use Rattle.machines.specs.Memory.{Env, eval, lookup}
+use Rattle.machines.specs.Memory.{eval}
 use Rattle.machines.specs.Words.{held}
-use Rattle.machines.specs.Work.{localWords, Framed}
+use Rattle.machines.specs.Work.{localWords}
 use Rattle.machines.specs.Evaluated.{operated₁, operated₂, Below, Ready, valued, Evaluates}
 use Rattle.machines.specs.declared.evaluate.Valued.{Valued}
 use Rattle.machines.specs.Laws.Work.{framed-get}

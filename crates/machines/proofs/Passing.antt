@@ -11,11 +11,10 @@ use Rattle.value.specs.declared.Value.{Value}
 use Rattle.value.specs.declared.Answer.the-variants.{Is, Nothing}
 use Rattle.value.specs.Laws.Lists.{Each}
 use Rattle.reader.specs.Syntax.{Expr}
-use Rattle.reader.specs.Laws.Grammar.{ExprAt, ExprsAt, MoreAt, exprs-none, exprs-more}
+use Rattle.reader.specs.Laws.Grammar.{ExprsAt, MoreAt, exprs-none, exprs-more}
 use Rattle.machines.specs.declared.evaluate.Valued.{Valued}
-use Rattle.machines.specs.declared.decide.Passed.{Passed}
 use Rattle.machines.specs.declared.decide.Passed.the-variants.{All, Missing}
-use Rattle.machines.specs.Memory.{Env, eval, evals}
+use Rattle.machines.specs.Memory.{evals}
 use Rattle.machines.specs.Work.{Puts, Beside, frameWords, localWords, Framed}
 use Rattle.machines.specs.Evaluated.{Below, Ready, Evaluates}
 use Rattle.machines.specs.Decided.{Passable, PassesAll}
@@ -112,8 +111,8 @@ module _ {t ls : List ℕ} {fb i n : ℕ} where
       passing-more {v} {ls″} e p = record {
         within = omega arith;
         beside =
-          let end : fb + frameWords + (k + 1) ≡ fb + frameWords + k + 1 = omega arith in
-          rw end (beside-then (P .beside) (beside-put p) (omega arith) (omega arith));
+            let end : fb + frameWords + (k + 1) ≡ fb + frameWords + k + 1 = omega arith in
+            rw end (beside-then (P .beside) (beside-put p) (omega arith) (omega arith));
         on = λ h.
             let o = P .on h in
             let w = next h P l in
@@ -128,8 +127,8 @@ module _ {t ls : List ℕ} {fb i n : ℕ} where
               below = next-below h P l .1;
               framed = framed-below (beside-put p) (omega (arith, h .narrow)) (o .framed);
               args =
-                rw (L.map-append is (o .vs) (v ∷ []))
-                (framed-more (map is (o .vs)) (o .args) (rw long (omega (arith, h .room, h .few))) (rw long p));
+                  rw (L.map-append is (o .vs) (v ∷ []))
+                  (framed-more (map is (o .vs)) (o .args) (rw long (omega (arith, h .room, h .few))) (rw long p));
               count = omega (arith, length-append (o .vs) (v ∷ []), o .count);
             };
       }
@@ -142,7 +141,7 @@ module _ {t ls : List ℕ} {fb i n : ℕ} where
           let o = P .on h in
           let none = exprs-none (o .here) (omega arith) in
           let all : evals (h .env) (h .es) ≡ is (o .vs) =
-              o .so ∙ ap (λ es. evals (h .env) es >>= λ us. is (o .vs ++ us)) (none .0) ∙ ap is (append-nil (o .vs))
+          o .so ∙ ap (λ es. evals (h .env) es >>= λ us. is (o .vs ++ us)) (none .0) ∙ ap is (append-nil (o .vs))
           in
           (sym (none .1), (o .vs, all, o .args));
     }

@@ -4,7 +4,7 @@ use native.Mathlib.Omega.{arith}
 use mathlib.Core.Path.{_≡_, refl, sym, ap, _∙_}
 use mathlib.Core.List.{List, [], _∷_}
 use mathlib.Core.Bool.{true, false}
-use lib.ListN.{length, getD, take, List·getD-eq-default}
+use lib.ListN.{getD, take, List·getD-eq-default}
 use lib.IntN.{ℤ, pos, negsuc, natAbs}
 use lib.Signed.{ltZ, nonNeg}
 use lib.Dec.{T}
@@ -26,7 +26,7 @@ use Rattle.value.specs.declared.Answer.the-variants.{Is, Nothing}
 use Rattle.machines.specs.declared.memory.Spot.{Spot}
 use Rattle.machines.specs.declared.memory.Spot.the-variants.{At, Nowhere}
 use Rattle.machines.specs.Memory.{index, place, Memory, cell}
-use Rattle.machines.specs.Work.{mostLocations, Bases, Found, Finds, Placed, Places}
+use Rattle.machines.specs.Work.{mostLocations, Found, Finds, Placed, Places}
 use Rattle.machines.specs.Laws.Cells.{shape}
 use Rattle.machines.specs.Laws.Holding.{no-cell}
 use Rattle.machines.specs.Laws.Starting.{next-start}

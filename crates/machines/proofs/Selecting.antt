@@ -1,10 +1,10 @@
 -- Deciding a select, way by way.
 use Prim.Native.Nat.{ℕ, zero, suc, _+_, _≤_, _<_}
 use native.Mathlib.Omega.{arith}
-use mathlib.Core.Path.{_≡_, refl, sym, ap, ap₂, subst, _∙_}
+use mathlib.Core.Path.{_≡_, refl, sym, ap, subst, _∙_}
 use mathlib.Core.List.{List, [], _∷_}
 use mathlib.Core.Bool.{Bool, true, false}
-use lib.ListN.{length, getD, take, List·getD-eq-default}
+use lib.ListN.{length, getD, List·getD-eq-default}
 use lib.IntN.{ℤ, pos, negsuc}
 use lib.Dec.{ltb}
 use borrow.Author.Tests.{ltb-true, ltb-false}
@@ -13,8 +13,7 @@ use mir.Val.{SFits, ofZ}
 use types.Run.{OneOf, miss}
 use denote.Enum.Declared.{tagOf}
 use Rattle.value.proofs.Value.{the-type}
-use Rattle.value.specs.Maybe.{Maybe, is, nothing, _>>=_, when}
-use Rattle.value.specs.Lists.{sum}
+use Rattle.value.specs.Maybe.{is, nothing, _>>=_, when}
 use Rattle.value.specs.Values.{given, numberAt}
 use Rattle.value.specs.declared.Value.{Value}
 use Rattle.value.specs.declared.Value.the-variants.{Whole, Location, Truth}
@@ -27,7 +26,7 @@ use Rattle.machines.specs.declared.decide.Step.the-variants.{Select, Blo
 use Rattle.machines.specs.Memory.{Memory, cell}
 use Rattle.machines.specs.Copy.{running}
 use Rattle.machines.specs.Words.{held}
-use Rattle.machines.specs.Work.{mostLocations, cellWords, IsCell, Found, Finds}
+use Rattle.machines.specs.Work.{mostLocations, cellWords, Found, Finds}
 use Rattle.machines.specs.Decided.{numberOf, orBlocked, chosen, Lies, SelectHere, Selects, Selectable}
 use Rattle.machines.specs.Laws.Cells.{shape}
 use Rattle.machines.specs.Laws.Holding.{cell-word, cell-held}

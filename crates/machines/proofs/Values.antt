@@ -1,5 +1,4 @@
 -- A value that the code holds is in the range of its type.
-use native.Mathlib.Omega.{arith}
 use mathlib.Core.List.{List}
 use denote.Laws.{Is}
 use denote.Enum.Declared.{row}

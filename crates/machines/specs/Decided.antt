@@ -6,7 +6,6 @@ use mathlib.Core.List.{List, [], _∷_, map}
 use mathlib.Core.Bool as B
 use mathlib.Core.Bool.{Bool}
 use lib.ListN.{length, getD, take}
-use lib.IntN.{pos}
 use lib.Dec.{eqb}
 use Rattle.value.specs.Maybe.{Maybe, is, nothing, _>>=_, when, pick, either}
 use Rattle.value.specs.Lists.{at, sum}
@@ -14,15 +13,16 @@ use Rattle.value.specs.Values.{numberAt}
 use Rattle.value.specs.declared.Value.{Value}
 use Rattle.value.specs.Laws.Lists.{Each}
 use Rattle.reader.specs.Syntax.{Expr, Instr, assign, write, read, while, if, call, atomic, select, Block, step, _⊕_, Proc}
+use Rattle.reader.specs.Encode.{expr, instr}
 use Rattle.reader.specs.Laws.Grammar.{ExprAt, ExprsAt}
 use Rattle.machines.specs.declared.decide.Passed.{Passed}
 use Rattle.machines.specs.declared.decide.Passed.the-variants.{All, Missing}
 use Rattle.machines.specs.declared.decide.Step.{Step}
 use Rattle.machines.specs.declared.decide.Step.the-variants.{Return, Assign, Read, Write, Test, Call, Select, Blocked}
 use Rattle.machines.specs.Memory.{Env, lookup, bound, eval, evals, index, place, truth, Memory, cell, stored, reading, writing}
-use Rattle.machines.specs.Step.{Frame, Stack, Moved, entered, quiet, runs}
+use Rattle.machines.specs.Step.{Stack, Moved, entered, quiet, runs}
 use Rattle.machines.specs.Copy.{running}
-use Rattle.machines.specs.Work.{Beside, frameWords, localWords, Framed, Holds, Bases}
+use Rattle.machines.specs.Work.{Beside, frameWords, localWords, Framed, Holds, Bases, IsCell}
 use Rattle.machines.specs.Evaluated.{Below}
 use Rattle.machines.specs.Laws.Cells.{shape}
 
@@ -36,6 +36,28 @@ pub data Act : Type 0 where
   tests : Expr → Act
   calls : ℕ → List Expr → Act
   returns : Act
+
+-- what an instruction asks; an atomic block and a select ask nothing of this kind
+abbrev pub actOf : {A : Type 0} → Instr A → Maybe Act
+actOf (assign x e) = is (assigns x e)
+actOf (write y o e) = is (writes y o e)
+actOf (read x y o) = is (reads x y o)
+actOf (while e b) = is (tests e)
+actOf (if e b c) = is (tests e)
+actOf (call m es) = is (calls m es)
+actOf (atomic b) = nothing
+actOf (select a b) = nothing
+
+-- where it ends, if the instruction stands at i: of a while and an if, where the test ends and the first block begins
+abbrev pub actEnd : {A : Type 0} → ℕ → Instr A → ℕ
+actEnd i (while e b) = i + 1 + length (expr e)
+actEnd i (if e b c) = i + 1 + length (expr e)
+actEnd {A} i (assign x e) = i + length (instr {A = A} (assign x e))
+actEnd {A} i (write y o e) = i + length (instr {A = A} (write y o e))
+actEnd {A} i (read x y o) = i + length (instr {A = A} (read x y o))
+actEnd {A} i (call m es) = i + length (instr {A = A} (call m es))
+actEnd i (atomic b) = i + length (instr (atomic b))
+actEnd {A} i (select a b) = i + length (instr {A = A} (select a b))
 
 -- the arguments of a call
 abbrev pub argsOf : Act → List Expr
@@ -78,6 +100,85 @@ orBlocked nothing = Blocked
 -- the step of an act
 abbrev pub decided : Env → Memory → Act → ℕ → Step
 decided ρ η a j = orBlocked (deed ρ η a j)
+
+-- ---- what a step means
+
+-- the code after a test
+abbrev pub branch : {A : Type 0} → Bool → A → Instr A → Block A → Block A
+branch q a (while e b) c = pick q (b ⊕ step a (while e b) c) c
+branch q a (if e b d) c = pick q b d ⊕ c
+branch q a (assign x e) c = c
+branch q a (write y o e) c = c
+branch q a (read x y o) c = c
+branch q a (call m es) c = c
+branch q a (atomic b) c = c
+branch q a (select x y) c = c
+
+-- the arguments of an instruction
+abbrev pub argsIn : {A : Type 0} → Instr A → List Expr
+argsIn (call m es) = es
+argsIn (assign x e) = []
+argsIn (write y o e) = []
+argsIn (read x y o) = []
+argsIn (while e b) = []
+argsIn (if e b c) = []
+argsIn (atomic b) = []
+argsIn (select a b) = []
+
+-- what it leaves, of instruction i with tag a, first in procedure m with locals ρ, before c and above the frames s: report RR-2017-03, figure 1
+module _ {A : Type 0} (procs : List (Proc A)) (t m : ℕ) (ρ : Env) (a : A) (i : Instr A) (c : Block A) (s : Stack A) (η : Memory) where
+  abbrev pub carried : Step → Maybe (Moved A)
+  carried (Assign x v j) = is (quiet (record { proc = m; env = bound ρ x v; code = c } ∷ s) η)
+  carried (Read x l k v j) =
+      is (record {
+        stack = record { proc = m; env = bound ρ x v; code = c } ∷ s;
+        memory = η;
+        events = record { thread = t; way = reading; place = l; index = k; value = v } ∷ [];
+      })
+  carried (Write l k n v j) =
+      is (record {
+        stack = record { proc = m; env = ρ; code = c } ∷ s;
+        memory = stored η l k v;
+        events = record { thread = t; way = writing; place = l; index = k; value = v } ∷ [];
+      })
+  carried (Test q j) = is (quiet (record { proc = m; env = ρ; code = branch q a i c } ∷ s) η)
+  carried (Call n j) =
+      evals ρ (argsIn i) >>= λ vs.
+      at procs n >>= λ p.
+      when (B.not (either (eqb n m) (runs n s)))
+      (is (quiet (entered n p vs ∷ record { proc = m; env = ρ; code = c } ∷ s) η))
+  carried Return = is (quiet s η)
+  carried (Select k e j) = nothing
+  carried Blocked = nothing
+
+-- the local that an act sets
+abbrev pub targetOf : Act → Maybe ℕ
+targetOf (assigns x e) = is x
+targetOf (reads x y o) = is x
+targetOf (writes y o e) = nothing
+targetOf (tests e) = nothing
+targetOf (calls m es) = nothing
+targetOf returns = nothing
+
+-- the procedure that it calls
+abbrev pub calleeOf : Act → Maybe ℕ
+calleeOf (calls m es) = is m
+calleeOf (assigns x e) = nothing
+calleeOf (writes y o e) = nothing
+calleeOf (reads x y o) = nothing
+calleeOf (tests e) = nothing
+calleeOf returns = nothing
+
+-- what a decided step of act k says is so: it goes on at j, its local is the act's target, its cell is one of memory, its arguments have values
+abbrev pub Right : Env → Memory → Act → ℕ → Step → Type 0
+Right ρ η k j (Assign x v n) = (n ≡ j) × (targetOf k ≡ is x)
+Right ρ η k j (Read x l i v n) = (n ≡ j) × (targetOf k ≡ is x)
+Right ρ η k j (Write l i c v n) = (n ≡ j) × IsCell η l i c
+Right ρ η k j (Test q n) = n ≡ j
+Right ρ η k j (Call m n) = (n ≡ j) × (calleeOf k ≡ is m) × ((vs : List Value) × (evals ρ (argsOf k) ≡ is vs))
+Right ρ η k j Return = k ≡ returns
+Right ρ η k j (Select c e n) = ⊥
+Right ρ η k j Blocked = Unit {0}
 
 -- "Select .. writes t into a[0], .. if b[t] exists and is a number other than 0"
 abbrev pub chosen : Memory → ℕ → ℕ → ℕ → ℕ → Step

@@ -107,7 +107,12 @@ fn decide_write(
         return Step::Blocked;
     };
     let pointer = locals::get(words, base, table::byte(t, at + 1));
-    let Spot::At { location, index, cell } = memory::place(starts, pointer, offset) else {
+    let Spot::At {
+        location,
+        index,
+        cell,
+    } = memory::place(starts, pointer, offset)
+    else {
         return Step::Blocked;
     };
     Step::Write {
@@ -134,7 +139,12 @@ fn decide_read(
     let o = evaluate::evaluate(t, words, base, at + 3);
     let offset = o.answer;
     let pointer = locals::get(words, base, table::byte(t, at + 2));
-    let Spot::At { location, index, cell } = memory::place(starts, pointer, offset) else {
+    let Spot::At {
+        location,
+        index,
+        cell,
+    } = memory::place(starts, pointer, offset)
+    else {
         return Step::Blocked;
     };
     let Answer::Is(value) = memory::get(cells, cell) else {
@@ -156,7 +166,13 @@ pub enum Passed {
 }
 
 // The values of `count` expressions go to the frame above, which is no part of the state before the call.
-fn pass(t: &[u8], words: &mut [u64; locals::WORDS], base: usize, from: usize, count: usize) -> Passed
+fn pass(
+    t: &[u8],
+    words: &mut [u64; locals::WORDS],
+    base: usize,
+    from: usize,
+    count: usize,
+) -> Passed
     requires { ⌜ Passable (now t) (now words) base from count ⌝ }
     ensures { λ r. ⌜ PassesAll (now (t .entry)) (now (words .entry)) (now (words .exit)) base from count r ⌝ }
 {
@@ -217,12 +233,23 @@ pub fn decide(
 }
 
 // The step of the select at `at`, which takes an entry of the schedule.
-pub fn decide_select(t: &[u8], starts: &[u32; STARTS], cells: &[u64; memory::WORDS], at: usize, thread: u8) -> Step
+pub fn decide_select(
+    t: &[u8],
+    starts: &[u32; STARTS],
+    cells: &[u64; memory::WORDS],
+    at: usize,
+    thread: u8,
+) -> Step
     requires { ⌜ Selectable (now t) (now starts) (now cells) at ⌝ }
     ensures { λ r. ⌜ Selects (now (t .entry)) (now (starts .entry)) (now (cells .entry)) at thread r ⌝ }
 {
     let source = table::two(t, at + 3) as usize;
-    let Spot::At { location: _, index: _, cell } = memory::find(starts, source, thread as u32) else {
+    let Spot::At {
+        location: _,
+        index: _,
+        cell,
+    } = memory::find(starts, source, thread as u32)
+    else {
         return Step::Blocked;
     };
     let Answer::Is(value) = memory::get(cells, cell) else {

@@ -1,21 +1,19 @@
 -- Memory in words: each cell by its number, stores, fresh memory, and the bytes of all cells.
-use Prim.Native.Nat.{ℕ, zero, suc, _+_, _*_, _-_, _^_, _≤_, _<_}
+use Prim.Native.Nat.{ℕ, zero, suc, _+_, _-_, _^_, _≤_, _<_}
 use native.Mathlib.Omega.{arith}
 use mathlib.Core.Path.{_≡_, refl, sym, ap, _∙_}
-use mathlib.Core.List.{List, [], _∷_, _++_, append-assoc}
-use mathlib.Core.Bool.{true, false}
-use lib.ListN.{length, getD, take, drop, set, replicate, length-append, length-set, length-replicate, getD-replicate, replicate-append-replicate}
-use lib.Seq.{getD-set-same, getD-set-other, set-append-left, take-all}
+use mathlib.Core.List.{List, [], _∷_, _++_}
+use lib.ListN.{length, getD, take, set, replicate, length-append, length-set, length-replicate, getD-replicate, replicate-append-replicate}
+use lib.Seq.{getD-set-same, getD-set-other, set-append-left}
 use lib.IntN.{pos}
-use lib.Dec.{eqb, ltb}
-use borrow.Author.Tests.{eqb-true, eqb-false, ltb-true, ltb-false}
-use Rattle.value.specs.Maybe.{Maybe, is, nothing, _>>=_}
+use lib.Dec.{eqb}
+use borrow.Author.Tests.{eqb-true, eqb-false}
+use Rattle.value.specs.Maybe.{is, nothing}
 use Rattle.value.specs.Lists.{at, sum}
-use Rattle.value.specs.Values.{cellBytes}
 use Rattle.value.specs.declared.Value.{Value}
 use Rattle.value.specs.declared.Value.the-variants.{Whole}
 use Rattle.value.specs.Laws.Tests.{by-test}
-use Rattle.value.specs.Laws.Lists.{at-set-same, at-set-other, at-replicate, at-after, at-below, at-getD}
+use Rattle.value.specs.Laws.Lists.{at-set-same, at-set-other, at-replicate, at-after, at-getD}
 use Rattle.reader.specs.Encode.{each}
 use Rattle.machines.specs.Memory.{Memory, cell, stored, fresh}
 use Rattle.machines.specs.Words.{held}

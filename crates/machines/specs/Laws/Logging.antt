@@ -2,14 +2,12 @@
 use Prim.Native.Nat.{ℕ, suc, _+_, _*_, _/_, _≤_, _<_}
 use native.Mathlib.Numerals.{add-one}
 use native.Mathlib.Omega.{arith}
-use mathlib.Core.Path.{_≡_, refl, sym, ap, ap₂, _∙_}
+use mathlib.Core.Path.{_≡_, refl, ap, _∙_}
 use mathlib.Core.List.{List, [], _∷_, _++_, append-nil}
-use mathlib.Core.Bool.{true, false}
 use lib.ListN.{length, take, set, length-append, length-set}
 use lib.Seq.{sets, length-sets, take-all, take-append-le, take-nil}
 use lib.Dec.{ltb}
 use borrow.Author.Tests.{ltb-true, ltb-false, lt-ltb, le-ltb, le-leb}
-use Rattle.value.specs.Lists.{over}
 use Rattle.value.specs.Values.{bytes, withValue}
 use Rattle.value.specs.Laws.Tests.{by-test}
 use Rattle.value.specs.Laws.Lists.{length-over}

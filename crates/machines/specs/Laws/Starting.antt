@@ -2,9 +2,8 @@
 use Prim.Native.Nat.{ℕ, zero, suc, _+_, _*_, _-_, _^_, _≤_, _<_}
 use native.Mathlib.Omega.{arith}
 use mathlib.Core.Path.{_≡_, refl, sym, ap, ap₂, _∙_}
-use mathlib.Core.List.{List, [], _∷_, _++_}
-use mathlib.Core.Bool.{true, false}
-use lib.ListN.{length, getD, take, drop, set, length-set}
+use mathlib.Core.List.{List, [], _∷_}
+use lib.ListN.{length, getD, take, set, length-set}
 use lib.Seq.{getD-set-same, getD-set-other, take-all}
 use lib.Dec.{eqb}
 use borrow.Author.Tests.{eqb-true, eqb-false}
@@ -16,7 +15,7 @@ use Rattle.value.specs.Laws.Bytes.{number-at}
 use Rattle.reader.specs.Encode.{each}
 use Rattle.reader.specs.Laws.Stands as S
 use Rattle.reader.specs.Laws.Stands.{Stands}
-use Rattle.machines.specs.Work.{mostLocations, Bases, sizesAt, Starts}
+use Rattle.machines.specs.Work.{mostLocations, sizesAt, Starts}
 
 -- ---- sizes in a table
 

@@ -1,15 +1,14 @@
 -- Bytes written over a lent buffer one after the other: final cells and events.
-use Prim.Native.Nat.{ℕ, suc, _+_, _*_, _-_, _/_, _≤_, _<_}
+use Prim.Native.Nat.{ℕ, suc, _+_, _*_, _-_, _≤_, _<_}
 use native.Mathlib.Omega.{arith}
 use mathlib.Core.Path.{_≡_, refl, sym, ap, ap₂, _∙_}
 use mathlib.Core.List.{List, [], _∷_, _++_, append-assoc, append-nil}
-use mathlib.Core.Bool.{true, false}
-use lib.ListN.{length, getD, take, drop, length-append, length-take, length-drop}
+use lib.ListN.{length, getD, take, drop, length-append}
 use lib.Seq.{sets, sets-eq, take-append-seam, drop-append-add, drop-drop, take-suc, take-all, length-take-le}
 use lib.IntN.{pos}
 use borrow.Author.Tests.{le-leb}
 use Rattle.value.specs.Maybe.{is}
-use Rattle.value.specs.Lists.{at, over}
+use Rattle.value.specs.Lists.{over}
 use Rattle.value.specs.Values.{given, cellBytes, withValue}
 use Rattle.value.specs.declared.Value.{Value}
 use Rattle.value.specs.declared.Value.the-variants.{Whole}
