@@ -32,16 +32,17 @@ use Rattle.machines.specs.Memory.{Env, lookup, bound, eval, evals, index
 use Rattle.machines.specs.Memory as M
 use Rattle.machines.specs.Step.{Frame, Stack, entered}
 use Rattle.machines.specs.Copy as C
-use Rattle.machines.specs.Decided.{Act, assigns, writes, reads, tests, calls, returns, decided, orBlocked, numberOf, chosen}
+use Rattle.machines.specs.Decided.{Act, actOf, actEnd, decided, orBlocked, numberOf}
 use Rattle.machines.specs.Work.{Puts, Beside, Clears, frameWords, localWords, Framed, cellWords, Holds, IsCell}
 use Rattle.machines.specs.Events.{Logged, withEvent}
 use Rattle.machines.specs.Jumps.{positions, Settled, last, first, Jumps, Settles, Branches}
 use Rattle.machines.specs.Frames.{FrameAt, Called, Stacked, none, more}
-use Rattle.machines.specs.Sequential.{mostFrames, Loaded, Present, actOf, endOf, Decision, leaves, acts, selects, Due, Recorded, Enterable, Enters, Moves, CarriesOut}
+use Rattle.machines.specs.Sequential.{mostFrames, Loaded, Present, Decision, leaves, acts, selects, Due, Recorded, Enterable, Enters, Moves, CarriesOut}
 use Rattle.machines.specs.Laws.Work.{beside-same, beside-put, framed-put, framed-below, framed-entered}
 use Rattle.machines.specs.Laws.Holding.{cell-word, holds-put, no-cell}
 use Rattle.machines.specs.Laws.Cells.{shape, shape-stored}
 use Rattle.machines.specs.Laws.Logging.{logged-more}
+use Rattle.machines.specs.Laws.Deciding.{evals-length}
 use Rattle.machines.proofs.Jumping.{code-in}
 use Rattle.machines.proofs.Standing.{code-inside, code-named, settles-code, HeadAt, head-at, settled-body}
 use Rattle.machines.proofs.Framing.{frame-small, stacked-below, stacked-back, code-calls, stacked-few, never-runs}
@@ -53,21 +54,21 @@ use Rattle.machines.proofs.Nexts.{restacked, recoded, rebound, eventAt,
 pub data Doing (p : Program Plain) (c : C.Config) (f : Frame Plain) (k : ℕ) : Step → Type 0 where
   returning : f .code ≡ end → Doing p c f k Return
   assigning : {x n : ℕ} {v : Value} (e : Expr) (d r : Block Plain) → CodeAt (p .procs) (f .proc) k (step tt (assign x e) d) r
-      → f .code ≡ step tt (assign x e) (d ⊕ r) → n ≡ endOf k (assign x e) → eval (f .env) e ≡ is v → Doing p c f k (Assign x v n)
+      → f .code ≡ step tt (assign x e) (d ⊕ r) → n ≡ actEnd {A = Plain} k (assign x e) → eval (f .env) e ≡ is v → Doing p c f k (Assign x v n)
   reading : {x l i n : ℕ} {v : Value} (y : ℕ) (o : Expr) (d r : Block Plain) → CodeAt (p .procs) (f .proc) k (step tt (read x y o) d) r
-      → f .code ≡ step tt (read x y o) (d ⊕ r) → n ≡ endOf k (read x y o) → (eval (f .env) o >>= index) ≡ is i → (lookup (f .env) y >>= place) ≡ is l
+      → f .code ≡ step tt (read x y o) (d ⊕ r) → n ≡ actEnd {A = Plain} k (read x y o) → (eval (f .env) o >>= index) ≡ is i → (lookup (f .env) y >>= place) ≡ is l
       → cell (c .memory) l i ≡ is v → Doing p c f k (Read x l i v n)
   writing : {l i q n : ℕ} {v : Value} (y : ℕ) (o e : Expr) (d r : Block Plain) (u : Value) → CodeAt (p .procs) (f .proc) k (step tt (write y o e) d) r
-      → f .code ≡ step tt (write y o e) (d ⊕ r) → n ≡ endOf k (write y o e) → eval (f .env) e ≡ is v → (eval (f .env) o >>= index) ≡ is i
+      → f .code ≡ step tt (write y o e) (d ⊕ r) → n ≡ actEnd {A = Plain} k (write y o e) → eval (f .env) e ≡ is v → (eval (f .env) o >>= index) ≡ is i
       → (lookup (f .env) y >>= place) ≡ is l → cell (c .memory) l i ≡ is u → q ≡ numberOf (c .memory) l i → Doing p c f k (Write l i q v n)
   looping : {q : Bool} {n : ℕ} (e : Expr) (b d r : Block Plain) → CodeAt (p .procs) (f .proc) k (step tt (while e b) d) r
-      → f .code ≡ step tt (while e b) (d ⊕ r) → n ≡ endOf k (while e b) → (eval (f .env) e >>= truth) ≡ is q → Doing p c f k (Test q n)
+      → f .code ≡ step tt (while e b) (d ⊕ r) → n ≡ actEnd {A = Plain} k (while e b) → (eval (f .env) e >>= truth) ≡ is q → Doing p c f k (Test q n)
   choosing : {q : Bool} {n : ℕ} (e : Expr) (b b′ d r : Block Plain) → CodeAt (p .procs) (f .proc) k (step tt (if e b b′) d) r
-      → f .code ≡ step tt (if e b b′) (d ⊕ r) → n ≡ endOf k (if e b b′) → (eval (f .env) e >>= truth) ≡ is q → Doing p c f k (Test q n)
+      → f .code ≡ step tt (if e b b′) (d ⊕ r) → n ≡ actEnd {A = Plain} k (if e b b′) → (eval (f .env) e >>= truth) ≡ is q → Doing p c f k (Test q n)
   calling : {m n : ℕ} (es : List Expr) (d r : Block Plain) (vs : List Value) → CodeAt (p .procs) (f .proc) k (step tt (call m es) d) r
-      → f .code ≡ step tt (call m es) (d ⊕ r) → n ≡ endOf k (call m es) → evals (f .env) es ≡ is vs → Doing p c f k (Call m n)
+      → f .code ≡ step tt (call m es) (d ⊕ r) → n ≡ actEnd {A = Plain} k (call m es) → evals (f .env) es ≡ is vs → Doing p c f k (Call m n)
   selecting : {q t n : ℕ} (a b : ℕ) (ts : List ℕ) (d r : Block Plain) (v : Value) → CodeAt (p .procs) (f .proc) k (step tt (select a b) d) r
-      → f .code ≡ step tt (select a b) (d ⊕ r) → n ≡ endOf k (select a b) → c .todo ≡ t ∷ ts → cell (c .memory) b t ≡ is v → C.running v ≡ true
+      → f .code ≡ step tt (select a b) (d ⊕ r) → n ≡ actEnd {A = Plain} k (select a b) → c .todo ≡ t ∷ ts → cell (c .memory) b t ≡ is v → C.running v ≡ true
       → q ≡ numberOf (c .memory) a 0 → Doing p c f k (Select q t n)
 
 module _ {p : Program Plain} {c : C.Config} {f : Frame Plain} {k : ℕ} {x : Step} (on : x ≡ Blocked → ⊥) where
@@ -76,32 +77,32 @@ module _ {p : Program Plain} {c : C.Config} {f : Frame Plain} {k : ℕ} {x : Ste
   known e d = subst (Doing p c f k) (sym e) d
 
   do-assign : {y : ℕ} (e : Expr) (d r : Block Plain) → CodeAt (p .procs) (f .proc) k (step tt (assign y e) d) r → f .code ≡ step tt (assign y e) (d ⊕ r)
-      → (m : Maybe Value) → eval (f .env) e ≡ m → x ≡ orBlocked (m >>= λ v. is (Assign y v (endOf k (assign y e)))) → Doing p c f k x
+      → (m : Maybe Value) → eval (f .env) e ≡ m → x ≡ orBlocked (m >>= λ v. is (Assign y v (actEnd {A = Plain} k (assign y e)))) → Doing p c f k x
   do-assign e d r o q nothing w z = absurd (on z)
   do-assign e d r o q (is v) w z = known z (assigning e d r o q refl w)
 
   do-read : {y y′ : ℕ} (e : Expr) (d r : Block Plain) → CodeAt (p .procs) (f .proc) k (step tt (read y y′ e) d) r
       → f .code ≡ step tt (read y y′ e) (d ⊕ r) → (m : Maybe ℕ) → (eval (f .env) e >>= index) ≡ m → (m′ : Maybe ℕ) → (lookup (f .env) y′ >>= place) ≡ m′
-      → x ≡ orBlocked (m >>= λ i. m′ >>= λ l. cell (c .memory) l i >>= λ v. is (Read y l i v (endOf k (read y y′ e)))) → Doing p c f k x
+      → x ≡ orBlocked (m >>= λ i. m′ >>= λ l. cell (c .memory) l i >>= λ v. is (Read y l i v (actEnd {A = Plain} k (read y y′ e)))) → Doing p c f k x
   do-read {y} {y′} e d r o q nothing w m′ w′ z = absurd (on z)
   do-read {y} {y′} e d r o q (is i) w nothing w′ z = absurd (on z)
   do-read {y} {y′} e d r o q (is i) w (is l) w′ z = at (cell (c .memory) l i) refl z
     where
-      at : (m : Maybe Value) → cell (c .memory) l i ≡ m → x ≡ orBlocked (m >>= λ v. is (Read y l i v (endOf k (read y y′ e)))) → Doing p c f k x
+      at : (m : Maybe Value) → cell (c .memory) l i ≡ m → x ≡ orBlocked (m >>= λ v. is (Read y l i v (actEnd {A = Plain} k (read y y′ e)))) → Doing p c f k x
       at nothing u z = absurd (on z)
       at (is v) u z = known z (reading y′ e d r o q refl w w′ u)
 
   do-write : {y : ℕ} (e a : Expr) (d r : Block Plain) → CodeAt (p .procs) (f .proc) k (step tt (write y e a) d) r
       → f .code ≡ step tt (write y e a) (d ⊕ r) → (m₀ : Maybe Value) → eval (f .env) a ≡ m₀ → (m : Maybe ℕ) → (eval (f .env) e >>= index) ≡ m
       → (m′ : Maybe ℕ) → (lookup (f .env) y >>= place) ≡ m′
-      → x ≡ orBlocked (m₀ >>= λ v. m >>= λ i. m′ >>= λ l. cell (c .memory) l i >>= λ _. is (Write l i (numberOf (c .memory) l i) v (endOf k (write y e a))))
+      → x ≡ orBlocked (m₀ >>= λ v. m >>= λ i. m′ >>= λ l. cell (c .memory) l i >>= λ _. is (Write l i (numberOf (c .memory) l i) v (actEnd {A = Plain} k (write y e a))))
       → Doing p c f k x
   do-write {y} e a d r o q nothing w₀ m w m′ w′ z = absurd (on z)
   do-write {y} e a d r o q (is v) w₀ nothing w m′ w′ z = absurd (on z)
   do-write {y} e a d r o q (is v) w₀ (is i) w nothing w′ z = absurd (on z)
   do-write {y} e a d r o q (is v) w₀ (is i) w (is l) w′ z = at (cell (c .memory) l i) refl z
     where
-      at : (m : Maybe Value) → cell (c .memory) l i ≡ m → x ≡ orBlocked (m >>= λ _. is (Write l i (numberOf (c .memory) l i) v (endOf k (write y e a))))
+      at : (m : Maybe Value) → cell (c .memory) l i ≡ m → x ≡ orBlocked (m >>= λ _. is (Write l i (numberOf (c .memory) l i) v (actEnd {A = Plain} k (write y e a))))
           → Doing p c f k x
       at nothing u z = absurd (on z)
       at (is was) u z = known z (writing y e a d r was o q refl w₀ w w′ u refl)
@@ -112,23 +113,23 @@ module _ {p : Program Plain} {c : C.Config} {f : Frame Plain} {k : ℕ} {x : Ste
   do-test (is q) g z = known z (g q refl)
 
   do-call : {m : ℕ} (es : List Expr) (d r : Block Plain) → CodeAt (p .procs) (f .proc) k (step tt (call m es) d) r → f .code ≡ step tt (call m es) (d ⊕ r)
-      → (vs : Maybe (List Value)) → evals (f .env) es ≡ vs → x ≡ orBlocked (vs >>= λ _. is (Call m (endOf k (call m es)))) → Doing p c f k x
+      → (vs : Maybe (List Value)) → evals (f .env) es ≡ vs → x ≡ orBlocked (vs >>= λ _. is (Call m (actEnd {A = Plain} k (call m es)))) → Doing p c f k x
   do-call es d r o q nothing w z = absurd (on z)
   do-call es d r o q (is vs) w z = known z (calling es d r vs o q refl w)
 
   do-select : {a b t : ℕ} (ts : List ℕ) (d r : Block Plain) → CodeAt (p .procs) (f .proc) k (step tt (select a b) d) r
       → f .code ≡ step tt (select a b) (d ⊕ r) → c .todo ≡ t ∷ ts → (m : Maybe Value) → cell (c .memory) b t ≡ m
-      → x ≡ orBlocked (m >>= λ v. when (C.running v) (is (Select (numberOf (c .memory) a 0) t (endOf k (select a b))))) → Doing p c f k x
+      → x ≡ orBlocked (m >>= λ v. when (C.running v) (is (Select (numberOf (c .memory) a 0) t (actEnd {A = Plain} k (select a b))))) → Doing p c f k x
   do-select {a} {b} {t} ts d r o q u nothing w z = absurd (on z)
   do-select {a} {b} {t} ts d r o q u (is v) w z = at (C.running v) refl z
     where
-      at : (g : Bool) → C.running v ≡ g → x ≡ orBlocked (when g (is (Select (numberOf (c .memory) a 0) t (endOf k (select a b))))) → Doing p c f k x
+      at : (g : Bool) → C.running v ≡ g → x ≡ orBlocked (when g (is (Select (numberOf (c .memory) a 0) t (actEnd {A = Plain} k (select a b))))) → Doing p c f k x
       at true h z = known z (selecting a b ts d r v o q refl u w h refl)
       at false h z = absurd (on z)
 
   -- an instruction
   do-act : (i : Instr Plain) (d r : Block Plain) (a : Act) → CodeAt (p .procs) (f .proc) k (step tt i d) r → f .code ≡ step tt i (d ⊕ r) → actOf i ≡ is a
-      → x ≡ decided (f .env) (c .memory) a (endOf k i) → Doing p c f k x
+      → x ≡ decided (f .env) (c .memory) a (actEnd {A = Plain} k i) → Doing p c f k x
   do-act (assign y e) d r a o q w z = do-assign e d r o q (eval (f .env) e) refl (rw (← is-inj w) at z)
   do-act (write y e g) d r a o q w z =
       do-write e g d r o q (eval (f .env) g) refl (eval (f .env) e >>= index) refl (lookup (f .env) y >>= place) refl (rw (← is-inj w) at z)
@@ -148,8 +149,18 @@ module _ {p : Program Plain} {c : C.Config} {f : Frame Plain} {k : ℕ} {x : Ste
 
 -- ---- from what is due
 
+module _ {p : Program Plain} {lent ts ls bs cs es : List ℕ} {s : State} {c : C.Config} {f : Frame Plain} {b : Stack Plain}
+    (present : Present p lent ts ls bs cs es s c) (stack : c .stack ≡ f ∷ b) where
+  -- the frames
+  pub tower-of : Stacked (p .procs) ls bs (s .at) (f ∷ b)
+  tower-of = subst (Stacked (p .procs) ls bs (s .at)) stack (present .frames)
+
+  -- how many are below
+  pub deep-of : s .depth ≡ suc (length b)
+  deep-of = present .depth ∙ ap length stack
+
 -- the top of a stack
-top-frame : {ps : List (Proc Plain)} {ls bs : List ℕ} {k : ℕ} {f : Frame Plain} {s : Stack Plain} → Stacked ps ls bs k (f ∷ s) → FrameAt ps ls (length s) k f
+pub top-frame : {ps : List (Proc Plain)} {ls bs : List ℕ} {k : ℕ} {f : Frame Plain} {s : Stack Plain} → Stacked ps ls bs k (f ∷ s) → FrameAt ps ls (length s) k f
 top-frame (more F c S) = F
 
 -- is called by the frame below
@@ -196,11 +207,11 @@ module _ {t : List ℕ} {records : ℕ} {js ls bs cs es : List ℕ} {s : State} 
 
   -- the frames
   tower : Stacked (P .procs) ls bs (s .at) (d .frame ∷ d .below)
-  tower = subst (Stacked (P .procs) ls bs (s .at)) (d .stack) (d .present .frames)
+  tower = tower-of (d .present) (d .stack)
 
   -- how many are below
   deep : s .depth ≡ suc (length (d .below))
-  deep = d .present .depth ∙ ap length (d .stack)
+  deep = deep-of (d .present) (d .stack)
 
   -- what is done
   done : {y : Step} → x ≡ y → Doing P c (d .frame) (s .at) y
@@ -244,14 +255,6 @@ module _ {t : List ℕ} {records : ℕ} {js ls bs cs es : List ℕ} {s : State} 
       top-moves (d .loaded .sound) tower (beside-put stored) (omega arith) (bound (d .frame .env) y v) x (length-set (d .frame .env) y (is v))
       (framed-put (top-frame tower .framed) low stored) g
 
--- as many values as expressions
-evals-length : (ρ : Env) (es : List Expr) {vs : List Value} → evals ρ es ≡ is vs → length vs ≡ length es
-evals-length ρ [] e = sym (ap length (is-inj e))
-evals-length ρ (a ∷ es) e =
-    let v = bind-is (eval ρ a) _ e in
-    let vs = bind-is (evals ρ es) _ (v .2) in
-    sym (ap length (is-inj (vs .2))) ∙ ap suc (evals-length ρ es (vs .1))
-
 -- a cell that is there has a number
 cell-is : (η : Memory) (l i : ℕ) {u : Value} {q : ℕ} → cell η l i ≡ is u → q ≡ numberOf η l i → IsCell η l i q
 cell-is η l i e f = record {
@@ -261,7 +264,7 @@ cell-is η l i e f = record {
 }
 
 -- "size not 1..256"
-some-size : (ns : List ℕ) (l : ℕ) → Each (Within 1 256) ns → l < length ns → 0 < getD ns l 0
+pub some-size : (ns : List ℕ) (l : ℕ) → Each (Within 1 256) ns → l < length ns → 0 < getD ns l 0
 some-size [] l h m = absurd (omega arith)
 some-size (n ∷ ns) zero h m = omega (arith, h .0 .low)
 some-size (n ∷ ns) (suc l) h m = some-size ns l (h .1) (omega arith)

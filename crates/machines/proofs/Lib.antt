@@ -26,3 +26,5 @@ pub mod Passing
 pub mod Selecting
 -- the run, step by step
 pub mod Running
+-- deciding the step of a run
+pub mod Facing

@@ -40,12 +40,12 @@ module _ (h : ℕ) (procs : List (Proc Plain)) where
   code-spent : (b : Block Plain) (f : Frame Plain) (s : Stack Plain) (η : Memory) (ts : List ℕ) (t : ℕ) (evs : List Event)
       → C.atBudget (C.code h procs b (f .proc) (f .env) s η ts t evs) ≡ spent
   code-spent end f s η ts t evs = refl
-  code-spent (step a (assign x e) b) f s η ts t evs = moved-spent ts t evs _
-  code-spent (step a (write y o e) b) f s η ts t evs = moved-spent ts t evs _
-  code-spent (step a (read x y o) b) f s η ts t evs = moved-spent ts t evs _
-  code-spent (step a (while e w) b) f s η ts t evs = moved-spent ts t evs _
-  code-spent (step a (if e y n) b) f s η ts t evs = moved-spent ts t evs _
-  code-spent (step a (call m es) b) f s η ts t evs = moved-spent ts t evs _
+  code-spent (step a (assign x e) b) f s η ts t evs = moved-spent ts t evs (F.instr procs t (f .proc) (f .env) tt (assign x e) b s η)
+  code-spent (step a (write y o e) b) f s η ts t evs = moved-spent ts t evs (F.instr procs t (f .proc) (f .env) tt (write y o e) b s η)
+  code-spent (step a (read x y o) b) f s η ts t evs = moved-spent ts t evs (F.instr procs t (f .proc) (f .env) tt (read x y o) b s η)
+  code-spent (step a (while e w) b) f s η ts t evs = moved-spent ts t evs (F.instr procs t (f .proc) (f .env) tt (while e w) b s η)
+  code-spent (step a (if e y n) b) f s η ts t evs = moved-spent ts t evs (F.instr procs t (f .proc) (f .env) tt (if e y n) b s η)
+  code-spent (step a (call m es) b) f s η ts t evs = moved-spent ts t evs (F.instr procs t (f .proc) (f .env) tt (call m es) b s η)
   code-spent (step a (atomic w) b) f s η ts t evs = refl
   code-spent (step a (select x y) b) f s η [] t evs = refl
   code-spent (step a (select x y) b) f s η (u ∷ ts) t evs =

@@ -5,11 +5,11 @@ use mathlib.Core.List.{List, [], _∷_, _++_, map}
 use mathlib.Core.Bool.{Bool, true, false}
 use lib.ListN.{length, getD, set, drop}
 use lib.Dec.{ltb}
-use Rattle.value.specs.Maybe.{Maybe, is, nothing, pick}
+use Rattle.value.specs.Maybe.{is, pick}
 use Rattle.value.specs.Values.{numberAt}
 use Rattle.value.specs.declared.Value.{Value}
-use Rattle.reader.specs.Syntax.{Expr, Instr, assign, write, read, while, if, call, atomic, select, Block, end, step, _⊕_, Program, Plain, sequential}
-use Rattle.reader.specs.Encode.{expr, instr, table}
+use Rattle.reader.specs.Syntax.{Expr, Instr, call, select, Block, end, step, _⊕_, Program, Plain, sequential}
+use Rattle.reader.specs.Encode.{table}
 use Rattle.reader.specs.Spots.{CodeAt}
 use Rattle.reader.specs.Laws.Sound.{Sound}
 use Rattle.reader.specs.Laws.TablePlaces.{recordsAt}
@@ -24,7 +24,7 @@ use Rattle.machines.specs.Copy as C
 use Rattle.machines.specs.Calls.{endNumber}
 use Rattle.machines.specs.Work.{Clears, frameWords, localWords, Framed, Holds, Bases}
 use Rattle.machines.specs.Events.{Logged}
-use Rattle.machines.specs.Decided.{Act, assigns, writes, reads, tests, calls, decided, chosen}
+use Rattle.machines.specs.Decided.{Act, actOf, actEnd, decided, chosen}
 use Rattle.machines.specs.Jumps.{positions, Jumps}
 use Rattle.machines.specs.Frames.{Stacked}
 use Rattle.machines.specs.Laws.Cells.{shape}
@@ -59,35 +59,13 @@ pub record Present (p : Program Plain) (lent ts ls bs cs es : List ℕ) (s : Sta
 
 -- ---- the step that is due
 
--- what an instruction asks; select asks the schedule
-abbrev pub actOf : Instr Plain → Maybe Act
-actOf (assign x e) = is (assigns x e)
-actOf (write y o e) = is (writes y o e)
-actOf (read x y o) = is (reads x y o)
-actOf (while e b) = is (tests e)
-actOf (if e b f) = is (tests e)
-actOf (call m es) = is (calls m es)
-actOf (atomic b) = nothing
-actOf (select a b) = nothing
-
--- where an instruction at k ends, or its test
-abbrev pub endOf : ℕ → Instr Plain → ℕ
-endOf k (assign x e) = k + length (instr {A = Plain} (assign x e))
-endOf k (write y o e) = k + length (instr {A = Plain} (write y o e))
-endOf k (read x y o) = k + length (instr {A = Plain} (read x y o))
-endOf k (while e b) = k + 1 + length (expr e)
-endOf k (if e b f) = k + 1 + length (expr e)
-endOf k (call m es) = k + length (instr {A = Plain} (call m es))
-endOf k (atomic b) = k + length (instr (atomic b))
-endOf k (select a b) = k + length (instr {A = Plain} (select a b))
-
 -- the step x is decided for the frame f, whose code goes on at k
 pub data Decision (p : Program Plain) (c : C.Config) (f : Frame Plain) (k : ℕ) (x : Step) : Type 0 where
   leaves : f .code ≡ end → x ≡ Return → Decision p c f k x
   acts : (i : Instr Plain) (d r : Block Plain) (a : Act) → CodeAt (p .procs) (f .proc) k (step tt i d) r → f .code ≡ step tt i (d ⊕ r) → actOf i ≡ is a
-      → x ≡ decided (f .env) (c .memory) a (endOf k i) → Decision p c f k x
+      → x ≡ decided (f .env) (c .memory) a (actEnd {A = Plain} k i) → Decision p c f k x
   selects : (a b t : ℕ) (ts : List ℕ) (d r : Block Plain) → CodeAt (p .procs) (f .proc) k (step tt (select a b) d) r
-      → f .code ≡ step tt (select a b) (d ⊕ r) → c .todo ≡ t ∷ ts → x ≡ chosen (c .memory) a b t (endOf k (select a b)) → Decision p c f k x
+      → f .code ≡ step tt (select a b) (d ⊕ r) → c .todo ≡ t ∷ ts → x ≡ chosen (c .memory) a b t (actEnd {A = Plain} k (select a b)) → Decision p c f k x
 
 -- the step x is due, and does not block
 pub record Due (t : List ℕ) (records : ℕ) (js ls bs cs es : List ℕ) (s : State) (x : Step) : Type 0 where
@@ -181,7 +159,7 @@ pub record UsedUp (t ts : List ℕ) (s : State) (r : Bool) : Type 0 where
 
 -- what a run came to, in this state
 abbrev pub ranWith : ℕ → ℕ → State → Ran
-ranWith end steps s = record { end = end; steps = steps; taken = s .taken; events = s .events }
+ranWith how steps s = record { end = how; steps = steps; taken = s .taken; events = s .events }
 
 -- the words of the locals and of the cells, and the positions of the callers, before the first step
 pub record Starting (t : List ℕ) (records : ℕ) (js ss ls bs cs : List ℕ) : Type 0 where
