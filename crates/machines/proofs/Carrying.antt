@@ -1,5 +1,5 @@
 -- Carrying out a step that is due, way by way.
-use Prim.Native.Nat.{ℕ, zero, suc, _+_, _*_, _-_, _≤_, _<_}
+use Prim.Native.Nat.{ℕ, zero, suc, _+_, _*_, _-_, _^_, _≤_, _<_}
 use native.Mathlib.Omega.{arith}
 use mathlib.Core.Path.{_≡_, refl, sym, ap, ap₂, subst, _∙_}
 use mathlib.Core.List.{List, [], _∷_, _++_, map}
@@ -371,6 +371,15 @@ module _ {t : List ℕ} {records : ℕ} {js ls bs cs es : List ℕ} {s : State} 
       go : Doing (d .loaded .program) (d .config) (d .frame) (s .at) (Select j u n) → j < cellWords
       go (selecting a b us b′ r v o q z u₀ u₁ u₂ f) = cell-word (d .present .memory) (select-cell d o f)
 
+  -- the count of entries taken fits
+  pub select-counts : {j u n : ℕ} → Due t records js ls bs cs es s x → x ≡ Select j u n → s .taken + 1 < 2 ^ 64
+  select-counts {j} {u} {n} d e = go (done d e)
+    where
+      go : Doing (d .loaded .program) (d .config) (d .frame) (s .at) (Select j u n) → s .taken + 1 < 2 ^ 64
+      go (selecting a b us b′ r v o q z u₀ u₁ u₂ f) =
+          let rest : drop (s .taken) (d .schedule) ≡ u ∷ us = sym (d .present .todo) ∙ u₀ in
+          omega (arith, d .entries, length-drop (s .taken) (d .schedule), ap length rest)
+
 -- ---- one law for each step
 
 module _ {t : List ℕ} {records : ℕ} {js : List ℕ} {h : ℕ} {ls bs cs es : List ℕ} {s : State} {x : Step} where
@@ -634,6 +643,7 @@ pub ruleset carry-ways = (
   read-room,
   write-room,
   select-room,
+  select-counts,
   did-assign,
   did-test,
   did-return,

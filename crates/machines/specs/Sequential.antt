@@ -87,7 +87,7 @@ pub record Due (t : List ℕ) (records : ℕ) (js ls bs cs es : List ℕ) (s : S
   pub small : length t ≤ positions
   pub inside : s .at < length t
   -- the counts fit their words
-  pub entries : s .taken + 1 < 2 ^ 64
+  pub entries : length schedule < 2 ^ 64
   pub counted : s .events + 1 < 2 ^ 64
 
 -- ---- what it leaves
@@ -164,6 +164,7 @@ ranWith how steps s = record { end = how; steps = steps; taken = s .taken; event
 -- the words of the locals and of the cells, and the positions of the callers, before the first step
 pub record Starting (t : List ℕ) (records : ℕ) (js ss ls bs cs : List ℕ) : Type 0 where
   pub loaded : Loaded t records js ss
+  pub inside : records + 6 ≤ length t
   pub zero : (k : ℕ) → getD ls k 0 ≡ 0
   pub long : length ls ≡ localWords
   pub backs : length bs ≡ mostFrames + 1

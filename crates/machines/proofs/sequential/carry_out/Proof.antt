@@ -37,7 +37,7 @@ carry-out-spec =
     (λ c. search needs)
     (λ c κs. search (carry-ways, needs))
     (λ c κs. search (carry-ways, needs))
-    (λ c. search needs)
+    (λ c. search (carry-ways, needs))
     (λ c. search needs)
     (λ c. search carry-ways)
     (λ c. search carry-ways)
