@@ -28,3 +28,5 @@ pub mod Selecting
 pub mod Running
 -- deciding the step of a run
 pub mod Facing
+-- the call, from the table to the answer
+pub mod Calling

@@ -6,13 +6,16 @@ use mathlib.Core.Bool.{Bool, true, false}
 use lib.ListN.{length, getD, set, drop}
 use lib.Dec.{ltb}
 use Rattle.value.specs.Maybe.{is, pick}
+use Rattle.value.specs.Lists.{sum}
 use Rattle.value.specs.Values.{numberAt}
 use Rattle.value.specs.declared.Value.{Value}
 use Rattle.reader.specs.Syntax.{Expr, Instr, call, select, Block, end, step, _⊕_, Program, Plain, sequential}
 use Rattle.reader.specs.Encode.{table}
+use Rattle.reader.specs.Rules.{verdict, accepted}
 use Rattle.reader.specs.Spots.{CodeAt}
 use Rattle.reader.specs.Laws.Sound.{Sound}
 use Rattle.reader.specs.Laws.TablePlaces.{recordsAt}
+use Rattle.machines.specs.declared.RunAnswer.{RunAnswer}
 use Rattle.machines.specs.declared.decide.Step.{Step}
 use Rattle.machines.specs.declared.decide.Step.the-variants.{Return, Blocked}
 use Rattle.machines.specs.declared.sequential.Ran.{Ran}
@@ -21,7 +24,8 @@ use Rattle.machines.specs.Memory.{evals, fresh, Event}
 use Rattle.machines.specs.Step.{Frame, Stack}
 use Rattle.machines.specs.Threads.{End}
 use Rattle.machines.specs.Copy as C
-use Rattle.machines.specs.Calls.{endNumber}
+use Rattle.machines.specs.Buffers.{cellSize}
+use Rattle.machines.specs.Calls.{endNumber, Outcome, sequentialOutcome}
 use Rattle.machines.specs.Work.{Clears, frameWords, localWords, Framed, Holds, Bases}
 use Rattle.machines.specs.Events.{Logged}
 use Rattle.machines.specs.Decided.{Act, actOf, actEnd, decided, chosen}
@@ -189,3 +193,20 @@ pub record RanAs {t : List ℕ} {records : ℕ} {js ss ls bs cs : List ℕ} (q :
 -- whatever program it is
 pub record Runs (t : List ℕ) (records : ℕ) (ts js ss ls bs cs : List ℕ) (h n : ℕ) (lent cs′ es : List ℕ) (r : Ran) : Type 0 where
   pub ran : (q : Starting t records js ss ls bs cs) → RanAs q ts h n lent cs′ es r
+
+-- ---- the call
+
+-- a table that is accepted, with its numbers of procedures, locations and cells
+pub record Accepted (t : List ℕ) (P M n : ℕ) : Type 0 where
+  pub program : Program Plain
+  pub read : verdict sequential t ≡ accepted program
+  pub same : t ≡ table sequential program
+  pub sound : Sound sequential program
+  pub procs : P ≡ length (program .procs)
+  pub places : M ≡ length (program .sizes)
+  pub cells : n ≡ sum (program .sizes)
+  pub room : 16 + 6 * P + 2 * M ≤ length t
+
+-- the answer and the lent buffers after the run of it
+pub record Outcomes (t : List ℕ) (P M c : ℕ) (ts : List ℕ) (n h : ℕ) (cs es : List ℕ) (r : RunAnswer) (cs′ es′ : List ℕ) : Type 0 where
+  pub same : (a : Accepted t P M c) → cellSize * c ≤ length cs → _≡_ {A = Outcome} (record { answer = r; cells = cs′; events = es′ }) (sequentialOutcome n h ts cs es (a .program))

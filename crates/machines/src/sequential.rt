@@ -1,4 +1,5 @@
 // The sequential machine: report RR-2017-03, figure 1, with select by a schedule, under a budget.
+use super::RunAnswer;
 use super::decide;
 use super::decide::Step;
 use super::event;
@@ -19,13 +20,21 @@ ghost use lib.ListN.{length};
 ghost use Rattle.value.specs.declared.Value.the-variants.{Whole};
 ghost use Rattle.machines.specs.Events.{eventOf};
 ghost use Rattle.machines.specs.Jumps.{positions};
-ghost use Rattle.machines.specs.Sequential.{mostFrames, Recorded, Enterable, Enters, Due, CarriesOut, Facing, Faces, UsedUp, ranWith, Starting, Runs};
+ghost use Rattle.machines.specs.Sequential.{mostFrames, Recorded, Enterable, Enters, Due, CarriesOut, Facing, Faces, UsedUp, ranWith, Starting, Runs, Accepted, Outcomes};
 
 // "P not 1..512": a position for each frame, by the number of frames up to it.
 pub const FRAMES: usize = 513;
 
 // The bytes of a procedure's record.
 const RECORD: usize = 6;
+
+// The bytes of a location's size, and of the trailer.
+const SIZE: usize = 2;
+
+const TRAILER: usize = 16;
+
+// "All cells start as number 0": the word of that number.
+const ZERO: u64 = 4294967296;
 
 // A number for each end.
 const FINISHED: u8 = 0;
@@ -276,5 +285,51 @@ fn go(
         }
         state = carry_out(t, records, jumps, words, cells, back, events, h, state, step);
         steps += 1;
+    }
+}
+
+// The run on a table that is accepted, with room for its cells.
+fn run(
+    t: &[u8],
+    procedures: usize,
+    locations: usize,
+    count: usize,
+    schedule: &[u8],
+    budget: u64,
+    h: usize,
+    cells: &mut [u8],
+    events: &mut [u8],
+) -> RunAnswer
+    requires { ⌜ Accepted (now t) procedures locations count ⌝ }
+    ensures { λ r. ⌜ Outcomes (now (t .entry)) procedures locations count (now (schedule .entry)) budget h (now (cells .entry)) (now (events .entry)) r (now (cells .exit)) (now (events .exit)) ⌝ }
+{
+    let records = t.len() - TRAILER - RECORD * procedures - SIZE * locations;
+    let mut positions = [0u16; POSITIONS];
+    let mut starts = [0u32; STARTS];
+    let mut words = [0u64; locals::WORDS];
+    let mut memory = [ZERO; memory::WORDS];
+    let mut back = [0u32; FRAMES];
+    jumps::fill(t, procedures, &mut positions);
+    memory::set_starts(t, records + RECORD * procedures, locations, &mut starts);
+    let ran = go(
+        t,
+        records,
+        schedule,
+        &positions,
+        &starts,
+        &mut words,
+        &mut memory,
+        &mut back,
+        events,
+        h,
+        budget,
+    );
+    memory::write_cells(&memory, count, cells);
+    RunAnswer {
+        number: 0,
+        end: ran.end,
+        steps: ran.steps,
+        unused: schedule.len() - ran.taken,
+        events: ran.events as u64,
     }
 }
