@@ -6,17 +6,22 @@ use mathlib.Core.List.{List, [], _∷_, _++_}
 use mathlib.Core.Bool.{true, false}
 use lib.ListN.{length, getD, drop, replicate, length-append, length-drop, length-replicate, getD-replicate, List·getD-eq-default}
 use lib.Dec.{ltb}
-use borrow.Author.Tests.{ltb-true, ltb-false}
+use borrow.Author.Tests.{ltb-true, ltb-false, le-leb, lt-leb}
 use Rattle.value.specs.Lists.{sum, over}
 use Rattle.value.specs.Values.{bytes}
 use Rattle.value.specs.Laws.Tests.{by-test}
 use Rattle.value.specs.Laws.Lists.{Each, each-so}
+use Rattle.value.specs.Laws.Bytes.{Bytes}
 use Rattle.reader.specs.Syntax.{Block, Proc, Program, Plain, sequential}
 use Rattle.reader.specs.Encode.{each, block, bodiesOf, head, heads, middleOf, middle, trailer, trailerOf, table}
 use Rattle.reader.specs.Encode as E
+use Rattle.reader.specs.declared.ReadAnswer.{ReadAnswer}
+use Rattle.reader.specs.Calls.{readAs, readCall}
+use Rattle.reader.specs.Rules.{Verdict, refused, accepted, verdict}
 use Rattle.reader.specs.Walks.{BodiesAt, BodiesIn}
-use Rattle.reader.specs.Laws.Accepted.{bodies-fit}
+use Rattle.reader.specs.Laws.Accepted.{bodies-fit, accepted-exactly}
 use Rattle.reader.specs.Laws.Heads.{length-heads}
+use Rattle.reader.specs.Laws.Refusals.{refused-within}
 use Rattle.reader.specs.Laws.Sections.{length-each}
 use Rattle.reader.specs.Laws.Sound.{Within, Sound}
 use Rattle.reader.specs.Laws.Spots.{bodies-stand}
@@ -26,7 +31,8 @@ use Rattle.machines.specs.declared.sequential.Ran.{Ran}
 use Rattle.machines.specs.Memory.{Memory, fresh}
 use Rattle.machines.specs.Copy as C
 use Rattle.machines.specs.Buffers.{cellSize, cells, log}
-use Rattle.machines.specs.Calls.{Outcome, sequentialRun, sequentialOutcome, result}
+use Rattle.machines.specs.declared.RunAnswer.{RunAnswer}
+use Rattle.machines.specs.Calls.{Outcome, refusal, untouched, maxEntries, scheduled, roomy, runAs, sequentialRun, sequentialOutcome, sequentialCall, result}
 use Rattle.machines.specs.Work.{localWords, cellWords, flat, Bases, sizesAt, Starts, Writes}
 use Rattle.machines.specs.Jumps.{positions, Jumps, FillsJumps}
 use Rattle.machines.specs.Sequential.{mostFrames, Loaded, Starting, RanAs, Runs, Accepted, Outcomes}
@@ -133,6 +139,89 @@ pub run-outcome : {t : List ℕ} {P M c : ℕ} {ts js js′ ss : List ℕ} {h n 
     → Outcomes t P M c ts n h cs es (record { number = 0; end = r .end; steps = r .steps; unused = length ts - r .taken; events = r .events }) os es′
 unfolding accepted-starting
 run-outcome e F S R W = record { same = λ a room. outcome-of a room (accepted-starting a e F S) refl (R .ran (accepted-starting a e F S)) W }
+
+-- ---- the reader's answer
+
+module _ (t : List ℕ) (h : Bytes t) {r : ReadAnswer} (q : r ≡ readCall sequential t) where
+  -- a refusal has a number
+  pub read-refused : (r .number ≡ 0 → ⊥) → verdict sequential t ≡ refused (r .number)
+  read-refused n = go (verdict sequential t) refl
+    where
+      go : (v : Verdict) → verdict sequential t ≡ v → verdict sequential t ≡ refused (r .number)
+      go (refused m) e = let same : r .number ≡ m = ap (λ (x : ReadAnswer). x .number) q ∙ rw e in rw same e
+      go (accepted p) e = absurd (n (ap (λ (x : ReadAnswer). x .number) q ∙ rw e))
+
+  -- with number 0 a table is accepted
+  pub read-accepted : r .number ≡ 0 → Accepted t (r .procedures) (r .locations) (r .cells)
+  read-accepted z = go (verdict sequential t) refl
+    where
+      go : (v : Verdict) → verdict sequential t ≡ v → Accepted t (r .procedures) (r .locations) (r .cells)
+      go (refused m) e =
+          let same : r .number ≡ m = ap (λ (x : ReadAnswer). x .number) q ∙ rw e in
+          absurd (omega (arith, refused-within sequential t m e .low))
+      go (accepted p) e =
+          let got = accepted-exactly sequential t h p .0 e in
+          let answer : r ≡ readAs sequential (accepted p) = q ∙ ap (readAs sequential) e in
+          let procs : r .procedures ≡ length (p .procs) = ap (λ (x : ReadAnswer). x .procedures) answer in
+          let places : r .locations ≡ length (p .sizes) = ap (λ (x : ReadAnswer). x .locations) answer in
+          record {
+            program = p;
+            read = e;
+            same = got .0;
+            sound = got .1;
+            procs = procs;
+            places = places;
+            cells = ap (λ (x : ReadAnswer). x .cells) answer;
+            room = omega (arith, procs, places, trailer-at sequential p (got .0), length-table sequential p (got .0));
+          }
+
+-- ---- the call
+
+module _ (ts cs es : List ℕ) (go : Program Plain → Outcome) (p : Program Plain) where
+  -- too many entries
+  as-long : scheduled sequential p ts ≡ false → runAs sequential (accepted p) go ts cs es ≡ untouched 11 cs es
+  as-long e = rw (e, runAs)
+
+  -- no room for the cells
+  as-short : scheduled sequential p ts ≡ true → roomy p cs ≡ false → runAs sequential (accepted p) go ts cs es ≡ untouched 12 cs es
+  as-short e f = rw (e, f, runAs)
+
+  -- neither
+  as-ran : scheduled sequential p ts ≡ true → roomy p cs ≡ true → runAs sequential (accepted p) go ts cs es ≡ go p
+  as-ran e f = rw (e, f, runAs)
+
+module _ (t : List ℕ) (h : Bytes t) (n l : ℕ) (ts cs es : List ℕ) where
+  -- 1 to 8
+  pub call-refused : {r : ReadAnswer} {a : RunAnswer} → r ≡ readCall sequential t → (r .number ≡ 0 → ⊥) → a ≡ refusal (r .number)
+      → _≡_ {A = Outcome} (record { answer = a; cells = cs; events = es }) (sequentialCall n l t ts cs es)
+  call-refused q z e = rw (read-refused t h q z, e)
+
+  module _ {r : ReadAnswer} {a : RunAnswer} (q : r ≡ readCall sequential t) (z : r .number ≡ 0) where
+    -- 11: "schedule over 4,096 entries"
+    pub call-long : maxEntries < length ts → a ≡ refusal 11
+        → _≡_ {A = Outcome} (record { answer = a; cells = cs; events = es }) (sequentialCall n l t ts cs es)
+    call-long m e =
+        let A = read-accepted t h q z in
+        rw (A .read, e) (sym (as-long ts cs es (sequentialOutcome n l ts cs es) (A .program) (lt-leb (length ts) maxEntries m)))
+
+    -- 12: "cell buffer shorter than 5 bytes a cell"
+    pub call-short : length ts ≤ maxEntries → length cs < cellSize * r .cells → a ≡ refusal 12
+        → _≡_ {A = Outcome} (record { answer = a; cells = cs; events = es }) (sequentialCall n l t ts cs es)
+    call-short k m e =
+        let A = read-accepted t h q z in
+        let short : roomy (A .program) cs ≡ false = rw (← A .cells) (lt-leb (cellSize * r .cells) (length cs) m) in
+        rw (A .read, e) (sym (as-short ts cs es (sequentialOutcome n l ts cs es) (A .program) (le-leb (length ts) maxEntries k) short))
+
+    -- the run
+    pub call-ran : {cs′ es′ : List ℕ} → length ts ≤ maxEntries → cellSize * r .cells ≤ length cs
+        → Outcomes t (r .procedures) (r .locations) (r .cells) ts n l cs es a cs′ es′
+        → _≡_ {A = Outcome} (record { answer = a; cells = cs′; events = es′ }) (sequentialCall n l t ts cs es)
+    call-ran k m O =
+        let A = read-accepted t h q z in
+        let room : roomy (A .program) cs ≡ true = rw (← A .cells) (le-leb (cellSize * r .cells) (length cs) m) in
+        O .same A m
+        ∙ sym (ap (λ (v : Verdict). runAs sequential v (sequentialOutcome n l ts cs es) ts cs es) (A .read)
+        ∙ as-ran ts cs es (sequentialOutcome n l ts cs es) (A .program) (le-leb (length ts) maxEntries k) room)
 
 -- one law for each way
 pub ruleset call-ways = (accepted-small, accepted-cells, accepted-bodies, accepted-starting, run-taken, run-outcome)

@@ -42,7 +42,7 @@ use Rattle.machines.specs.Laws.Cells.{shape}
 use Rattle.machines.specs.Laws.Deciding.{act-at}
 use Rattle.machines.proofs.Standing.{Here, stands-here, settled-here, code-inside}
 use Rattle.machines.proofs.Framing.{frame-small, stacked-below, stacked-few}
-use Rattle.machines.proofs.Carrying.{tower-of, deep-of, top-frame, some-size}
+use Rattle.machines.proofs.CarryingOut.{tower-of, deep-of, top-frame, some-size}
 
 -- ---- what stands there
 

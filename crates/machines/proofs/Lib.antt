@@ -17,7 +17,7 @@ pub mod Standing
 -- one step of the definition, instruction by instruction
 pub mod Nexts
 -- carrying out a step, way by way
-pub mod Carrying
+pub mod CarryingOut
 -- deciding a step, way by way
 pub mod Deciding
 -- passing the arguments of a call

@@ -40,7 +40,7 @@ use Rattle.machines.specs.Laws.Work.{beside-same, framed-none, framed-en
 use Rattle.machines.specs.Laws.Logging.{logged-none, logged-long}
 use Rattle.machines.proofs.Standing.{code-inside, HeadAt, head-at, settled-body}
 use Rattle.machines.proofs.Framing.{stacked-few}
-use Rattle.machines.proofs.Carrying.{tower-of, deep-of, top-frame}
+use Rattle.machines.proofs.CarryingOut.{tower-of, deep-of, top-frame}
 use Rattle.machines.proofs.Nexts.{next-none, next-used}
 use Rattle.machines.proofs.Facing.{View, ending, acting, choosing, view}
 

@@ -289,7 +289,7 @@ fn go(
 }
 
 // The run on a table that is accepted, with room for its cells.
-fn run(
+pub fn run(
     t: &[u8],
     procedures: usize,
     locations: usize,

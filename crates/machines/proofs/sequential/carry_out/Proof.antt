@@ -1,6 +1,6 @@
 -- `sequential::carry_out` meets its contract: one law for each step.
 use borrow.Author.Needs.{needs}
-use Rattle.machines.proofs.Carrying.{carry-ways}
+use Rattle.machines.proofs.CarryingOut.{carry-ways}
 use Rattle.machines.proofs.sequential.carry_out.Statement.{statement}
 use Rattle.machines.proofs.sequential.carry_out.Tie as tie
 

@@ -1,6 +1,6 @@
 -- `sequential::enter` meets its contract.
 use borrow.Author.Needs.{needs}
-use Rattle.machines.proofs.Carrying.{enter-ways}
+use Rattle.machines.proofs.CarryingOut.{enter-ways}
 use Rattle.machines.proofs.sequential.enter.Statement.{statement}
 use Rattle.machines.proofs.sequential.enter.Tie as tie
 

@@ -1,6 +1,6 @@
 -- `sequential::record_event` meets its contract.
 use borrow.Author.Needs.{needs}
-use Rattle.machines.proofs.Carrying.{event-ways}
+use Rattle.machines.proofs.CarryingOut.{event-ways}
 use Rattle.machines.proofs.sequential.record_event.Statement.{statement}
 use Rattle.machines.proofs.sequential.record_event.Tie as tie
 
