@@ -4,13 +4,29 @@
 pub mod Values
 -- one law for each way through an operator of the evaluator
 pub mod Operands
+-- one law for each way through the walks that fill the jump table
+pub mod Jumping
 -- the evaluator, way by way
 pub mod Evaluating
 -- finding a cell, way by way
 pub mod Placing
+-- the stack of frames
+pub mod Framing
+-- what stands where a run goes on
+pub mod Standing
+-- one step of the definition, instruction by instruction
+pub mod Nexts
+-- carrying out a step, way by way
+pub mod CarryingOut
 -- deciding a step, way by way
 pub mod Deciding
 -- passing the arguments of a call
 pub mod Passing
 -- deciding a select
 pub mod Selecting
+-- the run, step by step
+pub mod Running
+-- deciding the step of a run
+pub mod Facing
+-- the call, from the table to the answer
+pub mod Calling

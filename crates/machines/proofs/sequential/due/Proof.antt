@@ -1,0 +1,18 @@
+-- `sequential::due` meets its contract.
+use borrow.Author.Needs.{needs}
+use Rattle.machines.proofs.Facing.{facing-ways}
+use Rattle.machines.proofs.sequential.due.Statement.{statement}
+use Rattle.machines.proofs.sequential.due.Tie as tie
+
+pub due-spec : {M : Type 1} → statement M
+due-spec =
+    tie.close
+    (tie.spec
+    (λ c. search needs)
+    (λ c. search facing-ways)
+    (λ c κs. search facing-ways)
+    (λ c. search facing-ways)
+    (λ c. search needs)
+    (λ c. search needs)
+    (λ c κs. (search facing-ways, search facing-ways))
+    (λ c. search facing-ways))

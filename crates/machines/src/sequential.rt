@@ -1,0 +1,335 @@
+// The sequential machine: report RR-2017-03, figure 1, with select by a schedule, under a budget.
+use super::RunAnswer;
+use super::decide;
+use super::decide::Step;
+use super::event;
+use super::event::Event;
+use super::jumps;
+use super::jumps::POSITIONS;
+use super::locals;
+use super::locals::FRAME;
+use super::memory;
+use super::memory::STARTS;
+use super::table;
+use reader::block::SELECT;
+use value::Value;
+ghost use mathlib.Core.Path.{_≡_};
+ghost use Prim.Native.Nat.{_+_, _^_, _≤_, _<_};
+ghost use lib.IntN.{pos};
+ghost use lib.ListN.{length};
+ghost use Rattle.value.specs.declared.Value.the-variants.{Whole};
+ghost use Rattle.machines.specs.Events.{eventOf};
+ghost use Rattle.machines.specs.Jumps.{positions};
+ghost use Rattle.machines.specs.Sequential.{mostFrames, Recorded, Enterable, Enters, Due, CarriesOut, Facing, Faces, UsedUp, ranWith, Starting, Runs, Accepted, Outcomes};
+
+// "P not 1..512": a position for each frame, by the number of frames up to it.
+pub const FRAMES: usize = 513;
+
+// The bytes of a procedure's record.
+const RECORD: usize = 6;
+
+// The bytes of a location's size, and of the trailer.
+const SIZE: usize = 2;
+
+const TRAILER: usize = 16;
+
+// "All cells start as number 0": the word of that number.
+const ZERO: u64 = 4294967296;
+
+// A number for each end.
+const FINISHED: u8 = 0;
+
+const USED: u8 = 1;
+
+const BLOCKED: u8 = 2;
+
+const SPENT: u8 = 3;
+
+// The state of a run beside its arrays: where it goes on, how many frames there are, the thread last selected, the entries taken and
+// the events recorded.
+pub struct State {
+    pub at: usize,
+    pub depth: usize,
+    pub thread: u8,
+    pub taken: usize,
+    pub events: usize,
+}
+
+// What a run came to: its end, its steps, the entries taken and the events recorded.
+pub struct Ran {
+    pub end: u8,
+    pub steps: u64,
+    pub taken: usize,
+    pub events: usize,
+}
+
+// A number of 32 bits, as a position.
+fn wide(n: u32) -> usize
+    ensures { λ r. ⌜ r ≡ n ⌝ }
+{
+    n as usize
+}
+
+// An entry of the schedule as a value.
+fn number(entry: u8) -> Value
+    ensures { λ r. ⌜ r ≡ Whole (pos entry) ⌝ }
+{
+    Value::Whole(entry as i32)
+}
+
+// "records only locations below h". Answers how many events there are.
+fn record_event(events: &mut [u8], h: usize, count: usize, e: Event) -> usize
+    requires { ⌜ count + 1 < 2 ^ 64 ⌝ }
+    ensures { λ r. ⌜ Recorded h (now (events .entry)) count (eventOf e) (now (events .exit)) r ⌝ }
+{
+    if e.location < h {
+        event::write_event(events, count, e);
+        return count + 1;
+    }
+    count
+}
+
+// Procedure `m` begins above `depth` frames; its arguments are in its frame already, and the frame below is to go on at `next`.
+// Answers where its body begins.
+fn enter(
+    t: &[u8],
+    records: usize,
+    words: &mut [u64; locals::WORDS],
+    back: &mut [u32; FRAMES],
+    depth: usize,
+    m: usize,
+    next: usize,
+) -> usize
+    requires { ⌜ Enterable (now t) records depth m × (next < positions) ⌝ }
+    ensures { λ r. ⌜ Enters (now (t .entry)) records depth m next (now (words .entry)) (now (back .entry)) (now (words .exit)) (now (back .exit)) r ⌝ }
+{
+    let record = records + RECORD * m;
+    let base = FRAME * depth;
+    back[depth] = next as u32;
+    locals::clear(
+        words,
+        base + table::byte(t, record),
+        base + table::byte(t, record + 1),
+    );
+    wide(table::four(t, record + 2))
+}
+
+// Carries out a step that was decided. A test goes on by the jump table, a return where the frame below was left.
+fn carry_out(
+    t: &[u8],
+    records: usize,
+    jumps: &[u16; POSITIONS],
+    words: &mut [u64; locals::WORDS],
+    cells: &mut [u64; memory::WORDS],
+    back: &mut [u32; FRAMES],
+    events: &mut [u8],
+    h: usize,
+    state: State,
+    step: Step,
+) -> State
+    requires { ⌜ Due (now t) records (now jumps) (now words) (now back) (now cells) (now events) state step ⌝ }
+    ensures { λ r. ⌜ CarriesOut (now (t .entry)) records (now (jumps .entry)) h (now (words .entry)) (now (back .entry)) (now (cells .entry)) (now (events .entry)) state step (now (words .exit)) (now (back .exit)) (now (cells .exit)) (now (events .exit)) r ⌝ }
+{
+    let depth = state.depth;
+    let base = FRAME * (depth - 1);
+    let mut after = state;
+    match step {
+        Step::Return => {
+            after.at = wide(back[depth - 1]);
+            after.depth = depth - 1;
+            after
+        }
+        Step::Assign { x, value, next } => {
+            locals::put(words, base, x, value);
+            after.at = jumps::settle(t, jumps, next);
+            after
+        }
+        Step::Read {
+            x,
+            location,
+            index,
+            value,
+            next,
+        } => {
+            locals::put(words, base, x, value);
+            let e = Event {
+                thread: state.thread,
+                writes: false,
+                location,
+                index,
+                value,
+            };
+            after.events = record_event(events, h, state.events, e);
+            after.at = jumps::settle(t, jumps, next);
+            after
+        }
+        Step::Write {
+            location,
+            index,
+            cell,
+            value,
+            next,
+        } => {
+            memory::put(cells, cell, value);
+            let e = Event {
+                thread: state.thread,
+                writes: true,
+                location,
+                index,
+                value,
+            };
+            after.events = record_event(events, h, state.events, e);
+            after.at = jumps::settle(t, jumps, next);
+            after
+        }
+        Step::Test { truth, next } => {
+            after.at = jumps::branch(t, jumps, state.at, truth, next);
+            after
+        }
+        Step::Call { procedure, next } => {
+            let to = jumps::settle(t, jumps, next);
+            after.at = enter(t, records, words, back, depth, procedure, to);
+            after.depth = depth + 1;
+            after
+        }
+        Step::Select { cell, thread, next } => {
+            memory::put(cells, cell, number(thread));
+            after.at = jumps::settle(t, jumps, next);
+            after.thread = thread;
+            after.taken = state.taken + 1;
+            after
+        }
+        Step::Blocked => after,
+    }
+}
+
+// The step that is due: a select asks the schedule's next entry.
+fn due(
+    t: &[u8],
+    schedule: &[u8],
+    starts: &[u32; STARTS],
+    words: &mut [u64; locals::WORDS],
+    cells: &[u64; memory::WORDS],
+    state: State,
+) -> Step
+    requires { ⌜ Facing (now t) (now schedule) (now starts) (now words) (now cells) state × (state .at < length (now t)) × (1 ≤ state .depth) × (state .depth ≤ mostFrames) ⌝ }
+    ensures { λ r. ⌜ Faces (now (t .entry)) (now (schedule .entry)) (now (starts .entry)) (now (words .entry)) (now (cells .entry)) state (now (words .exit)) r ⌝ }
+{
+    let at = state.at;
+    if t[at] == SELECT {
+        let taken = state.taken;
+        return decide::decide_select(t, starts, cells, at, schedule[taken]);
+    }
+    decide::decide(t, words, FRAME * (state.depth - 1), starts, cells, at)
+}
+
+// "used up (select and no entry)".
+fn used_up(t: &[u8], schedule: &[u8], state: State) -> bool
+    requires { ⌜ (state .at < length (now t)) × (state .taken ≤ length (now schedule)) ⌝ }
+    ensures { λ r. ⌜ UsedUp (now (t .entry)) (now (schedule .entry)) state r ⌝ }
+{
+    let at = state.at;
+    if t[at] == SELECT { state.taken == schedule.len() } else { false }
+}
+
+// How a run ended.
+fn outcome(end: u8, steps: u64, state: State) -> Ran
+    ensures { λ r. ⌜ r ≡ ranWith end steps state ⌝ }
+{
+    Ran {
+        end,
+        steps,
+        taken: state.taken,
+        events: state.events,
+    }
+}
+
+// The run: "Before each step a run is judged finished, at its budget, used up (select and no entry), blocked, in this order".
+fn go(
+    t: &[u8],
+    records: usize,
+    schedule: &[u8],
+    jumps: &[u16; POSITIONS],
+    starts: &[u32; STARTS],
+    words: &mut [u64; locals::WORDS],
+    cells: &mut [u64; memory::WORDS],
+    back: &mut [u32; FRAMES],
+    events: &mut [u8],
+    h: usize,
+    budget: u64,
+) -> Ran
+    requires { ⌜ Starting (now t) records (now jumps) (now starts) (now words) (now back) (now cells) ⌝ }
+    ensures { λ r. ⌜ Runs (now (t .entry)) records (now (schedule .entry)) (now (jumps .entry)) (now (starts .entry)) (now (words .entry)) (now (back .entry)) (now (cells .entry)) h budget (now (events .entry)) (now (cells .exit)) (now (events .exit)) r ⌝ }
+{
+    let mut state = State {
+        at: wide(table::four(t, records + 2)),
+        depth: 1,
+        thread: 0,
+        taken: 0,
+        events: 0,
+    };
+    let mut steps = 0;
+    loop {
+        if state.depth == 0 {
+            return outcome(FINISHED, steps, state);
+        }
+        if steps == budget {
+            return outcome(SPENT, steps, state);
+        }
+        if used_up(t, schedule, state) {
+            return outcome(USED, steps, state);
+        }
+        let step = due(t, schedule, starts, words, cells, state);
+        if let Step::Blocked = step {
+            return outcome(BLOCKED, steps, state);
+        }
+        state = carry_out(t, records, jumps, words, cells, back, events, h, state, step);
+        steps += 1;
+    }
+}
+
+// The run on a table that is accepted, with room for its cells.
+pub fn run(
+    t: &[u8],
+    procedures: usize,
+    locations: usize,
+    count: usize,
+    schedule: &[u8],
+    budget: u64,
+    h: usize,
+    cells: &mut [u8],
+    events: &mut [u8],
+) -> RunAnswer
+    requires { ⌜ Accepted (now t) procedures locations count ⌝ }
+    ensures { λ r. ⌜ Outcomes (now (t .entry)) procedures locations count (now (schedule .entry)) budget h (now (cells .entry)) (now (events .entry)) r (now (cells .exit)) (now (events .exit)) ⌝ }
+{
+    let records = t.len() - TRAILER - RECORD * procedures - SIZE * locations;
+    let mut positions = [0u16; POSITIONS];
+    let mut starts = [0u32; STARTS];
+    let mut words = [0u64; locals::WORDS];
+    let mut memory = [ZERO; memory::WORDS];
+    let mut back = [0u32; FRAMES];
+    jumps::fill(t, procedures, &mut positions);
+    memory::set_starts(t, records + RECORD * procedures, locations, &mut starts);
+    let ran = go(
+        t,
+        records,
+        schedule,
+        &positions,
+        &starts,
+        &mut words,
+        &mut memory,
+        &mut back,
+        events,
+        h,
+        budget,
+    );
+    memory::write_cells(&memory, count, cells);
+    RunAnswer {
+        number: 0,
+        end: ran.end,
+        steps: ran.steps,
+        unused: schedule.len() - ran.taken,
+        events: ran.events as u64,
+    }
+}
