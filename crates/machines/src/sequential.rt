@@ -229,7 +229,11 @@ fn used_up(t: &[u8], schedule: &[u8], state: State) -> bool
     ensures { λ r. ⌜ UsedUp (now (t .entry)) (now (schedule .entry)) state r ⌝ }
 {
     let at = state.at;
-    if t[at] == SELECT { state.taken == schedule.len() } else { false }
+    if t[at] == SELECT {
+        state.taken == schedule.len()
+    } else {
+        false
+    }
 }
 
 // How a run ended.
@@ -283,7 +287,18 @@ fn go(
         if let Step::Blocked = step {
             return outcome(BLOCKED, steps, state);
         }
-        state = carry_out(t, records, jumps, words, cells, back, events, h, state, step);
+        state = carry_out(
+            t,
+            records,
+            jumps,
+            words,
+            cells,
+            back,
+            events,
+            h,
+            state,
+            step,
+        );
         steps += 1;
     }
 }
