@@ -24,9 +24,8 @@ use Rattle.reader.specs.Laws.Heads.{length-heads}
 use Rattle.reader.specs.Laws.Refusals.{refused-within}
 use Rattle.reader.specs.Laws.Sections.{length-each}
 use Rattle.reader.specs.Laws.Sound.{Within, Sound}
-use Rattle.reader.specs.Laws.Spots.{bodies-stand}
 use Rattle.reader.specs.Laws.Stands.{Stands, whole, front, back}
-use Rattle.reader.specs.Laws.TablePlaces.{recordsAt, trailer-at, length-table}
+use Rattle.reader.specs.Laws.TablePlaces.{recordsAt, all-bodies, trailer-at, length-table}
 use Rattle.machines.specs.declared.sequential.Ran.{Ran}
 use Rattle.machines.specs.Memory.{Memory, fresh}
 use Rattle.machines.specs.Copy as C
@@ -52,11 +51,11 @@ module _ {t : List ℕ} {P M c : ℕ} (a : Accepted t P M c) where
   accepted-cells = omega (arith, a .cells, a .sound .cells)
 
   -- its bodies stand first
-  bodies-at : BodiesAt t 0 P (a .program .procs) (0 + length (each block (bodiesOf (a .program .procs))))
-  bodies-at = record { stands = bodies-stand sequential (a .program) (a .same); count = sym (a .procs); fits = bodies-fit sequential (a .program) (a .sound) }
+  bodies-at : BodiesAt t 0 P (a .program .procs) (recordsAt (a .program))
+  bodies-at = record { stands = all-bodies sequential (a .program) (a .same); count = sym (a .procs); fits = bodies-fit sequential (a .program) (a .sound) }
 
   pub accepted-bodies : BodiesIn t 0 P
-  accepted-bodies = record { procs = a .program .procs; next = 0 + length (each block (bodiesOf (a .program .procs))); there = bodies-at }
+  accepted-bodies = record { procs = a .program .procs; next = recordsAt (a .program); there = bodies-at }
 
   -- no threads
   no-mains : length (a .program .mains) ≡ 0

@@ -26,7 +26,7 @@ use Rattle.reader.specs.Laws.Procs.{ProcSound, proc-sound, bodyIn, body-at}
 use Rattle.reader.specs.Laws.Sound.{Sound}
 use Rattle.reader.specs.Laws.TablePlaces as T
 use Rattle.reader.specs.Laws.Accepted.{bodies-fit}
-use Rattle.reader.specs.Laws.Spots.{itself, join-end, Inherited, spot-has, deep-inherited, names-inherited, allowed-inherited, bodies-stand, code-stands, step-byte, block-some}
+use Rattle.reader.specs.Laws.Spots.{itself, join-end, Inherited, spot-has, deep-inherited, names-inherited, allowed-inherited, code-stands, step-byte, block-some}
 use Rattle.machines.specs.Jumps.{Settled, last, first, beyond, Entry, Jumps, Settles}
 use Rattle.machines.proofs.Jumping.{code-in}
 
@@ -54,7 +54,7 @@ pub record Here (t : List ℕ) (p : Program Plain) (m X k : ℕ) (x : Block Plai
 module _ {t : List ℕ} {p : Program Plain} (same : t ≡ table sequential p) (sound : Sound sequential p) where
   -- the code at a position stands there
   pub stands-here : {m k : ℕ} {d r : Block Plain} → CodeAt (p .procs) m k d r → Stands t k (E.block d) (k + length (E.block d))
-  stands-here c = code-stands (bodies-stand sequential p same) c
+  stands-here c = code-stands (T.all-bodies sequential p same) c
 
   -- there is a byte
   pub code-inside : {m k : ℕ} {d r : Block Plain} → CodeAt (p .procs) m k d r → k < length t
