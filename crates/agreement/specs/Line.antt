@@ -5,6 +5,7 @@ use mathlib.Core.Bool.{true, false}
 use lib.ListN.{length, take, drop}
 use lib.Dec.{ltb, eqb}
 use Rattle.value.specs.Maybe.{pick}
+use Rattle.value.specs.Lists.{over}
 use Rattle.value.specs.Values.{unbytes}
 use Rattle.agreement.specs.declared.Figures.{Figures}
 use Rattle.agreement.specs.Figures.{refusal, figuresCall}
@@ -35,14 +36,14 @@ endWord (suc (suc n)) = blockedWord
 
 -- ---- numbers
 
--- the digits of n before others, at most so many of them
-abbrev pub digitsBefore : ℕ → ℕ → List ℕ → List ℕ
-digitsBefore zero n ds = ds
-digitsBefore (suc k) n ds = elim (ltb n 10) [ true ↦ (48 + n) ∷ ds | false ↦ digitsBefore k (n / 10) ((48 + n % 10) ∷ ds) ]
+-- the digits of n, at most so many of them
+unfoldable pub digits : ℕ → ℕ → List ℕ
+digits zero n = []
+digits (suc k) n = elim (ltb n 10) [ true ↦ (48 + n) ∷ [] | false ↦ digits k (n / 10) ++ ((48 + n % 10) ∷ []) ]
 
 -- n in decimal: 20 digits are enough for 64 bits
 abbrev pub decimal : ℕ → List ℕ
-decimal n = digitsBefore 20 n []
+decimal n = digits 20 n
 
 -- a space, then n
 abbrev pub spaced : ℕ → List ℕ
@@ -54,18 +55,28 @@ spaced n = 32 ∷ decimal n
 abbrev pub newline : List ℕ
 newline = 10 ∷ []
 
+-- "A refusal prints refused N"
+abbrev pub refusedLine : ℕ → List ℕ
+refusedLine n = refusedWord ++ (spaced n ++ newline)
+
+-- four numbers end a line
+unfoldable pub numbers : ℕ → ℕ → ℕ → ℕ → List ℕ
+numbers a b c d = spaced a ++ (spaced b ++ (spaced c ++ (spaced d ++ newline)))
+
 -- "It prints one line: the program's end and steps, the copy's steps, the program's unused entries and shared events"
-abbrev pub line : Figures → List ℕ
+unfoldable pub line : Figures → List ℕ
 line f =
     pick (eqb (f .number) 0)
-    (endWord (f .end) ++ (spaced (f .steps) ++ (spaced (f .copy) ++ (spaced (f .unused) ++ (spaced (f .events) ++ newline)))))
-    (refusedWord ++ (spaced (f .number) ++ newline))
+    (endWord (f .end) ++ numbers (f .steps) (f .copy) (f .unused) (f .events))
+    (refusedLine (f .number))
 
--- "a schedule length (2 bytes), the schedule, a concurrent table. If the input ends before the schedule does, the table is empty"
+-- ---- the input
+
+-- "a schedule length (2 bytes), the schedule, a concurrent table"
 abbrev pub scheduleOf : List ℕ → List ℕ
 scheduleOf input = take (unbytes (take 2 input)) (drop 2 input)
 
--- what comes after the schedule
+-- what comes after the schedule: "If the input ends before the schedule does, the table is empty"
 abbrev pub tableOf : List ℕ → List ℕ
 tableOf input = drop (unbytes (take 2 input)) (drop 2 input)
 
@@ -73,6 +84,21 @@ tableOf input = drop (unbytes (take 2 input)) (drop 2 input)
 abbrev pub maxInput : ℕ
 maxInput = 20482
 
+-- the figures of an input
+unfoldable pub told : List ℕ → Figures
+told input = pick (ltb maxInput (length input)) (refusal 2) (figuresCall (tableOf input) (scheduleOf input))
+
 -- the program: what it prints for its standard input
 abbrev pub printed : List ℕ → List ℕ
-printed input = line (pick (ltb maxInput (length input)) (refusal 2) (figuresCall (tableOf input) (scheduleOf input)))
+printed input = line (told input)
+
+-- ---- the call
+
+-- the line's length, and the lent buffer after the call
+pub record Lined : Type 0 where
+  pub count : ℕ
+  pub out : List ℕ
+
+-- a line at the start of a lent buffer; all other bytes stay
+unfoldable pub lined : List ℕ → List ℕ → Lined
+lined l out = record { count = length l; out = over l out }

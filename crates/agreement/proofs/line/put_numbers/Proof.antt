@@ -1,0 +1,27 @@
+-- `agreement::line::put_numbers` meets its contract.
+use borrow.Author.Needs.{needs}
+use Rattle.agreement.proofs.Lines.{four-numbers}
+use Rattle.agreement.proofs.line.put_numbers.Statement.{statement}
+use Rattle.agreement.proofs.line.put_numbers.Tie as tie
+
+-- each call after the one before it
+numbers-put : tie.Need-returns
+numbers-put c =
+    four-numbers _ _ _ _
+    (c .before .before .before .before .before .before .before .before .before .before .before .before .before .before .before .before .before .before .put-number .ensures)
+    (c .before .before .before .before .before .before .before .before .before .before .before .before .before .before .put-number2 .ensures)
+    (c .before .before .before .before .before .before .before .before .before .before .put-number3 .ensures)
+    (c .before .before .before .before .before .before .put-number4 .ensures)
+    (c .before .before .put .ensures)
+
+pub put-numbers-spec : {M : Type 1} → statement M
+put-numbers-spec =
+    tie.close
+    (tie.spec
+    (λ c κs. search needs)
+    (λ c κs. search needs)
+    (λ c κs. search needs)
+    (λ c κs. search needs)
+    (λ c κs. search needs)
+    (λ c. search needs)
+    numbers-put)

@@ -1,0 +1,30 @@
+-- What the two runs answer where the lent buffers are large enough: "It lends buffers that are large enough and gives the copy
+-- demand 3's budget."
+use Prim.Native.Nat.{ℕ}
+use mathlib.Core.List.{List}
+use mathlib.Core.Bool.{true, false}
+use lib.ListN.{length}
+use Rattle.reader.specs.Syntax.{Program, Plain, Kind, concurrent, sequential}
+use Rattle.reader.specs.Rules.{Verdict, refused, accepted, verdict}
+use Rattle.machines.specs.Threads as P
+use Rattle.machines.specs.Copy as C
+use Rattle.machines.specs.declared.RunAnswer.{RunAnswer}
+use Rattle.machines.specs.Calls.{refusal, ran, scheduled, concurrentRun, sequentialRun}
+use Rattle.agreement.specs.Agreement.{budget}
+
+-- by the verdict on the table, then 11; 12 cannot occur
+abbrev pub answerAs : Kind → Verdict → (Program Plain → RunAnswer) → List ℕ → RunAnswer
+answerAs k (refused n) go ts = refusal n
+answerAs k (accepted p) go ts = elim (scheduled k p ts) [ false ↦ refusal 11 | true ↦ go p ]
+
+-- of the concurrent table t under schedule ts
+unfoldable pub programAnswer : List ℕ → List ℕ → RunAnswer
+programAnswer t ts = answerAs concurrent (verdict concurrent t) (λ p.
+    let r : P.Ran = concurrentRun p ts in
+    ran (r .how) (r .steps) (r .unused) (length (r .events))) ts
+
+-- of the sequential table t under schedule ts, with events of locations below h
+unfoldable pub copyAnswer : List ℕ → List ℕ → ℕ → RunAnswer
+copyAnswer t ts h = answerAs sequential (verdict sequential t) (λ p.
+    let r : C.Ran = sequentialRun budget h p ts in
+    ran (r .how) (r .steps) (length (r .config .todo)) (length (r .config .events))) ts
