@@ -30,3 +30,9 @@ pub mod Running
 pub mod Facing
 -- the call, from the table to the answer
 pub mod Calling
+-- carrying out a step of a thread, way by way
+pub mod Carrying
+-- what is inside an atomic block, way by way
+pub mod Inside
+-- one step of a frame's code, way by way
+pub mod Turning

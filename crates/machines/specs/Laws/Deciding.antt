@@ -91,7 +91,7 @@ along P b nothing f h = b
 along P b (is x) f h = h x refl
 
 -- a cell that is there has an index below the size
-cell-size : (η : Memory) (l i : ℕ) {u : Value} → cell η l i ≡ is u → i < getD (shape η) l 0
+pub cell-size : (η : Memory) (l i : ℕ) {u : Value} → cell η l i ≡ is u → i < getD (shape η) l 0
 cell-size η l i e = by-test (ltb i (getD (shape η) l 0))
     (λ t. ltb-true i (getD (shape η) l 0) t)
     (λ t. missing (sym (no-cell η l i (ltb-false i (getD (shape η) l 0) t)) ∙ e))

@@ -1,0 +1,86 @@
+-- The two functions of an atomic block meet their contracts.
+use borrow.Author.Needs.{needs}
+use Prim.Native.Nat.{ℕ, _+_, _-_, _<_}
+use native.Mathlib.Omega.{arith}
+use mathlib.Core.Path.{_≡_, _∙_}
+use lib.ListN.{length}
+use Rattle.machines.proofs.Inside.{Going, going-deep, then-after, doing-else, does-else, instr-ways, block-ways}
+use borrow.Fn.Kinds.{In}
+use borrow.Fn.PlainCycle.{Measures, is, falls, and}
+use Rattle.machines.proofs.atomic.do_block.Reads as do-block
+use Rattle.machines.proofs.atomic.do_block.Kinds as do-block-kinds
+use Rattle.machines.proofs.atomic.+do_block+do_instr.Lts-do_block as do-block-lts
+use Rattle.machines.proofs.atomic.do_instr.Reads as do-instr
+use Rattle.machines.proofs.atomic.do_instr.Kinds as do-instr-kinds
+use Rattle.machines.proofs.atomic.+do_block+do_instr.Lts-do_instr as do-instr-lts
+use Rattle.machines.proofs.atomic.carry_out.Reads as carry-out-reads
+use Rattle.machines.proofs.decide.decide.Reads as decide-reads
+use Rattle.reader.proofs.labels.count_block.Reads as count-block-reads
+use Rattle.machines.proofs.atomic.+do_block+do_instr.{statement}
+use Rattle.machines.proofs.atomic.+do_block+do_instr.Tie.{close}
+
+abbrev μ-do-block : Measures 5 do-block-kinds.ps ℕ
+μ-do-block κs a = a .1 .1 .0 + a .1 .1 .0
+
+abbrev μ-do-instr : Measures 5 do-instr-kinds.ps ℕ
+μ-do-instr κs a = a .1 .1 .0 + a .1 .1 .0 + 1
+
+abbrev do-block-at : ℕ → In 5 do-block-kinds.ps
+do-block-at t = and 5 do-block-kinds.ps (is 5 do-block-kinds.ps μ-do-block t) do-block.Pre
+
+abbrev do-block-below : ℕ → In 5 do-block-kinds.ps
+do-block-below t =
+    and 5 do-block-kinds.ps (falls 5 do-block-kinds.ps _<_ μ-do-block t) do-block.Pre
+
+abbrev do-instr-at : ℕ → In 5 do-instr-kinds.ps
+do-instr-at t = and 5 do-instr-kinds.ps (is 5 do-instr-kinds.ps μ-do-instr t) do-instr.Pre
+
+abbrev do-instr-below : ℕ → In 5 do-instr-kinds.ps
+do-instr-below t =
+    and 5 do-instr-kinds.ps (falls 5 do-instr-kinds.ps _<_ μ-do-instr t) do-instr.Pre
+
+abbrev do-block-Inv-loop : do-block-lts.InvT-loop
+do-block-Inv-loop t at depth thread base starts words₀ cells₀ events₀ count i₀ n₀ words cells events i n =
+    Going t thread base starts depth at words₀ cells₀ events₀ count i words cells events n × (length events ≡ length events₀)
+
+abbrev do-block-μ-loop : do-block-lts.MeasureT-loop
+do-block-μ-loop t at depth thread base starts words₀ cells₀ events₀ count i₀ n₀ words cells events i n = length t - i
+
+abbrev do-block-calls : ℕ → do-block-lts.Claims
+do-block-calls t = (do-instr-below t, do-instr.Post)
+
+abbrev do-instr-calls : ℕ → do-instr-lts.Claims
+do-instr-calls t = (decide-reads.Asked, decide-reads.Learnt, do-block-below t, do-block.Post, count-block-reads.Asked, count-block-reads.Learnt, carry-out-reads.Asked, carry-out-reads.Learnt)
+
+pub +do-block+do-instr-spec : {M : Type 1} → statement M
++do-block+do-instr-spec = close μ-do-block μ-do-instr (λ t. do-block-lts.spec (do-block-calls t) (do-block-at t) do-block.Post do-block-Inv-loop do-block-μ-loop
+    (λ c. search (block-ways, needs))
+    (λ c. search (block-ways, needs))
+    (λ c. search (block-ways, needs))
+    (λ c κs. (omega (arith, going-deep (c .before .before .before .before .before .loop .inv .0), c .before .before .before .before .before .before .before .before .pre .0), search (block-ways, needs)))
+    (λ c. search needs)
+    (λ c. search needs)
+    (λ c. search needs)
+    (λ c. search (block-ways, needs))
+    (λ c. search (block-ways, needs))
+    (λ c. (search (block-ways, needs), c .before .before .before .before .before .do-instr .kept .1 .1 .1 .1 .1 .1 .1 .1 .0 ∙ c .before .before .before .before .before .before .before .before .before .before .before .loop .inv .1))
+    (λ c. search (block-ways, needs))
+    (λ c. search needs)
+    (λ c. search (block-ways, needs))) λ t. do-instr-lts.spec (do-instr-calls t) (do-instr-at t) do-instr.Post
+    (λ c κs. (search instr-ways, search instr-ways))
+    (λ c. search needs)
+    (λ c κs. (search needs, search (instr-ways, needs)))
+    (λ c. search needs)
+    (λ c. search needs)
+    (λ c. search needs)
+    (λ c. search (instr-ways, needs))
+    (λ c κs. then-after (c .before .before .before .before .before .before .before .before .before .before .before .before .before .decide .ensures) (c .before .before .before .before .before .before .before .before .before .before .before .step .given .1) (c .before .before .before .before .before .before .before .before .before .if1 .taken) (c .before .before .before .before .before .do-block .ensures) (c .before .end .given .1) (c .before .before .before .before .before .before .before .before .before .before .before .before .before .before .before .before .before .before .pre .1))
+    (λ c. search needs)
+    (λ c. search (instr-ways, needs))
+    (λ c κs. search (instr-ways, needs))
+    (λ c κs. (search needs, doing-else (c .before .before .before .before .before .before .before .before .decide .ensures) (c .before .before .before .before .before .before .step .given .1) (c .before .before .before .before .if1 .left) (c .before .before .before .count-block2 .ensures) (c .before .before .before .before .before .before .before .before .before .before .before .before .before .pre .1)))
+    (λ c. search needs)
+    (λ c. does-else (c .before .before .before .before .before .before .before .before .before .before .before .decide .ensures) (c .before .before .before .before .before .before .before .before .before .step .given .1) (c .before .before .before .before .before .before .before .if1 .left) (c .before .before .before .before .before .before .count-block2 .ensures) (c .before .before .do-block2 .ensures))
+    (λ c κs. search (instr-ways, needs))
+    (λ c. search needs)
+    (λ c. search (instr-ways, needs))
