@@ -1,8 +1,16 @@
-// Answers a batch of cases from standard input with a line for each. The folder `second` writes the batch, and the lines to expect.
+// Answers a batch of requests from standard input with a line for each. The folder `second` writes the batch that is stored beside
+// this program, and the lines to expect; the command `zaru` asks it for everything that it tells.
 //
-// A case is a header of 36 bytes, then a table and a schedule. The header, numbers low byte first: what to call (1 byte; 0 ends the
-// batch), three zeros, the table's length (4), the schedule's (4), budget (8), h (4), the lengths of the lent buffers for cells (4),
-// events (4) and output (4).
+// A request is a header of 36 bytes, then a table and a schedule. The header, numbers low byte first: what to call (1 byte; 0 ends the
+// batch), whether to show the lent buffers (1), two zeros, the table's length (4), the schedule's (4), budget (8), h (4), the lengths of
+// the lent buffers for cells (4), events (4) and output (4).
+//
+// A line has the call's number, the numbers of its answer, and a hash of each lent buffer. Where they are to be shown, their bytes
+// follow it. Before a call byte i of a lent buffer is the low byte of 7 * i + 13.
+mod buffers;
+mod print;
+
+use machines::RunAnswer;
 use value::bytes;
 
 const HEADER: usize = 36;
@@ -11,73 +19,197 @@ const LONGEST_TABLE: usize = 66000;
 
 const LONGEST_SCHEDULE: usize = 5000;
 
-// No batch has more cases: the loop over them ends.
-const MOST_CASES: u32 = 1000000;
+const LONGEST_CELLS: usize = 45056;
+
+const LONGEST_EVENTS: usize = 45056;
+
+const LONGEST_OUT: usize = 70000;
+
+// No batch has more requests: the loop over them ends.
+const MOST_REQUESTS: u32 = 1000000;
 
 const READ_CONCURRENT: u8 = 1;
 
 const READ_SEQUENTIAL: u8 = 2;
 
-// A space, then the number.
-fn print_number(n: u64) {
-    io::write_all(1, b" ");
-    io::print_decimal(1, n);
+const TRANSLATE: u8 = 3;
+
+const RUN_CONCURRENT: u8 = 4;
+
+const RUN_SEQUENTIAL: u8 = 5;
+
+const RUN_PROGRAM: u8 = 6;
+
+// What is asked for, beside the table and the schedule.
+struct Request {
+    call: u8,
+    shown: bool,
+    budget: u64,
+    h: usize,
+    cells: usize,
+    events: usize,
+    out: usize,
 }
 
-fn print_read(call: u8, r: reader::ReadAnswer) {
-    io::print_decimal(1, call as u64);
-    print_number(r.number as u64);
-    print_number(r.procedures as u64);
-    print_number(r.locations as u64);
-    print_number(r.threads as u64);
-    print_number(r.labels as u64);
-    print_number(r.cells as u64);
-    io::write_all(1, b"\n");
+// The eight bytes at a place.
+fn eight_bytes(header: &[u8], at: usize) -> u64 {
+    if at < 4096 {
+        return bytes::four_bytes(header, at) as u64
+            + 4294967296 * (bytes::four_bytes(header, at + 4) as u64);
+    }
+    0
+}
+
+fn request_of(header: &[u8; HEADER]) -> Request {
+    Request {
+        call: header[0],
+        shown: header[1] == 1,
+        budget: eight_bytes(header, 12),
+        h: bytes::four_bytes(header, 20) as usize,
+        cells: bytes::four_bytes(header, 24) as usize,
+        events: bytes::four_bytes(header, 28) as usize,
+        out: bytes::four_bytes(header, 32) as usize,
+    }
+}
+
+// Translates into a lent buffer.
+fn answer_translate(shown: bool, table: &[u8], out: &mut [u8]) {
+    buffers::fill(out);
+    let r = translator::translate(table, out);
+    print::translation(TRANSLATE, r);
+    print::hash(out);
+    print::end_line();
+    print::show(shown, out);
+}
+
+// Lends the first bytes of a buffer to a translation.
+fn lend_out(request: Request, table: &[u8], out: &mut [u8]) {
+    let n = request.out;
+    if n <= out.len() {
+        answer_translate(request.shown, table, &mut out[..n]);
+    }
+}
+
+// Runs one of the two machines.
+fn run(
+    request: Request,
+    table: &[u8],
+    schedule: &[u8],
+    cells: &mut [u8],
+    events: &mut [u8],
+) -> RunAnswer {
+    machines::run_sequential(table, schedule, request.budget, request.h, cells, events)
+}
+
+// Runs with lent buffers.
+fn answer_run(
+    request: Request,
+    table: &[u8],
+    schedule: &[u8],
+    cells: &mut [u8],
+    events: &mut [u8],
+) {
+    buffers::fill(cells);
+    buffers::fill(events);
+    let r = run(request, table, schedule, cells, events);
+    print::run(request.call, r);
+    print::hash(cells);
+    print::hash(events);
+    print::end_line();
+    print::show(request.shown, cells);
+    print::show(request.shown, events);
+}
+
+// Lends the first bytes of a buffer for events.
+fn lend_events(
+    request: Request,
+    table: &[u8],
+    schedule: &[u8],
+    cells: &mut [u8],
+    events: &mut [u8],
+) {
+    let n = request.events;
+    if n <= events.len() {
+        answer_run(request, table, schedule, cells, &mut events[..n]);
+    }
+}
+
+// Lends the first bytes of a buffer for cells.
+fn lend_cells(
+    request: Request,
+    table: &[u8],
+    schedule: &[u8],
+    cells: &mut [u8],
+    events: &mut [u8],
+) {
+    let n = request.cells;
+    if n <= cells.len() {
+        lend_events(request, table, schedule, &mut cells[..n], events);
+    }
+}
+
+fn translate(request: Request, table: &[u8]) {
+    let mut out = [0u8; LONGEST_OUT];
+    lend_out(request, table, &mut out);
+}
+
+fn run_machine(request: Request, table: &[u8], schedule: &[u8]) {
+    let mut cells = [0u8; LONGEST_CELLS];
+    let mut events = [0u8; LONGEST_EVENTS];
+    lend_cells(request, table, schedule, &mut cells, &mut events);
 }
 
 // One call, and its line; false for a call that there is none of.
-fn answer(call: u8, table: &[u8]) -> bool {
-    if call == READ_CONCURRENT {
-        print_read(call, reader::read_concurrent(table));
-        return true;
+fn answer(request: Request, table: &[u8], schedule: &[u8]) -> bool {
+    let call = request.call;
+    match call {
+        READ_CONCURRENT => print::read(READ_CONCURRENT, reader::read_concurrent(table)),
+        READ_SEQUENTIAL => print::read(READ_SEQUENTIAL, reader::read_sequential(table)),
+        TRANSLATE => translate(request, table),
+        RUN_CONCURRENT => run_machine(request, table, schedule),
+        RUN_SEQUENTIAL => run_machine(request, table, schedule),
+        _ => return false,
     }
-    if call == READ_SEQUENTIAL {
-        print_read(call, reader::read_sequential(table));
-        return true;
-    }
-    false
+    true
 }
 
-// The first n bytes of the buffer come from standard input.
-fn read_into(buffer: &mut [u8], n: usize) {
-    if n <= buffer.len() {
-        io::read_full(0, &mut buffer[..n]);
-    }
-}
-
-// The call on the first n bytes of the buffer.
-fn answer_part(call: u8, buffer: &[u8], n: usize) -> bool {
-    if buffer.len() < n {
+// The call on the first bytes of the schedule's buffer.
+fn answer_scheduled(request: Request, table: &[u8], schedule: &[u8], entries: usize) -> bool {
+    if schedule.len() < entries {
         return false;
     }
-    answer(call, &buffer[..n])
+    answer(request, table, &schedule[..entries])
+}
+
+// The call on the first bytes of both buffers.
+fn answer_part(
+    request: Request,
+    table: &[u8],
+    length: usize,
+    schedule: &[u8],
+    entries: usize,
+) -> bool {
+    if table.len() < length {
+        return false;
+    }
+    answer_scheduled(request, &table[..length], schedule, entries)
 }
 
 // Reads a table and a schedule of these lengths into the lent buffers, and answers the call.
-fn answer_case(
-    call: u8,
+fn answer_request(
+    request: Request,
     length: usize,
-    scheduled: usize,
+    entries: usize,
     table: &mut [u8],
     schedule: &mut [u8],
 ) -> bool {
-    read_into(table, length);
-    read_into(schedule, scheduled);
-    answer_part(call, table, length)
+    buffers::read_into(table, length);
+    buffers::read_into(schedule, entries);
+    answer_part(request, table, length, schedule, entries)
 }
 
-// Reads a case and answers it; false at the end of the batch, or where it is cut off.
-fn next_case() -> bool {
+// Reads a request and answers it; false at the end of the batch, or where it is cut off.
+fn next_request() -> bool {
     let mut header = [0u8; HEADER];
     let got = io::read_full(0, &mut header);
     if got < HEADER {
@@ -85,8 +217,8 @@ fn next_case() -> bool {
     }
     let mut table = [0u8; LONGEST_TABLE];
     let mut schedule = [0u8; LONGEST_SCHEDULE];
-    answer_case(
-        header[0],
+    answer_request(
+        request_of(&header),
         bytes::four_bytes(&header, 4) as usize,
         bytes::four_bytes(&header, 8) as usize,
         &mut table,
@@ -95,11 +227,11 @@ fn next_case() -> bool {
 }
 
 fn main() {
-    let mut cases = 0u32;
-    while cases < MOST_CASES {
-        if !next_case() {
+    let mut requests = 0u32;
+    while requests < MOST_REQUESTS {
+        if !next_request() {
             return;
         }
-        cases += 1;
+        requests += 1;
     }
 }

@@ -2,8 +2,8 @@
 use borrow.Author.Needs.{needs}
 use native.Mathlib.Omega.{arith}
 use lib.ListN.{length-take}
-use Rattle.cases.proofs.read_into.Statement.{statement}
-use Rattle.cases.proofs.read_into.Tie as tie
+use Rattle.cases.proofs.buffers.read_into.Statement.{statement}
+use Rattle.cases.proofs.buffers.read_into.Tie as tie
 
 slice-relend-prefix-read-full : tie.Need-slice-relend-prefix-read-full
 slice-relend-prefix-read-full c = search needs

@@ -1,0 +1,17 @@
+-- `cases::lend_out` meets its contract.
+use borrow.Author.Needs.{needs}
+use native.Mathlib.Omega.{arith}
+use lib.ListN.{length-take}
+use Rattle.cases.proofs.lend_out.Statement.{statement}
+use Rattle.cases.proofs.lend_out.Tie as tie
+
+pub lend-out-spec : {M : Type 1} → statement M
+lend-out-spec =
+    tie.close
+    (tie.spec
+    (λ c. search needs)
+    (λ c. simp length-take (omega arith))
+    (λ c κs. search needs)
+    (λ c. search needs)
+    (λ c. search needs)
+    (λ c. search needs))

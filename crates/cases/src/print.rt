@@ -1,0 +1,57 @@
+// The lines on standard output.
+use super::buffers;
+use machines::RunAnswer;
+use reader::ReadAnswer;
+use translator::WriteAnswer;
+
+// A space, then the number.
+fn number(n: u64) {
+    io::write_all(1, b" ");
+    io::print_decimal(1, n);
+}
+
+pub fn end_line() {
+    io::write_all(1, b"\n");
+}
+
+// The line of a read.
+pub fn read(call: u8, r: ReadAnswer) {
+    io::print_decimal(1, call as u64);
+    number(r.number as u64);
+    number(r.procedures as u64);
+    number(r.locations as u64);
+    number(r.threads as u64);
+    number(r.labels as u64);
+    number(r.cells as u64);
+    end_line();
+}
+
+// A translation's answer.
+pub fn translation(call: u8, r: WriteAnswer) {
+    io::print_decimal(1, call as u64);
+    number(r.number as u64);
+    number(r.length as u64);
+}
+
+// A run's answer.
+pub fn run(call: u8, r: RunAnswer) {
+    io::print_decimal(1, call as u64);
+    number(r.number as u64);
+    number(r.end as u64);
+    number(r.steps);
+    number(r.unused as u64);
+    number(r.events);
+}
+
+// A space, then the hash of a buffer.
+pub fn hash(buffer: &[u8]) {
+    io::write_all(1, b" ");
+    io::print_hex(1, buffers::hash(buffer), 16);
+}
+
+// The bytes of a buffer, if they are to be shown.
+pub fn show(shown: bool, buffer: &[u8]) {
+    if shown {
+        io::write_all(1, buffer);
+    }
+}
