@@ -1,0 +1,54 @@
+-- Numbers stored one after the other in a lent array.
+use Prim.Native.Nat.{ℕ, zero, suc, _+_, _≤_}
+use native.Mathlib.Omega.{arith}
+use mathlib.Core.Path.{_≡_, refl, ap, ap₂, _∙_}
+use mathlib.Core.List.{List, [], _∷_}
+use lib.ListN.{length, set}
+use Rattle.reader.specs.declared.ReadAnswer.{ReadAnswer}
+use Rattle.translator.specs.declared.WriteAnswer.{WriteAnswer}
+use Rattle.translator.specs.Calls.{Written}
+use Rattle.machines.specs.declared.RunAnswer.{RunAnswer}
+use Rattle.machines.specs.Calls.{Outcome}
+use Rattle.clib.specs.Numbers.{stored, readNumbers, writeNumbers, runNumbers, Translated, translated, Ran, ran}
+
+-- past the end nothing is stored
+pub set-past : (xs : List ℕ) (i n : ℕ) → length xs ≤ i → xs ≡ set xs i n
+set-past [] i n h = refl
+set-past (x ∷ xs) zero n h = absurd (omega arith)
+set-past (x ∷ xs) (suc i) n h = ap (x ∷_) (set-past xs i n (omega arith))
+
+-- three stores
+pub three : (xs ys zs ws : List ℕ) (i a b c : ℕ) → ys ≡ set xs i a → zs ≡ set ys (i + 1) b → ws ≡ set zs (i + 2) c
+    → ws ≡ set (set (set xs i a) (i + 1) b) (i + 2) c
+three xs ys zs ws i a b c e f g = g ∙ ap (λ us. set us (i + 2) c) (f ∙ ap (λ us. set us (i + 1) b) e)
+
+-- the numbers of a read
+pub read-stored : (r : ReadAnswer) (xs ys zs : List ℕ) → ys ≡ set (set (set xs 0 (r .number)) 1 (r .procedures)) 2 (r .locations)
+    → zs ≡ set (set (set ys 3 (r .threads)) 4 (r .labels)) 5 (r .cells) → zs ≡ stored 0 (readNumbers r) xs
+read-stored r xs ys zs e f = f ∙ ap (λ us. set (set (set us 3 (r .threads)) 4 (r .labels)) 5 (r .cells)) e
+
+-- of a translation
+pub write-stored : (r : WriteAnswer) (xs ys zs : List ℕ) → ys ≡ set xs 0 (r .number) → zs ≡ set ys 1 (r .length) → zs ≡ stored 0 (writeNumbers r) xs
+write-stored r xs ys zs e f = f ∙ ap (λ us. set us 1 (r .length)) e
+
+-- of a run
+pub run-stored : (r : RunAnswer) (xs ys zs ws : List ℕ) → ys ≡ set (set (set xs 0 (r .number)) 1 (r .end)) 2 (r .steps)
+    → zs ≡ set ys 3 (r .unused) → ws ≡ set zs 4 (r .events) → ws ≡ stored 0 (runNumbers r) xs
+run-stored r xs ys zs ws e f g = g ∙ ap (λ us. set us 4 (r .events)) (f ∙ ap (λ us. set us 3 (r .unused)) e)
+
+-- the answer of a read is what it is said to be
+pub read-told : (r s : ReadAnswer) (xs ys : List ℕ) → r ≡ s → ys ≡ stored 0 (readNumbers r) xs → ys ≡ stored 0 (readNumbers s) xs
+read-told r s xs ys e f = f ∙ ap (λ r. stored 0 (readNumbers r) xs) e
+
+-- of a translation
+pub write-told : (r : WriteAnswer) (out xs ys : List ℕ) (w : Written) → record { answer = r; out = out } ≡ w → ys ≡ stored 0 (writeNumbers r) xs
+    → _≡_ {A = Translated} (record { out = out; answer = ys }) (translated w xs)
+write-told r out xs ys w e f = ap (λ ys. record { out = out; answer = ys }) f ∙ ap (λ w. translated w xs) e
+
+-- of a run
+pub run-told : (r : RunAnswer) (cs es xs ys : List ℕ) (o : Outcome) → record { answer = r; cells = cs; events = es } ≡ o
+    → ys ≡ stored 0 (runNumbers r) xs → _≡_ {A = Ran} (record { cells = cs; events = es; answer = ys }) (ran o xs)
+run-told r cs es xs ys o e f = ap (λ ys. record { cells = cs; events = es; answer = ys }) f ∙ ap (λ o. ran o xs) e
+
+-- one law for each function
+pub ruleset stores = (set-past, three, read-stored, write-stored, run-stored, read-told, write-told, run-told)

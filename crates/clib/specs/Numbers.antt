@@ -1,0 +1,43 @@
+-- The numbers of an answer in a lent array, for callers that have no structs of ours.
+use Prim.Native.Nat.{ℕ, suc}
+use mathlib.Core.List.{List, [], _∷_}
+use lib.ListN.{set}
+use Rattle.reader.specs.declared.ReadAnswer.{ReadAnswer}
+use Rattle.translator.specs.declared.WriteAnswer.{WriteAnswer}
+use Rattle.translator.specs.Calls.{Written}
+use Rattle.machines.specs.declared.RunAnswer.{RunAnswer}
+use Rattle.machines.specs.Calls.{Outcome}
+
+-- numbers from place i on, each where there is such a place; all others stay
+abbrev pub stored : ℕ → List ℕ → List ℕ → List ℕ
+stored i [] out = out
+stored i (n ∷ ns) out = stored (suc i) ns (set out i n)
+
+-- "An accepted read answers 0 with P, M, T, the number of labels (sequential: 0) and of cells"
+abbrev pub readNumbers : ReadAnswer → List ℕ
+readNumbers r = r .number ∷ r .procedures ∷ r .locations ∷ r .threads ∷ r .labels ∷ r .cells ∷ []
+
+-- its number and its length
+abbrev pub writeNumbers : WriteAnswer → List ℕ
+writeNumbers r = r .number ∷ r .length ∷ []
+
+-- "A run answers 0 with its end, its steps, its unused entries and its events"
+abbrev pub runNumbers : RunAnswer → List ℕ
+runNumbers r = r .number ∷ r .end ∷ r .steps ∷ r .unused ∷ r .events ∷ []
+
+-- what a translation leaves in both lent arrays
+pub record Translated : Type 0 where
+  pub out : List ℕ
+  pub answer : List ℕ
+
+abbrev pub translated : Written → List ℕ → Translated
+translated w answer = record { out = w .out; answer = stored 0 (writeNumbers (w .answer)) answer }
+
+-- what a run leaves in the three lent arrays
+pub record Ran : Type 0 where
+  pub cells : List ℕ
+  pub events : List ℕ
+  pub answer : List ℕ
+
+abbrev pub ran : Outcome → List ℕ → Ran
+ran o answer = record { cells = o .cells; events = o .events; answer = stored 0 (runNumbers (o .answer)) answer }

@@ -1,0 +1,105 @@
+// The calls for programs in C: a slice is a pointer and a length, and the numbers of an answer go into a lent array, each where the
+// array has a place for it.
+use machines::RunAnswer;
+use reader::ReadAnswer;
+use translator::WriteAnswer;
+ghost use mathlib.Core.Path.{_≡_};
+ghost use Prim.Native.Nat.{_+_, _≤_};
+ghost use lib.ListN.{set};
+ghost use Rattle.reader.specs.Syntax.{concurrent, sequential};
+ghost use Rattle.reader.specs.Calls.{readCall};
+ghost use Rattle.translator.specs.Calls.{translateCall};
+ghost use Rattle.machines.specs.Calls.{sequentialCall};
+ghost use Rattle.clib.specs.Numbers.{stored, readNumbers, writeNumbers, runNumbers, Translated, translated, Ran, ran};
+
+// Number i of an answer.
+fn store(answer: &mut [u64], i: usize, n: u64)
+    ensures { λ _. ⌜ now (answer .exit) ≡ set (now (answer .entry)) i n ⌝ }
+{
+    if i < answer.len() {
+        answer[i] = n;
+    }
+}
+
+// Three numbers of an answer, from place i on.
+fn store_three(answer: &mut [u64], i: usize, a: u64, b: u64, c: u64)
+    requires { ⌜ i ≤ 3 ⌝ }
+    ensures { λ _. ⌜ now (answer .exit) ≡ set (set (set (now (answer .entry)) i a) (i + 1) b) (i + 2) c ⌝ }
+{
+    store(answer, i, a);
+    store(answer, i + 1, b);
+    store(answer, i + 2, c);
+}
+
+// The six numbers of a read.
+fn store_read(answer: &mut [u64], r: ReadAnswer)
+    ensures { λ _. ⌜ now (answer .exit) ≡ stored 0 (readNumbers r) (now (answer .entry)) ⌝ }
+{
+    store_three(
+        answer,
+        0,
+        r.number as u64,
+        r.procedures as u64,
+        r.locations as u64,
+    );
+    store_three(answer, 3, r.threads as u64, r.labels as u64, r.cells as u64);
+}
+
+// The two numbers of a translation.
+fn store_write(answer: &mut [u64], r: WriteAnswer)
+    ensures { λ _. ⌜ now (answer .exit) ≡ stored 0 (writeNumbers r) (now (answer .entry)) ⌝ }
+{
+    store(answer, 0, r.number as u64);
+    store(answer, 1, r.length as u64);
+}
+
+// The five numbers of a run.
+fn store_run(answer: &mut [u64], r: RunAnswer)
+    ensures { λ _. ⌜ now (answer .exit) ≡ stored 0 (runNumbers r) (now (answer .entry)) ⌝ }
+{
+    store_three(answer, 0, r.number as u64, r.end as u64, r.steps);
+    store(answer, 3, r.unused as u64);
+    store(answer, 4, r.events);
+}
+
+// Reads a concurrent table.
+#[no_mangle]
+pub extern "C" fn zaru_read_concurrent(table: &[u8], answer: &mut [u64])
+    ensures { λ _. ⌜ now (answer .exit) ≡ stored 0 (readNumbers (readCall concurrent (now (table .entry)))) (now (answer .entry)) ⌝ }
+{
+    store_read(answer, reader::read_concurrent(table));
+}
+
+// Reads a sequential table.
+#[no_mangle]
+pub extern "C" fn zaru_read_sequential(table: &[u8], answer: &mut [u64])
+    ensures { λ _. ⌜ now (answer .exit) ≡ stored 0 (readNumbers (readCall sequential (now (table .entry)))) (now (answer .entry)) ⌝ }
+{
+    store_read(answer, reader::read_sequential(table));
+}
+
+// Translates a concurrent table.
+#[no_mangle]
+pub extern "C" fn zaru_translate(table: &[u8], out: &mut [u8], answer: &mut [u64])
+    ensures { λ _. ⌜ _≡_ {A = Translated} (record { out = now (out .exit); answer = now (answer .exit) }) (translated (translateCall (now (table .entry)) (now (out .entry))) (now (answer .entry))) ⌝ }
+{
+    let r = translator::translate(table, out);
+    store_write(answer, r);
+}
+
+// Runs a sequential table.
+#[no_mangle]
+pub extern "C" fn zaru_run_sequential(
+    table: &[u8],
+    schedule: &[u8],
+    budget: u64,
+    h: usize,
+    cells: &mut [u8],
+    events: &mut [u8],
+    answer: &mut [u64],
+)
+    ensures { λ _. ⌜ _≡_ {A = Ran} (record { cells = now (cells .exit); events = now (events .exit); answer = now (answer .exit) }) (ran (sequentialCall budget h (now (table .entry)) (now (schedule .entry)) (now (cells .entry)) (now (events .entry))) (now (answer .entry))) ⌝ }
+{
+    let r = machines::run_sequential(table, schedule, budget, h, cells, events);
+    store_run(answer, r);
+}
