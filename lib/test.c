@@ -1,0 +1,111 @@
+/* The C calls on programs A and B of the paper: what they answer, and which bytes they leave alone. */
+#include "zaru.h"
+#include <stdio.h>
+#include <string.h>
+
+/* A: one thread whose body is empty. */
+static const uint8_t A[] = {0x00, 0, 0, 0, 0, 0, 0, 0, 0, 0x43, 0x50, 1, 0, 0, 0, 1, 0, 8, 0, 0, 0, 25, 0, 0, 0};
+
+/* B: p := location 0; v := p[0]; p[0] := v + 1, in two threads. */
+static const uint8_t B[] = {0x20, 0, 0x02, 0, 0, 0x22, 1, 0, 0x01, 0, 0, 0, 0, 0x21, 0, 0x01, 0, 0, 0, 0, 0x10, 0x05, 1, 0x01, 1, 0, 0, 0,
+                            0x00, 0, 2, 0, 0, 0, 0, 1, 0, 0, 0, 0, 0, 0x43, 0x50, 1, 0, 1, 0, 2, 0, 12, 0, 0, 0, 57, 0, 0, 0};
+
+static const uint8_t LOST[] = {0, 0, 1, 1, 0, 1, 0, 1};
+
+static int failures = 0;
+
+static void expect(const char *what, uint64_t got, uint64_t wanted)
+{
+    if (got != wanted) {
+        printf("%s: %llu, not %llu\n", what, (unsigned long long)got, (unsigned long long)wanted);
+        failures += 1;
+    }
+}
+
+/* All bytes from `from` on still have the value they were given. */
+static void untouched(const char *what, const uint8_t *bytes, size_t from, size_t length)
+{
+    for (size_t i = from; i < length; i += 1)
+        if (bytes[i] != 0xEE) {
+            printf("%s: byte %zu was written\n", what, i);
+            failures += 1;
+            return;
+        }
+}
+
+static void reads(void)
+{
+    uint64_t answer[ZARU_READ_NUMBERS];
+    zaru_read_concurrent(B, sizeof B, answer, ZARU_READ_NUMBERS);
+    const uint64_t wanted[ZARU_READ_NUMBERS] = {0, 1, 1, 2, 4, 1};
+    for (int i = 0; i < ZARU_READ_NUMBERS; i += 1)
+        expect("read of B", answer[i], wanted[i]);
+    zaru_read_sequential(B, sizeof B, answer, ZARU_READ_NUMBERS);
+    expect("B is not sequential", answer[0], 1);
+    expect("zeros of a refusal", answer[1] + answer[2] + answer[3] + answer[4] + answer[5], 0);
+    /* an array that is too short gets the numbers that fit */
+    uint64_t few[2] = {99, 99};
+    zaru_read_concurrent(B, sizeof B, few, 1);
+    expect("first number", few[0], 0);
+    expect("no second number", few[1], 99);
+}
+
+static uint8_t copy[ZARU_LONGEST_COPY];
+
+static size_t translations(void)
+{
+    uint64_t answer[ZARU_TRANSLATE_NUMBERS];
+    memset(copy, 0xEE, sizeof copy);
+    zaru_translate(B, sizeof B, copy, 418, answer, ZARU_TRANSLATE_NUMBERS);
+    expect("418 bytes are too few", answer[0], 10);
+    untouched("refused translation", copy, 0, sizeof copy);
+    zaru_translate(A, sizeof A, copy, sizeof copy, answer, ZARU_TRANSLATE_NUMBERS);
+    expect("length of A's copy", answer[1], 173);
+    untouched("after A's copy", copy, 173, sizeof copy);
+    zaru_translate(B, sizeof B, copy, sizeof copy, answer, ZARU_TRANSLATE_NUMBERS);
+    expect("translation of B", answer[0], 0);
+    expect("length of B's copy", answer[1], 419);
+    return (size_t)answer[1];
+}
+
+static void runs(size_t length)
+{
+    uint64_t answer[ZARU_RUN_NUMBERS];
+    uint8_t cells[40960], events[64];
+    memset(cells, 0xEE, sizeof cells);
+    memset(events, 0xEE, sizeof events);
+    zaru_run_concurrent(B, sizeof B, LOST, sizeof LOST, cells, 5, events, sizeof events, answer, ZARU_RUN_NUMBERS);
+    expect("run of B", answer[0], 0);
+    expect("finished", answer[1], ZARU_FINISHED);
+    expect("steps of B", answer[2], 8);
+    expect("unused entries", answer[3], 0);
+    expect("shared events", answer[4], 4);
+    expect("a number", cells[0], 1);
+    expect("the cell's end value: one share is lost", cells[1], 1);
+    untouched("behind B's cell", cells, 5, sizeof cells);
+    untouched("behind the events", events, 44, sizeof events);
+    uint8_t other[64];
+    memset(other, 0xEE, sizeof other);
+    zaru_run_sequential(copy, length, LOST, sizeof LOST, ZARU_BUDGET, 1, cells, sizeof cells, other, sizeof other, answer,
+                        ZARU_RUN_NUMBERS);
+    expect("run of B's copy", answer[0], 0);
+    expect("the copy's end", answer[1], ZARU_FINISHED);
+    expect("the copy's steps", answer[2], 198);
+    expect("the copy's shared events", answer[4], 4);
+    expect("the copy's cell", cells[1], 1);
+    expect("equal events", (uint64_t)memcmp(events, other, sizeof events), 0);
+    uint8_t late[] = {0, 2};
+    zaru_run_concurrent(B, sizeof B, late, 2, cells, 5, events, sizeof events, answer, ZARU_RUN_NUMBERS);
+    expect("an entry that names no thread", answer[0], 11);
+    zaru_run_concurrent(B, sizeof B, LOST, sizeof LOST, cells, 4, events, sizeof events, answer, ZARU_RUN_NUMBERS);
+    expect("four bytes for a cell", answer[0], 12);
+}
+
+int main(void)
+{
+    reads();
+    runs(translations());
+    if (failures == 0)
+        printf("the C library answers as the paper says\n");
+    return failures != 0;
+}

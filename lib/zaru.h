@@ -1,0 +1,48 @@
+/* Zarukohen for C: read, translate and run tables. The calls are proved: none traps or runs without end, whatever the bytes, and each
+ * determines every number of its answer and every byte of the lent buffers. docs/CONTRACTS.md says in words what each promises.
+ *
+ * A buffer is a pointer and its length. Pointers must be valid for their lengths; a buffer of length 0 needs a non-null pointer. Lent
+ * buffers must not overlap each other or the inputs. The numbers of an answer go into `answer`, each where the array has a place for it.
+ *
+ * A number of refusal other than 0 comes with zeros, and with no other buffer changed. */
+#ifndef ZARU_H
+#define ZARU_H
+
+#include <stddef.h>
+#include <stdint.h>
+
+#ifdef __cplusplus
+extern "C" {
+#endif
+
+/* Ends of a run. */
+enum { ZARU_FINISHED = 0, ZARU_USED_UP = 1, ZARU_BLOCKED = 2, ZARU_AT_BUDGET = 3 };
+
+/* How many numbers the answers have. */
+enum { ZARU_READ_NUMBERS = 6, ZARU_TRANSLATE_NUMBERS = 2, ZARU_RUN_NUMBERS = 5 };
+
+/* The most steps that a translated program's copy may need, and the longest copy. */
+#define ZARU_BUDGET UINT64_C(140000000)
+#define ZARU_LONGEST_COPY 65536
+
+/* answer: number, procedures, locations, threads, labels (sequential: 0), cells. */
+void zaru_read_concurrent(const uint8_t *table, size_t table_length, uint64_t *answer, size_t answer_length);
+void zaru_read_sequential(const uint8_t *table, size_t table_length, uint64_t *answer, size_t answer_length);
+
+/* answer: number, length of the sequential table that was written to `out`. */
+void zaru_translate(const uint8_t *table, size_t table_length, uint8_t *out, size_t out_length, uint64_t *answer,
+                    size_t answer_length);
+
+/* answer: number, end, steps, unused entries, events (those not written included). An event has 11 bytes, a cell 5. */
+void zaru_run_concurrent(const uint8_t *table, size_t table_length, const uint8_t *schedule, size_t schedule_length,
+                         uint8_t *cells, size_t cells_length, uint8_t *events, size_t events_length, uint64_t *answer,
+                         size_t answer_length);
+void zaru_run_sequential(const uint8_t *table, size_t table_length, const uint8_t *schedule, size_t schedule_length,
+                         uint64_t budget, size_t h, uint8_t *cells, size_t cells_length, uint8_t *events,
+                         size_t events_length, uint64_t *answer, size_t answer_length);
+
+#ifdef __cplusplus
+}
+#endif
+
+#endif
