@@ -1,0 +1,1 @@
+"""The command `zaru`: it presents what the proved program answers, and turns text into tables."""

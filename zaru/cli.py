@@ -1,0 +1,370 @@
+"""The commands of `zaru`."""
+
+from __future__ import annotations
+
+import os
+import sys
+import tempfile
+from dataclasses import dataclass
+from pathlib import Path
+from typing import Callable, Dict, List, Optional, Sequence, Tuple
+
+from zaru import arguments, asm, engine, refusals
+from zaru.arguments import UsageError, Words
+from zaru.engine import Request
+from zaru.names import Names, plain_names
+from zaru.show import show
+from zaru.table import CONCURRENT, SEQUENTIAL, Program, decode, encode
+from zaru.trace import BUDGET, LONGEST_ORDER, trace
+from zaru.values import cell_lines
+
+DONE, REFUSED, WRONG_USE, NO_ENGINE = 0, 1, 2, 3
+TEXT_ENDING = ".zaru"
+READ_OPS = {CONCURRENT: engine.READ_CONCURRENT, SEQUENTIAL: engine.READ_SEQUENTIAL}
+KIND_LETTERS = {"c": CONCURRENT, "s": SEQUENTIAL}
+MOST_IN_FOUR_BYTES = 2**32 - 1
+MOST_IN_EIGHT_BYTES = 2**64 - 1
+
+
+class TextError(Exception):
+    """A text that cannot be assembled, described in one line."""
+
+
+@dataclass(frozen=True)
+class Source:
+    """A table, and the names that its text has if it comes from one."""
+
+    table: bytes
+    names: Optional[Names] = None
+
+    def names_for(self, program: Program) -> Names:
+        return self.names or plain_names(program)
+
+
+# ---- files ----
+
+
+def read_file(name: str) -> bytes:
+    """The bytes of a file, or of standard input for `-`."""
+    if name == "-":
+        return sys.stdin.buffer.read()
+    try:
+        return Path(name).read_bytes()
+    except OSError as error:
+        raise UsageError(f"{name} cannot be read: {error.strerror}") from error
+
+
+def write_file(name: str, content: bytes) -> None:
+    """Writes a file whole or not at all; `-` is standard output."""
+    if name == "-":
+        sys.stdout.buffer.write(content)
+        return
+    target = Path(name)
+    try:
+        handle, temporary = tempfile.mkstemp(prefix=f".{target.name}.", dir=target.parent)
+        try:
+            with os.fdopen(handle, "wb") as file:
+                file.write(content)
+            os.chmod(temporary, 0o666 & ~current_umask())
+            os.replace(temporary, target)
+        except BaseException:
+            os.unlink(temporary)
+            raise
+    except OSError as error:
+        raise UsageError(f"{name} cannot be written: {error.strerror}") from error
+
+
+def current_umask() -> int:
+    mask = os.umask(0o022)
+    os.umask(mask)
+    return mask
+
+
+def assembled(name: str) -> Tuple[Program, Names]:
+    """The program of a text file."""
+    try:
+        text = read_file(name).decode("utf-8")
+    except UnicodeDecodeError as error:
+        raise TextError(f"{name}: not a text: byte {error.start} is no UTF-8") from error
+    try:
+        return asm.assemble(text)
+    except asm.AsmError as error:
+        raise TextError(asm.describe(name, error)) from error
+
+
+def source_of(name: str) -> Source:
+    """A table by its file's name; a file that ends in .zaru is a text and is assembled."""
+    if name.endswith(TEXT_ENDING):
+        program, names = assembled(name)
+        return Source(fitting(name, encode(program)), names)
+    return Source(fitting(name, read_file(name)))
+
+
+def fitting(name: str, table: bytes) -> bytes:
+    if len(table) > engine.LONGEST_TABLE:
+        raise TextError(f"{name}: {len(table):,} bytes; no table is longer than 65,536 bytes")
+    return table
+
+
+def accepted_program(kind: str, table: bytes) -> Program:
+    """The program of a table once the proved reader has accepted it."""
+    engine.read(READ_OPS[kind], table)
+    return decode(table)
+
+
+# ---- arguments ----
+
+
+def kind_and_table(words: Words) -> Tuple[str, Source]:
+    if len(words.positional) != 2:
+        raise UsageError("a kind (c or s) and one table are needed")
+    letter, name = words.positional
+    if letter not in KIND_LETTERS:
+        raise UsageError(f"the kind is c (concurrent) or s (sequential), not {letter}")
+    return KIND_LETTERS[letter], source_of(name)
+
+
+def table_and_order(words: Words, most: int = engine.LONGEST_SCHEDULE) -> Tuple[Source, bytes]:
+    if not words.positional:
+        raise UsageError("a table is needed")
+    schedule = arguments.order(words.positional[1:], most)
+    return source_of(words.positional[0]), schedule
+
+
+def one_file_and_output(words: Words, what: str) -> Tuple[str, str]:
+    if len(words.positional) != 1:
+        raise UsageError(f"one {what} is needed")
+    if "-o" not in words.options:
+        raise UsageError("-o and the file to write are needed")
+    if words.options["-o"].endswith(TEXT_ENDING):
+        raise UsageError(f"a file that ends in {TEXT_ENDING} is a text; give the table another name")
+    return words.positional[0], words.options["-o"]
+
+
+# ---- commands ----
+
+
+def command_read(words: Words) -> List[str]:
+    kind, source = kind_and_table(words)
+    shape = engine.read(READ_OPS[kind], source.table)
+    counts = f"procedures {shape.procedures}, locations {shape.locations}"
+    if kind == CONCURRENT:
+        counts += f", threads {shape.threads}, labels {shape.labels}"
+    return [f"accepted: {counts}, cells {shape.cells}"]
+
+
+def command_translate(words: Words) -> List[str]:
+    name, output = one_file_and_output(words, "table")
+    copy = engine.translate(source_of(name).table)
+    write_file(output, copy)
+    return [] if output == "-" else [f"{output}: {len(copy):,} bytes"]
+
+
+def command_run(words: Words) -> List[str]:
+    source, schedule = table_and_order(words)
+    program = accepted_program(CONCURRENT, source.table)
+    request = Request(engine.RUN_CONCURRENT, source.table, schedule, cells=engine.CELL_ROOM)
+    run = engine.run(request)
+    line = engine.run_line(source.table, schedule)
+    return [line] + cell_lines(run.cell_bytes, program.sizes, source.names_for(program).locations)
+
+
+def command_trace(words: Words) -> List[str]:
+    source, schedule = table_and_order(words, LONGEST_ORDER)
+    program = accepted_program(CONCURRENT, source.table)
+    return trace(program, source.names_for(program), source.table, schedule)
+
+
+def command_copy(words: Words) -> List[str]:
+    budget = arguments.whole("the budget", words.options.get("--budget", str(BUDGET)), MOST_IN_EIGHT_BYTES)
+    h = arguments.whole("h", words.options.get("--h", str(MOST_IN_FOUR_BYTES)), MOST_IN_FOUR_BYTES)
+    source, schedule = table_and_order(words)
+    program = accepted_program(SEQUENTIAL, source.table)
+    request = Request(engine.RUN_SEQUENTIAL, source.table, schedule, budget, h, cells=engine.CELL_ROOM)
+    run = engine.run(request)
+    line = f"{run.end} {run.steps} {run.unused} {run.events}"
+    return [line] + cell_lines(run.cell_bytes, program.sizes, source.names_for(program).locations)
+
+
+def command_show(words: Words) -> List[str]:
+    kind, source = kind_and_table(words)
+    program = accepted_program(kind, source.table)
+    return show(program, source.names_for(program)).splitlines()
+
+
+def command_asm(words: Words) -> List[str]:
+    name, output = one_file_and_output(words, "text")
+    program, _ = assembled(name)
+    table = fitting(name, encode(program))
+    engine.read(READ_OPS[program.kind], table)
+    write_file(output, table)
+    return [] if output == "-" else [f"{output}: {len(table):,} bytes"]
+
+
+def command_help(words: Words) -> List[str]:
+    if not words.positional:
+        return OVERVIEW.splitlines()
+    if len(words.positional) > 1 or words.positional[0] not in COMMANDS:
+        raise UsageError(f"no such command: {' '.join(words.positional)}")
+    command = COMMANDS[words.positional[0]]
+    return [f"usage: {command.usage}", ""] + command.text.strip("\n").splitlines()
+
+
+@dataclass(frozen=True)
+class Command:
+    usage: str
+    do: Callable[[Words], List[str]]
+    text: str
+    options: Sequence[str] = ()
+
+
+COMMANDS: Dict[str, Command] = {
+    "read": Command(
+        "zaru read c|s TABLE",
+        command_read,
+        """
+Asks the proved reader whether it accepts a concurrent (c) or sequential (s) table, and prints its counts.
+""",
+    ),
+    "translate": Command(
+        "zaru translate TABLE -o COPY",
+        command_translate,
+        """
+Writes the sequential copy of a concurrent table to the file COPY.
+""",
+        ("-o",),
+    ),
+    "run": Command(
+        "zaru run TABLE ORDER..",
+        command_run,
+        """
+Runs a concurrent table and its copy in this order of its threads (`0 0 1 1` or `0,0,1,1`).
+
+The first line is the run program's: the end (finished, used: the order has no entry left, or blocked), the program's
+steps, the copy's steps, the entries that were not used, the shared reads and writes. Then come the final cells.
+""",
+    ),
+    "trace": Command(
+        "zaru trace TABLE ORDER..",
+        command_trace,
+        f"""
+Prints a line for each step of a run: its thread, its label, the instruction, what it set and read and wrote, where a
+test or call led. The last line says how the run ended and, if it was blocked, at which instruction.
+An order has at most {LONGEST_ORDER} entries here.
+""",
+    ),
+    "copy": Command(
+        "zaru copy COPY ORDER.. [--budget N] [--h N]",
+        command_copy,
+        f"""
+Runs a sequential table alone, in this order.
+
+The first line has the end (finished, used, blocked, or budget: as many steps as the budget allows), the steps, the
+entries that were not used and the events. Then come the final cells.
+The budget is {BUDGET:,} steps unless it is given. Events of locations below h are counted; all, unless h is given.
+""",
+        ("--budget", "--h"),
+    ),
+    "show": Command(
+        "zaru show c|s TABLE",
+        command_show,
+        """
+Prints an accepted table as text, a concurrent one with its labels. `zaru asm` reads the text back to the same bytes.
+""",
+    ),
+    "asm": Command(
+        "zaru asm TEXT -o TABLE",
+        command_asm,
+        """
+Turns a text into a table, has the proved reader judge it and writes it to the file TABLE.
+
+    // the lost update
+    concurrent                      or: sequential
+    location cell[1]                a shared location and its size
+
+    procedure work(a, b)            parameters, if any
+      locals p, v                   the other locals
+      p := cell                     a location as a value
+      v := p[0]                     a read
+      p[0] := v + 1                 a write
+      while v < 10  ..  end
+      if v = 0  ..  else  ..  end
+      atomic  ..  end               concurrent only
+      call other(v, true)
+      select chosen from waiting    sequential only, first procedure only
+    end
+
+    thread work                     one line for each thread, concurrent only
+
+Each instruction has its own line. Expressions: numbers, true, false, locals, locations, + - * < = and not, and
+parentheses. -5 is a number, -(5) is the negation of 5. A procedure may be used before it is declared.
+docs/TEXT.md has the whole form.
+""",
+        ("-o",),
+    ),
+    "help": Command(
+        "zaru help [COMMAND]",
+        command_help,
+        """
+Says what zaru, or one of its commands, does.
+""",
+    ),
+}
+
+OVERVIEW = f"""\
+zaru: concurrent programs, their sequential copies, and what both do in a given order
+
+  zaru read c|s TABLE               is the table accepted? its counts
+  zaru translate TABLE -o COPY      writes its sequential copy
+  zaru run TABLE ORDER..            runs program and copy in this order of threads
+  zaru trace TABLE ORDER..          the same, a line for each step
+  zaru copy COPY ORDER..            runs a sequential table alone; --budget N, --h N
+  zaru show c|s TABLE               the table as text, with its labels
+  zaru asm TEXT -o TABLE            text to table
+  zaru help [COMMAND]               more about a command
+
+A table is a file of bytes, a text if its name ends in {TEXT_ENDING}, or - for standard input; -o - is standard output.
+Every answer comes from the proved program. Exit status: 0 done, 1 refused, 2 wrong use, 3 no proved program.
+"""
+
+
+# ---- the whole ----
+
+
+def chosen(words: Sequence[str]) -> Tuple[Command, Sequence[str]]:
+    """The command that the words begin with, and the others."""
+    if not words:
+        raise UsageError("a command is needed")
+    if words[0] in ("-h", "--help"):
+        return COMMANDS["help"], words[1:]
+    if words[0] not in COMMANDS:
+        raise UsageError(f"no such command: {words[0]}")
+    if "--help" in words:
+        return COMMANDS["help"], words[:1]
+    return COMMANDS[words[0]], words[1:]
+
+
+def complain(*lines: str) -> None:
+    print(*lines, sep="\n", file=sys.stderr)
+
+
+def main(words: Sequence[str]) -> int:
+    usage = OVERVIEW
+    try:
+        command, rest = chosen(words)
+        usage = f"usage: {command.usage}"
+        for line in command.do(arguments.parse(rest, command.options)):
+            print(line)
+        return DONE
+    except UsageError as error:
+        complain(f"zaru: {error}", usage.rstrip("\n"))
+        return WRONG_USE
+    except TextError as error:
+        complain(str(error))
+        return REFUSED
+    except engine.Refused as error:
+        complain(refusals.describe(error.number))
+        return REFUSED
+    except engine.EngineError as error:
+        complain(f"zaru: {error}")
+        return NO_ENGINE

@@ -1,0 +1,167 @@
+"""Asks the proved program. A batch of requests goes to its standard input; its lines and bytes come back."""
+
+from __future__ import annotations
+
+import os
+import subprocess
+from dataclasses import dataclass
+from pathlib import Path
+from typing import List
+
+READ_CONCURRENT, READ_SEQUENTIAL, TRANSLATE, RUN_CONCURRENT, RUN_SEQUENTIAL, RUN_LINE = range(1, 7)
+
+HEADER = 36
+# What the program is ready for.
+LONGEST_TABLE = 66_000
+LONGEST_SCHEDULE = 5_000
+# Room for every accepted table: cells of 5 bytes, events of 11, the longest copy.
+CELL_ROOM = 5 * 8_192
+EVENT_ROOM = 11 * 4_096
+COPY_ROOM = 65_536
+
+VARIABLE = "ZARU_ENGINE"
+DEFAULT = Path(__file__).resolve().parent.parent / "target" / "bin" / "cases"
+
+ENDS = ("finished", "used", "blocked", "budget")
+
+
+class EngineError(Exception):
+    """The proved program is missing, or did not answer."""
+
+
+@dataclass(frozen=True)
+class Request:
+    """A call, with the lengths of the buffers that are lent to it."""
+
+    op: int
+    table: bytes
+    schedule: bytes = b""
+    budget: int = 0
+    h: int = 0
+    cells: int = 0
+    events: int = 0
+    out: int = 0
+
+    def header(self) -> bytes:
+        lengths = [(len(self.table), 4), (len(self.schedule), 4), (self.budget, 8), (self.h, 4)]
+        lengths += [(self.cells, 4), (self.events, 4), (self.out, 4)]
+        wants_bytes = self.op in (TRANSLATE, RUN_CONCURRENT, RUN_SEQUENTIAL)
+        numbers = b"".join(number.to_bytes(length, "little") for number, length in lengths)
+        return bytes([self.op, wants_bytes, 0, 0]) + numbers
+
+    def lent(self) -> int:
+        """How many bytes of lent buffers come back."""
+        if self.op == TRANSLATE:
+            return self.out
+        return self.cells + self.events if self.op in (RUN_CONCURRENT, RUN_SEQUENTIAL) else 0
+
+
+@dataclass(frozen=True)
+class Answer:
+    """The words of the line behind the op, and the lent buffers after the call."""
+
+    words: List[str]
+    lent: bytes
+
+    def number(self, place: int) -> int:
+        return int(self.words[place])
+
+
+@dataclass(frozen=True)
+class Shape:
+    """What an accepted read answers."""
+
+    procedures: int
+    locations: int
+    threads: int
+    labels: int
+    cells: int
+
+
+@dataclass(frozen=True)
+class Run:
+    """What a run answers: its end, numbers, final cells (5 bytes each) and the events that were written (11 each)."""
+
+    end: str
+    steps: int
+    unused: int
+    events: int
+    cell_bytes: bytes
+    event_bytes: bytes
+
+
+class Refused(Exception):
+    """A call refused its input by this number."""
+
+    def __init__(self, number: int) -> None:
+        super().__init__(number)
+        self.number = number
+
+
+def engine_path() -> Path:
+    return Path(os.environ.get(VARIABLE) or DEFAULT)
+
+
+def ask(requests: List[Request]) -> List[Answer]:
+    """The answers to the requests, in order."""
+    batch = b"".join(one.header() + one.table + one.schedule for one in requests) + bytes(HEADER)
+    output = call_program(batch)
+    answers, at = [], 0
+    for request in requests:
+        newline = output.find(b"\n", at)
+        words = output[at : max(newline, at)].decode("ascii", "replace").split()
+        start, at = newline + 1, newline + 1 + request.lent()
+        if newline < 0 or words[:1] != [str(request.op)] or len(output) < at:
+            raise EngineError(f"{engine_path()} did not answer call {request.op}; `make zaru` builds one that does")
+        answers.append(Answer(words[1:], output[start:at]))
+    return answers
+
+
+def call_program(batch: bytes) -> bytes:
+    path = engine_path()
+    if not path.is_file():
+        raise EngineError(f"{path} is missing: `make zaru` builds the proved program")
+    try:
+        return subprocess.run([str(path)], input=batch, stdout=subprocess.PIPE, check=False).stdout
+    except OSError as error:
+        raise EngineError(f"{path} cannot be run: {error.strerror}") from error
+
+
+def accepted(answer: Answer) -> Answer:
+    if answer.number(0) != 0:
+        raise Refused(answer.number(0))
+    return answer
+
+
+def shape_of(answer: Answer) -> Shape:
+    accepted(answer)
+    return Shape(*(answer.number(place) for place in range(1, 6)))
+
+
+def read(op: int, table: bytes) -> Shape:
+    return shape_of(ask([Request(op, table)])[0])
+
+
+def translate(table: bytes) -> bytes:
+    answer = accepted(ask([Request(TRANSLATE, table, out=COPY_ROOM)])[0])
+    return answer.lent[: answer.number(1)]
+
+
+def run_of(request: Request, answer: Answer) -> Run:
+    accepted(answer)
+    end, steps, unused, events = (answer.number(place) for place in range(1, 5))
+    cells, rest = answer.lent[: request.cells], answer.lent[request.cells :]
+    written = rest[: 11 * min(events, request.events // 11)]
+    return Run(ENDS[end], steps, unused, events, cells, written)
+
+
+def run(request: Request) -> Run:
+    return run_of(request, ask([request])[0])
+
+
+def run_line(table: bytes, schedule: bytes) -> str:
+    """The run program's line."""
+    words = ask([Request(RUN_LINE, len(schedule).to_bytes(2, "little") + schedule + table)])[0].words
+    if words[0] == "refused":
+        raise Refused(int(words[1]))
+    return " ".join(words)
