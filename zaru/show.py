@@ -65,7 +65,7 @@ class Shower:
         if isinstance(expression, t.Local):
             return self.local_names[expression.number], ATOM
         if expression.mark == t.NOT:
-            return f"not {self.operand(expression.operands[0], NOT_LEVEL)}", NOT_LEVEL
+            return f"not {self.operand(expression.operands[0], NEGATE_LEVEL)}", NOT_LEVEL
         if expression.mark == t.NEGATE:
             return self.negated(expression.operands[0]), NEGATE_LEVEL
         operator = TWO_OPERANDS[expression.mark]

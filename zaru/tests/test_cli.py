@@ -1,0 +1,243 @@
+"""The command as a user calls it: what it prints, where, and its exit status."""
+
+import os
+import subprocess
+import sys
+import tempfile
+import unittest
+from pathlib import Path
+from typing import NamedTuple, Optional
+
+import samples
+from zaru import table as t
+from zaru.refusals import REFUSALS
+
+LAUNCHER = samples.ROOT / "zaru" / "zaru"
+
+
+class Result(NamedTuple):
+    status: int
+    out: str
+    err: str
+
+
+class Command(unittest.TestCase):
+    def setUp(self) -> None:
+        folder = tempfile.TemporaryDirectory()
+        self.addCleanup(folder.cleanup)
+        self.folder = Path(folder.name)
+        self.file("b.zaru", samples.B_TEXT.encode())
+        self.file("b.table", samples.B)
+        self.file("a.table", samples.A)
+
+    def file(self, name: str, content: bytes) -> None:
+        (self.folder / name).write_bytes(content)
+
+    def zaru(self, *words: str, given: bytes = b"", engine: Optional[str] = None) -> Result:
+        environment = dict(os.environ)
+        if engine is not None:
+            environment["ZARU_ENGINE"] = engine
+        elif "ZARU_ENGINE" in environment:
+            environment["ZARU_ENGINE"] = os.path.abspath(environment["ZARU_ENGINE"])
+        command = [sys.executable, str(LAUNCHER), *words]
+        done = subprocess.run(command, input=given, capture_output=True, cwd=self.folder, env=environment, check=False)
+        return Result(done.returncode, done.stdout.decode("utf-8", "replace"), done.stderr.decode())
+
+    def listed(self) -> list:
+        return sorted(path.name for path in self.folder.iterdir())
+
+
+class WrongUse(Command):
+    """None of these reaches the proved program."""
+
+    def check(self, message: str, *words: str) -> None:
+        before = self.listed()
+        result = self.zaru(*words, engine="/nowhere/cases")
+        self.assertEqual(result.status, 2, result)
+        self.assertEqual(result.out, "")
+        first, *others = result.err.splitlines()
+        self.assertEqual(first, f"zaru: {message}")
+        self.assertTrue(any("zaru" in line for line in others), "no usage")
+        self.assertEqual(self.listed(), before)
+
+    def test_commands(self) -> None:
+        self.check("a command is needed")
+        self.check("no such command: fly", "fly")
+        self.check("no such command: fly", "help", "fly")
+
+    def test_counts_and_kinds(self) -> None:
+        self.check("a kind (c or s) and one table are needed", "read", "b.table")
+        self.check("a kind (c or s) and one table are needed", "show", "c")
+        self.check("the kind is c (concurrent) or s (sequential), not x", "read", "x", "b.table")
+        self.check("a table is needed", "run")
+        self.check("one table is needed", "translate", "-o", "x")
+        self.check("one text is needed", "asm", "b.zaru", "b.zaru", "-o", "x")
+
+    def test_options(self) -> None:
+        self.check("-o and the file to write are needed", "translate", "b.table")
+        self.check("-o needs a value", "translate", "b.table", "-o")
+        self.check("-o is given twice", "translate", "b.table", "-o", "x", "-o", "y")
+        self.check("unknown option --budget", "run", "b.table", "0", "--budget", "3")
+        self.check("the budget is a number from 0 to 18,446,744,073,709,551,615, not x", "copy", "c", "--budget", "x")
+        self.check("h is a number from 0 to 4,294,967,295, not 4294967296", "copy", "c", "0", "--h=4294967296")
+        self.check("a file that ends in .zaru is a text; give the table another name", "asm", "b.zaru", "-o", "c.zaru")
+
+    def test_orders(self) -> None:
+        self.check("an entry of the order is a number from 0 to 255, not x", "run", "b.table", "0", "x")
+        self.check("an entry of the order is a number from 0 to 255, not 256", "run", "b.table", "0", "256")
+        self.check("an entry of the order is a number from 0 to 255, not -1", "run", "b.table", "-1")
+        self.check("an order of 513 entries is too long; the most is 512", "trace", "b.table", ",".join("0" * 513))
+        self.check("an order of 5,001 entries is too long; the most is 5,000", "run", "b.table", ",".join("0" * 5001))
+
+    def test_files(self) -> None:
+        self.check("none.table cannot be read: No such file or directory", "read", "c", "none.table")
+        self.check(". cannot be read: Is a directory", "read", "c", ".")
+
+
+class WithoutEngine(Command):
+    def test_missing(self) -> None:
+        result = self.zaru("read", "c", "b.table", engine="/nowhere/cases")
+        self.assertEqual(result.status, 3)
+        self.assertEqual(result.err, "zaru: /nowhere/cases is missing: `make zaru` builds the proved program\n")
+
+    def test_not_a_program(self) -> None:
+        result = self.zaru("read", "c", "b.table", engine=str(self.folder / "a.table"))
+        self.assertEqual(result.status, 3)
+        self.assertIn("cannot be run", result.err)
+
+    def test_no_answer(self) -> None:
+        self.file("mute", b"#!/bin/sh\ncat >/dev/null\n")
+        os.chmod(self.folder / "mute", 0o755)
+        result = self.zaru("read", "c", "b.table", engine=str(self.folder / "mute"))
+        self.assertEqual(result.status, 3)
+        self.assertIn("did not answer call 1", result.err)
+
+    def test_errors_of_a_text(self) -> None:
+        self.file("wrong.zaru", b"concurrent\nprocedure p()\n  x := 1\nend\n")
+        for words in (["asm", "wrong.zaru", "-o", "x"], ["run", "wrong.zaru"], ["show", "c", "wrong.zaru"]):
+            result = self.zaru(*words, engine="/nowhere/cases")
+            self.assertEqual(result, Result(1, "", "wrong.zaru:3:3: no local is called `x`\n"))
+        self.file("binary.zaru", b"\xff\xfe")
+        result = self.zaru("asm", "binary.zaru", "-o", "x", engine="/nowhere/cases")
+        self.assertEqual(result, Result(1, "", "binary.zaru: not a text: byte 0 is no UTF-8\n"))
+
+    def test_too_long(self) -> None:
+        result = self.zaru("read", "s", "-", given=bytes(66_001), engine="/nowhere/cases")
+        self.assertEqual(result, Result(1, "", "-: 66,001 bytes; no table is longer than 65,536 bytes\n"))
+
+    def test_help(self) -> None:
+        overview = self.zaru("help")
+        self.assertEqual((overview.status, overview.err), (0, ""))
+        self.assertEqual(self.zaru("--help"), overview)
+        for command in "read translate run trace copy show asm help".split():
+            self.assertIn(f"  zaru {command} ", overview.out)
+            told = self.zaru("help", command)
+            self.assertTrue(told.out.startswith(f"usage: zaru {command}"), told)
+            self.assertEqual(self.zaru(command, "--help"), told)
+
+
+@samples.needs_engine
+class WithEngine(Command):
+    def good(self, *words: str, given: bytes = b"") -> str:
+        result = self.zaru(*words, given=given)
+        self.assertEqual((result.status, result.err), (0, ""), result)
+        return result.out
+
+    def refused(self, number: int, *words: str, given: bytes = b"") -> None:
+        before = self.listed()
+        result = self.zaru(*words, given=given)
+        self.assertEqual(result, Result(1, "", f"refused {number}: {REFUSALS[number]}\n"))
+        self.assertEqual(self.listed(), before)
+
+    def test_read(self) -> None:
+        expected = "accepted: procedures 1, locations 1, threads 2, labels 4, cells 1\n"
+        for name in ("b.table", "b.zaru"):
+            self.assertEqual(self.good("read", "c", name), expected)
+        self.assertEqual(self.good("read", "c", "-", given=samples.B), expected)
+        self.good("translate", "b.table", "-o", "b.copy")
+        expected = "accepted: procedures 5, locations 6, cells 10\n"
+        self.assertEqual(self.good("read", "s", "b.copy"), expected)
+
+    def test_worked_runs(self) -> None:
+        self.assertEqual(self.good("run", "b.table", *"00110101"), "finished 8 198 0 4\nm0[0] = 1\n")
+        self.assertEqual(self.good("run", "b.zaru", "0,0,0,0", "1,1,1,1"), "finished 8 198 0 4\ncell[0] = 2\n")
+        self.assertEqual(self.good("run", "b.zaru"), "used 0 9 0 0\ncell[0] = 0\n")
+        self.assertEqual(self.good("run", "a.table", "0", "0"), "finished 1 24 1 0\n")
+
+    def test_translate_and_copy(self) -> None:
+        self.assertEqual(self.good("translate", "a.table", "-o", "a.copy"), "a.copy: 173 bytes\n")
+        self.assertEqual(self.good("translate", "b.zaru", "-o", "b.copy"), "b.copy: 419 bytes\n")
+        self.assertEqual(len((self.folder / "b.copy").read_bytes()), 419)
+        order = list("00110101")
+        self.assertEqual(self.good("copy", "b.copy", *order, "--h", "1").splitlines()[:2], ["finished 198 0 4", "m0[0] = 1"])
+        self.assertEqual(self.good("copy", "b.copy", *order, "--budget=5").split("\n")[0], "budget 5 8 3")
+        self.assertEqual(self.good("copy", "b.copy", "0", "7").split("\n")[0].split()[0], "blocked")
+        self.assertEqual(self.good("copy", "b.copy", "--h", "0").split("\n")[0], "used 9 0 0")
+
+    def test_show_and_asm(self) -> None:
+        text = self.good("show", "c", "b.table")
+        self.file("again.zaru", text.encode())
+        self.assertEqual(self.good("asm", "again.zaru", "-o", "again.table"), "again.table: 57 bytes\n")
+        self.assertEqual((self.folder / "again.table").read_bytes(), samples.B)
+        self.assertEqual(self.good("show", "c", "again.zaru"), text)
+        self.assertIn("  v := p[0]       // label 2\n", self.good("show", "c", "b.zaru"))
+
+    def test_standard_output(self) -> None:
+        command = [sys.executable, str(LAUNCHER), "asm", "-", "-o", "-"]
+        done = subprocess.run(command, input=samples.B_TEXT.encode(), capture_output=True, check=True)
+        self.assertEqual(done.stdout, samples.B)
+
+    def test_refusals(self) -> None:
+        self.refused(1, "read", "s", "b.table")
+        self.refused(1, "show", "c", "-")
+        self.refused(1, "translate", "-", "-o", "new", given=b"nothing of a table")
+        self.refused(11, "run", "b.table", "0", "2")
+        self.refused(11, "trace", "b.table", "2")
+        self.refused(11, "run", "b.table", ",".join("0" * 5000))
+        self.file("long.zaru", b"concurrent\nprocedure p()\n" + b"atomic\nend\n" * 400 + b"end\nthread p\n")
+        self.refused(6, "asm", "long.zaru", "-o", "new")
+        self.file("self.zaru", b"concurrent\nprocedure p()\ncall p()\nend\nthread p\n")
+        self.refused(7, "run", "self.zaru", "0")
+        self.file("unset.zaru", b"concurrent\nprocedure p()\nlocals v\nv := v\nend\nthread p\n")
+        self.refused(8, "asm", "unset.zaru", "-o", "new")
+        self.file("none.zaru", b"concurrent\nprocedure p()\nend\n")
+        self.refused(2, "asm", "none.zaru", "-o", "new")
+        self.file("zero.zaru", b"concurrent\nlocation m[0]\nprocedure p()\nend\nthread p\n")
+        self.refused(3, "asm", "zero.zaru", "-o", "new")
+
+    def test_a_refused_file_stays(self) -> None:
+        self.file("new", b"old content")
+        self.refused(1, "translate", "-", "-o", "new")
+        self.assertEqual((self.folder / "new").read_bytes(), b"old content")
+
+    def test_unwritable(self) -> None:
+        result = self.zaru("translate", "b.table", "-o", "none/new")
+        self.assertEqual(result.status, 2)
+        self.assertIn("zaru: none/new cannot be written: No such file or directory", result.err)
+
+    def test_every_value_in_cells(self) -> None:
+        body = "p := m\n" + "".join(f"p[{i}] := {v}\n" for i, v in enumerate(["-7", "true", "false", "m"]))
+        text = f"concurrent\nlocation m[18]\nprocedure w()\nlocals p\n{body}end\nthread w\n"
+        self.file("values.zaru", text.encode())
+        rows = self.good("run", "values.zaru", *"000000").splitlines()[1:]
+        self.assertEqual(rows, ["m[0..15] = -7 true false m" + " 0" * 12, "m[16..17] = 0 0"])
+
+    def test_random_tables_read_as_stored(self) -> None:
+        """The text of each stored accepted table is accepted again, as the same bytes."""
+        some = [table for op, table, is_accepted in samples.stored_reads() if is_accepted and op == 1][:5]
+        for table in some:
+            text = self.good("show", "c", "-", given=table)
+            self.file("shown.zaru", text.encode())
+            self.good("asm", "shown.zaru", "-o", "shown.table")
+            self.assertEqual((self.folder / "shown.table").read_bytes(), table)
+
+    def test_a_copy_shown_and_assembled(self) -> None:
+        self.good("translate", "b.table", "-o", "b.copy")
+        self.file("copy.zaru", self.good("show", "s", "b.copy").encode())
+        self.good("asm", "copy.zaru", "-o", "again.copy")
+        self.assertEqual((self.folder / "again.copy").read_bytes(), (self.folder / "b.copy").read_bytes())
+        self.assertEqual(t.decode((self.folder / "b.copy").read_bytes()).kind, t.SEQUENTIAL)
+
+
+if __name__ == "__main__":
+    unittest.main()

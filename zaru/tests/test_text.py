@@ -1,0 +1,154 @@
+"""Tables to text and back."""
+
+import unittest
+
+import samples
+from zaru import table as t
+from zaru.asm import assemble
+from zaru.names import plain_names
+from zaru.show import show
+
+NUMBER = t.Number(5)
+LOCAL = t.Local(0)
+
+
+def shown(program: t.Program) -> str:
+    return show(program, plain_names(program))
+
+
+def procedure(*body: t.Instruction, parameters: int = 0, local_count: int = 3) -> t.Procedure:
+    return t.Procedure(parameters, local_count, tuple(body))
+
+
+def concurrent(*procedures: t.Procedure) -> t.Program:
+    return t.Program(t.CONCURRENT, procedures, (1, 256), (0, 0))
+
+
+def expression_line(expression: t.Expression) -> str:
+    """The text of an expression, as it stands behind `x0 := `."""
+    text = shown(concurrent(procedure(t.Assign(0, expression))))
+    return text.split("x0 := ", 1)[1].split("  //", 1)[0].rstrip()
+
+
+def two(mark: int, left: t.Expression, right: t.Expression) -> t.Operation:
+    return t.Operation(mark, (left, right))
+
+
+def one(mark: int, operand: t.Expression) -> t.Operation:
+    return t.Operation(mark, (operand,))
+
+
+class RoundTrip(unittest.TestCase):
+    def check_table(self, table: bytes) -> None:
+        program = t.decode(table)
+        self.assertEqual(t.encode(program), table)
+        again, names = assemble(shown(program))
+        self.assertEqual(t.encode(again), table)
+        self.assertEqual(names, plain_names(program))
+
+    def check_program(self, program: t.Program) -> None:
+        self.check_table(t.encode(program))
+
+    def test_a_and_b(self) -> None:
+        self.check_table(samples.A)
+        self.check_table(samples.B)
+
+    def test_the_text_of_b(self) -> None:
+        program, names = assemble(samples.B_TEXT)
+        self.assertEqual(t.encode(program), samples.B)
+        self.assertEqual(names.locations, ("cell",))
+        self.assertEqual(names.local_names, (("p", "v"),))
+
+    def test_each_instruction(self) -> None:
+        body = (
+            t.Assign(0, NUMBER),
+            t.Write(1, LOCAL, t.Truth(True)),
+            t.Read(2, 1, NUMBER),
+            t.While(t.Truth(False), (t.Assign(0, LOCAL), t.While(LOCAL, ()))),
+            t.If(LOCAL, (), ()),
+            t.If(LOCAL, (t.Assign(0, NUMBER),), ()),
+            t.If(LOCAL, (), (t.Assign(0, NUMBER),)),
+            t.If(LOCAL, (t.If(LOCAL, (), (t.Assign(1, LOCAL),)),), (t.If(LOCAL, (), ()),)),
+            t.Call(1, ()),
+            t.Call(2, (NUMBER, t.Location(1))),
+            t.Atomic(()),
+            t.Atomic((t.Assign(0, NUMBER), t.If(LOCAL, (t.Read(0, 1, NUMBER),), (t.Write(1, NUMBER, LOCAL),)))),
+        )
+        others = (procedure(local_count=0), procedure(parameters=2, local_count=2), procedure(parameters=1))
+        self.check_program(concurrent(procedure(*body), *others))
+
+    def test_select(self) -> None:
+        body = (t.Select(1, 0), t.While(t.Truth(True), (t.Select(0, 1), t.If(LOCAL, (t.Select(0, 0),), ()))))
+        self.check_program(t.Program(t.SEQUENTIAL, (procedure(*body), procedure()), (3, 2), ()))
+
+    def test_no_locations_and_eight_threads(self) -> None:
+        self.check_program(t.Program(t.CONCURRENT, (procedure(), procedure()), (), (1, 0, 1, 1, 0, 0, 1, 1)))
+
+    def test_each_operator_inside_each(self) -> None:
+        leaves = [NUMBER, t.Number(-5), LOCAL, t.Location(1), t.Truth(True)]
+        marks = [t.ADD, t.SUBTRACT, t.MULTIPLY, t.LESS, t.EQUAL, t.AND]
+        inner = leaves + [two(mark, left, t.Number(-1)) for mark in marks for left in leaves[:3]]
+        inner += [one(mark, leaf) for mark in (t.NOT, t.NEGATE) for leaf in leaves]
+        middle = inner + [one(mark, operand) for mark in (t.NOT, t.NEGATE) for operand in inner]
+        outer = [two(mark, left, right) for mark in marks for left in middle for right in inner]
+        outer += [two(mark, left, right) for mark in marks for left in inner for right in middle]
+        outer += [one(mark, operand) for mark in (t.NOT, t.NEGATE) for operand in middle]
+        self.check_program(concurrent(procedure(*(t.Assign(0, expression) for expression in outer))))
+
+    def test_numbers_at_the_ends_of_the_range(self) -> None:
+        numbers = [t.LEAST_NUMBER, t.MOST_NUMBER, 0, -1]
+        leaves = [t.Number(number) for number in numbers]
+        self.check_program(concurrent(procedure(*(t.Assign(0, leaf) for leaf in leaves))))
+        self.check_program(concurrent(procedure(*(t.Assign(0, one(t.NEGATE, leaf)) for leaf in leaves))))
+
+    def test_deepest_expressions(self) -> None:
+        for mark in (t.NOT, t.NEGATE):
+            expression: t.Expression = LOCAL
+            for _ in range(15):
+                expression = one(mark, expression)
+            self.check_program(concurrent(procedure(t.Assign(0, expression))))
+        left: t.Expression = LOCAL
+        right: t.Expression = LOCAL
+        for _ in range(15):
+            left, right = two(t.SUBTRACT, left, LOCAL), two(t.SUBTRACT, LOCAL, right)
+        self.check_program(concurrent(procedure(t.Assign(0, left), t.Assign(0, right))))
+
+    def test_deepest_blocks(self) -> None:
+        block: t.Block = ()
+        for _ in range(15):
+            block = (t.While(LOCAL, block),)
+        self.check_program(concurrent(procedure(*block)))
+
+    def test_stored_cases(self) -> None:
+        """Every table that the stored cases accept, of both kinds."""
+        accepted = {(op, table) for op, table, is_accepted in samples.stored_reads() if is_accepted}
+        self.assertGreater(len(accepted), 500)
+        self.assertEqual({op for op, _ in accepted}, {1, 2})
+        for _, table in accepted:
+            self.check_table(table)
+
+
+class Look(unittest.TestCase):
+    def test_parentheses_only_where_needed(self) -> None:
+        product = two(t.MULTIPLY, two(t.ADD, LOCAL, NUMBER), t.Number(-5))
+        self.assertEqual(expression_line(product), "(x0 + 5) * -5")
+        self.assertEqual(expression_line(two(t.ADD, LOCAL, two(t.MULTIPLY, LOCAL, NUMBER))), "x0 + x0 * 5")
+        self.assertEqual(expression_line(two(t.SUBTRACT, LOCAL, two(t.ADD, LOCAL, NUMBER))), "x0 - (x0 + 5)")
+        self.assertEqual(expression_line(one(t.NOT, two(t.EQUAL, LOCAL, NUMBER))), "not (x0 = 5)")
+        self.assertEqual(expression_line(one(t.NEGATE, NUMBER)), "-(5)")
+        self.assertEqual(expression_line(one(t.NEGATE, t.Number(-5))), "-(-5)")
+        self.assertEqual(expression_line(one(t.NEGATE, LOCAL)), "-x0")
+        self.assertEqual(expression_line(t.Number(-5)), "-5")
+
+    def test_labels(self) -> None:
+        inner = t.While(LOCAL, (t.Assign(0, NUMBER),))
+        body = (t.Atomic((t.Assign(0, NUMBER),)), t.If(LOCAL, (inner,), (t.Assign(0, NUMBER),)))
+        lines = shown(concurrent(procedure(*body), procedure())).splitlines()
+        found = [line.split("  // label ") for line in lines if "//" in line]
+        labels = [(text.strip(), int(number)) for text, number in found]
+        expected = ["atomic", "if x0", "while x0", "x0 := 5", "x0 := 5", "end", "end"]
+        self.assertEqual(labels, list(zip(expected, range(1, 8))))
+
+
+if __name__ == "__main__":
+    unittest.main()
