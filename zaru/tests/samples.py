@@ -33,11 +33,14 @@ thread work
 
 CASES = ROOT / "crates" / "cases"
 
+MISSING = not engine.engine_path().is_file()
+if MISSING:
+    print(f"skipped: what asks the proved program ({engine.engine_path()} is missing; `make zaru` builds it)", file=sys.stderr)
+
 
 def needs_engine(test: type) -> type:
     """Tests that ask the proved program are skipped where it is not there."""
-    missing = not engine.engine_path().is_file()
-    return unittest.skipIf(missing, f"{engine.engine_path()} is missing; `make zaru` builds it")(test)
+    return unittest.skipIf(MISSING, "the proved program is missing")(test)
 
 
 def stored_reads() -> Iterator[Tuple[int, bytes, bool]]:

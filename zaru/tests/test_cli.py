@@ -1,14 +1,19 @@
 """The command as a user calls it: what it prints, where, and its exit status."""
 
+import contextlib
+import io
 import os
 import subprocess
 import sys
 import tempfile
 import unittest
 from pathlib import Path
-from typing import NamedTuple, Optional
+from typing import List, NamedTuple, Optional
+from unittest import mock
 
 import samples
+from zaru import cli
+from zaru import engine as engine_module
 from zaru import table as t
 from zaru.refusals import REFUSALS
 
@@ -34,16 +39,22 @@ class Command(unittest.TestCase):
         (self.folder / name).write_bytes(content)
 
     def zaru(self, *words: str, given: bytes = b"", engine: Optional[str] = None) -> Result:
-        environment = dict(os.environ)
-        if engine is not None:
-            environment["ZARU_ENGINE"] = engine
-        elif "ZARU_ENGINE" in environment:
-            environment["ZARU_ENGINE"] = os.path.abspath(environment["ZARU_ENGINE"])
-        command = [sys.executable, str(LAUNCHER), *words]
-        done = subprocess.run(command, input=given, capture_output=True, cwd=self.folder, env=environment, check=False)
-        return Result(done.returncode, done.stdout.decode("utf-8", "replace"), done.stderr.decode())
+        """Calls the command inside this process, in the test's folder."""
+        path = engine or os.path.abspath(engine_module.engine_path())
+        given_text = io.TextIOWrapper(io.BytesIO(given))
+        out, err = io.TextIOWrapper(io.BytesIO(), encoding="utf-8"), io.StringIO()
+        here = os.getcwd()
+        with mock.patch.dict(os.environ, {"ZARU_ENGINE": path}), mock.patch.object(sys, "stdin", given_text):
+            with contextlib.redirect_stdout(out), contextlib.redirect_stderr(err):
+                os.chdir(self.folder)
+                try:
+                    status = cli.main(words)
+                finally:
+                    os.chdir(here)
+        out.flush()
+        return Result(status, out.buffer.getvalue().decode("utf-8", "replace"), err.getvalue())
 
-    def listed(self) -> list:
+    def listed(self) -> List[str]:
         return sorted(path.name for path in self.folder.iterdir())
 
 
@@ -182,10 +193,13 @@ class WithEngine(Command):
         self.assertEqual(self.good("show", "c", "again.zaru"), text)
         self.assertIn("  v := p[0]       // label 2\n", self.good("show", "c", "b.zaru"))
 
-    def test_standard_output(self) -> None:
-        command = [sys.executable, str(LAUNCHER), "asm", "-", "-o", "-"]
-        done = subprocess.run(command, input=samples.B_TEXT.encode(), capture_output=True, check=True)
-        self.assertEqual(done.stdout, samples.B)
+    def test_the_launcher(self) -> None:
+        """As a process of its own, by a link too; a table goes to standard output."""
+        (self.folder / "linked").symlink_to(LAUNCHER)
+        for launcher in (LAUNCHER, self.folder / "linked"):
+            command = [str(launcher), "asm", "-", "-o", "-"]
+            done = subprocess.run(command, input=samples.B_TEXT.encode(), capture_output=True, check=True)
+            self.assertEqual(done.stdout, samples.B)
 
     def test_refusals(self) -> None:
         self.refused(1, "read", "s", "b.table")

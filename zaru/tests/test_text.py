@@ -87,7 +87,7 @@ class RoundTrip(unittest.TestCase):
     def test_each_operator_inside_each(self) -> None:
         leaves = [NUMBER, t.Number(-5), LOCAL, t.Location(1), t.Truth(True)]
         marks = [t.ADD, t.SUBTRACT, t.MULTIPLY, t.LESS, t.EQUAL, t.AND]
-        inner = leaves + [two(mark, left, t.Number(-1)) for mark in marks for left in leaves[:3]]
+        inner = leaves + [two(mark, LOCAL, t.Number(-1)) for mark in marks]
         inner += [one(mark, leaf) for mark in (t.NOT, t.NEGATE) for leaf in leaves]
         middle = inner + [one(mark, operand) for mark in (t.NOT, t.NEGATE) for operand in inner]
         outer = [two(mark, left, right) for mark in marks for left in middle for right in inner]
