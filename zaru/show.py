@@ -106,11 +106,11 @@ class Shower:
 
     def inline(self, instruction: t.Instruction) -> str:
         """An instruction and all that it holds on one line."""
-        parts = [self.head(instruction)]
+        text = self.head(instruction)
         for word, block in blocks_of(instruction):
-            parts += [word] if word else []
-            parts += [self.inline(inner) for inner in block]
-        return "; ".join(parts + ["end"]) if has_blocks(instruction) else parts[0]
+            text += f" {word}" if word else ""
+            text += ": " + "; ".join(self.inline(inner) for inner in block)
+        return f"{text.rstrip()} end" if has_blocks(instruction) else text
 
 
 def has_blocks(instruction: t.Instruction) -> bool:

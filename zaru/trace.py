@@ -105,15 +105,14 @@ class Teller:
         label = before.labels[thread]
         spot = self.spots[label - 1]
         did = self.locals_set(spot, before, after, thread) + self.went(spot, after.labels[thread])
-        return number + 1, thread, label, self.text(spot), "; ".join(did + self.step_events(number))
+        return number + 1, thread, label, cut(self.text(spot)), "; ".join(did + self.step_events(number))
 
     def text(self, spot: Spot) -> str:
         if spot.instruction is None:
             return f"end of {self.names.procedures[spot.procedure]}"
         shower = Shower(self.names, spot.procedure)
-        if isinstance(spot.instruction, t.Atomic):
-            return cut(shower.inline(spot.instruction))
-        return cut(shower.head(spot.instruction))
+        is_atomic = isinstance(spot.instruction, t.Atomic)
+        return shower.inline(spot.instruction) if is_atomic else shower.head(spot.instruction)
 
     def locals_set(self, spot: Spot, before: State, after: State, thread: int) -> List[str]:
         """The locals that the step has set, with their new values."""

@@ -68,9 +68,15 @@ class Traces(unittest.TestCase):
 
     def test_atomic(self) -> None:
         lines = told(body("p := m", "atomic", "v := p[1]", "v := v + 5", "p[0] := v", "end"), "00")
-        self.assertIn("atomic; v := p[1]; v := v + 5; p[0] :=..", lines[2])
+        self.assertIn("atomic: v := p[1]; v := v + 5; p[0] :=..", lines[2])
         self.assertTrue(lines[2].endswith("v = 5; read m[1] = 0; write m[0] = 5"), lines[2])
         self.assertEqual(lines[-1], "used: the order ends after 2 steps")
+
+    def test_a_blocked_atomic_block_is_told_whole(self) -> None:
+        inner = ["v := 1", "if v = 1", "v := 2", "else", "v := 3", "v := 4", "end", "if true", "end", "v := -v - true"]
+        lines = told(body("atomic", *inner, "end"), "0")
+        text = "atomic: v := 1; if v = 1: v := 2 else: v := 3; v := 4 end; if true: end; v := -v - true end"
+        self.assertEqual(lines, [f"blocked after 0 steps, 1 entry unused: thread 0 at label 1, {text}"])
 
     def test_blocked(self) -> None:
         lines = told(body("v := 2147483647", "v := v + 1"), "000")
