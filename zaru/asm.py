@@ -81,11 +81,17 @@ class Scope:
 
     procedure: int
     local_numbers: Dict[str, int]
+    # The word that opened the block.
+    opened: Token
     in_atomic: bool = False
     depth: int = 1
 
-    def inner(self, in_atomic: bool) -> "Scope":
-        return Scope(self.procedure, self.local_numbers, self.in_atomic or in_atomic, self.depth + 1)
+    def inner(self, opened: Token) -> "Scope":
+        in_atomic = self.in_atomic or opened.text == "atomic"
+        return Scope(self.procedure, self.local_numbers, opened, in_atomic, self.depth + 1)
+
+    def end(self) -> str:
+        return f"`end` of the {self.opened.text} of line {self.opened.line}"
 
 
 class Parser:
@@ -167,7 +173,7 @@ class Parser:
         while self.token.kind != "end":
             if self.accept("location"):
                 sizes.append(self.location())
-            elif self.accept("procedure"):
+            elif self.sees("procedure"):
                 procedure, names = self.procedure(len(procedures))
                 procedures.append(procedure)
                 local_names.append(names)
@@ -193,9 +199,9 @@ class Parser:
         return number
 
     def procedure(self, number: int) -> Tuple[t.Procedure, Tuple[str, ...]]:
+        scope = Scope(number, {}, self.take())
         self.name("a procedure's name")
         self.expect("(", " and the parameters")
-        scope = Scope(number, {})
         if not self.sees(")"):
             self.local_list(scope, "a parameter's name")
         self.expect(")", " or `,`")
@@ -205,8 +211,7 @@ class Parser:
             self.local_list(scope, "a local's name")
             self.end_of_line()
         body = self.block(scope)
-        self.expect("end", " of the procedure")
-        self.end_of_line()
+        self.end(scope)
         return t.Procedure(parameters, len(scope.local_numbers), body), tuple(scope.local_numbers)
 
     def local_list(self, scope: Scope, what: str) -> None:
@@ -247,17 +252,13 @@ class Parser:
     def instruction(self, scope: Scope) -> t.Instruction:
         if self.token.kind == "name":
             return self.assignment(scope)
-        ways: Dict[str, Callable[[Scope], t.Instruction]] = {
-            "while": self.while_loop,
-            "if": self.if_else,
-            "atomic": self.atomic,
-            "call": self.call,
-            "select": self.select,
-        }
-        if self.token.kind != "word" or self.token.text not in ways:
-            raise self.expected("an instruction or `end`")
+        holding = {"while": self.while_loop, "if": self.if_else, "atomic": self.atomic}
+        plain = {"call": self.call, "select": self.select}
+        if self.token.kind != "word" or self.token.text not in {**holding, **plain}:
+            raise self.expected(f"an instruction or {scope.end()}")
         self.check_allowed(scope)
-        return ways[self.take().text](scope)
+        word = self.take()
+        return holding[word.text](scope.inner(word)) if word.text in holding else plain[word.text](scope)
 
     def check_allowed(self, scope: Scope) -> None:
         word = self.token.text
@@ -304,31 +305,34 @@ class Parser:
         self.expect("]")
         return index
 
-    def while_loop(self, scope: Scope) -> t.Instruction:
-        test = self.value(scope)
+    def end(self, scope: Scope) -> None:
+        """The end of the scope's block."""
+        if not self.accept("end"):
+            raise self.expected(scope.end())
         self.end_of_line()
-        body = self.block(scope.inner(False))
-        self.expect("end", " of the while")
+
+    def while_loop(self, inner: Scope) -> t.Instruction:
+        test = self.value(inner)
         self.end_of_line()
+        body = self.block(inner)
+        self.end(inner)
         return t.While(test, body)
 
-    def if_else(self, scope: Scope) -> t.Instruction:
-        test = self.value(scope)
+    def if_else(self, inner: Scope) -> t.Instruction:
+        test = self.value(inner)
         self.end_of_line()
-        then = self.block(scope.inner(False))
+        then = self.block(inner)
         otherwise: t.Block = ()
         if self.accept("else"):
             self.end_of_line()
-            otherwise = self.block(scope.inner(False))
-        self.expect("end", " of the if")
-        self.end_of_line()
+            otherwise = self.block(inner)
+        self.end(inner)
         return t.If(test, then, otherwise)
 
-    def atomic(self, scope: Scope) -> t.Instruction:
+    def atomic(self, inner: Scope) -> t.Instruction:
         self.end_of_line()
-        body = self.block(scope.inner(True))
-        self.expect("end", " of the atomic")
-        self.end_of_line()
+        body = self.block(inner)
+        self.end(inner)
         return t.Atomic(body)
 
     def call(self, scope: Scope) -> t.Instruction:

@@ -59,19 +59,28 @@ def write_file(name: str, content: bytes) -> None:
     if name == "-":
         sys.stdout.buffer.write(content)
         return
-    target = Path(name)
+    target = Path(os.path.realpath(name))
     try:
-        handle, temporary = tempfile.mkstemp(prefix=f".{target.name}.", dir=target.parent)
-        try:
-            with os.fdopen(handle, "wb") as file:
-                file.write(content)
-            os.chmod(temporary, 0o666 & ~current_umask())
-            os.replace(temporary, target)
-        except BaseException:
-            os.unlink(temporary)
-            raise
+        if target.exists() and not target.is_file():
+            # A device or pipe stays what it is.
+            target.write_bytes(content)
+        else:
+            replace_file(target, content)
     except OSError as error:
         raise UsageError(f"{name} cannot be written: {error.strerror}") from error
+
+
+def replace_file(target: Path, content: bytes) -> None:
+    """The content goes to a file beside the target, which then takes its place."""
+    handle, temporary = tempfile.mkstemp(prefix=f".{target.name}.", dir=target.parent)
+    try:
+        with os.fdopen(handle, "wb") as file:
+            file.write(content)
+        os.chmod(temporary, 0o666 & ~current_umask())
+        os.replace(temporary, target)
+    except BaseException:
+        os.unlink(temporary)
+        raise
 
 
 def current_umask() -> int:

@@ -124,8 +124,10 @@ class Errors(unittest.TestCase):
     def test_ends(self) -> None:
         self.check("", 1, 1, "expected `concurrent` or `sequential`, found the end of the text")
         self.check("// only a comment", 1, 18, "expected `concurrent` or `sequential`")
-        self.check("concurrent\nprocedure p()\n", 3, 1, "expected an instruction or `end`, found the end of the text")
-        self.check("concurrent\nprocedure p()\nelse\nend", 3, 1, "expected `end` of the procedure, found `else`")
+        self.check("concurrent\nprocedure p()\n", 3, 1, "expected an instruction or `end` of the procedure of line 2, found")
+        self.check("concurrent\nprocedure p()\nelse\nend", 3, 1, "expected `end` of the procedure of line 2, found `else`")
+        self.check(HEAD + "\nwhile v\n" + TAIL, 8, 1, "expected an instruction or `end` of the procedure of line 3")
+        self.check(HEAD + "if v\nwhile v\nelse\nend\n" + TAIL, 7, 1, "expected `end` of the while of line 6, found `else`")
         self.check("concurrent\nend", 2, 1, "expected `location`, `procedure` or `thread`, found `end`")
 
     def test_description(self) -> None:

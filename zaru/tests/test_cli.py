@@ -229,6 +229,14 @@ class WithEngine(Command):
         self.assertEqual(result.status, 2)
         self.assertIn("zaru: none/new cannot be written: No such file or directory", result.err)
 
+    def test_links_and_devices_stay(self) -> None:
+        (self.folder / "link").symlink_to("real")
+        self.good("translate", "b.table", "-o", "link")
+        self.assertTrue((self.folder / "link").is_symlink())
+        self.assertEqual(len((self.folder / "real").read_bytes()), 419)
+        self.good("translate", "b.table", "-o", os.devnull)
+        self.assertTrue(Path(os.devnull).is_char_device())
+
     def test_every_value_in_cells(self) -> None:
         body = "p := m\n" + "".join(f"p[{i}] := {v}\n" for i, v in enumerate(["-7", "true", "false", "m"]))
         text = f"concurrent\nlocation m[18]\nprocedure w()\nlocals p\n{body}end\nthread w\n"

@@ -8,7 +8,8 @@ from zaru import table as t
 from zaru.asm import assemble
 from zaru.labels import first_labels, spots
 from zaru.names import Names, plain_names
-from zaru.trace import cut, steps_of, trace
+from zaru.trace import Steps, cut, steps_of, trace
+from zaru.values import events_of
 
 
 def told(text: str, order: str) -> list:
@@ -113,8 +114,35 @@ class Traces(unittest.TestCase):
         self.assertEqual(len(steps.states), steps.run.steps + 1)
         self.assertEqual(steps.event_counts[-1], steps.run.events)
         self.assertEqual(steps.run.end == "finished", not any(steps.states[-1].labels))
+        for number in range(steps.run.steps):
+            self.check_step(program, steps, number, schedule[number])
         lines = trace(program, names, table, schedule)
         self.assertEqual(sum(line.count("read m") + line.count("write m") for line in lines), steps.run.events)
+
+    def check_step(self, program: t.Program, steps: Steps, number: int, thread: int) -> None:
+        """What the copy's memory says of a step agrees with the program's text and its events."""
+        before, after = steps.states[number], steps.states[number + 1]
+        spot = spots(program)[before.labels[thread] - 1]
+        label, instruction = after.labels[thread], spot.instruction
+        events = events_of(steps.run.event_bytes)[steps.event_counts[number] : steps.event_counts[number + 1]]
+        if isinstance(instruction, (t.While, t.If)):
+            self.assertIn(label, (spot.if_true, spot.if_false))
+        elif isinstance(instruction, t.Call):
+            self.assertEqual(label, first_labels(program)[instruction.procedure])
+        elif isinstance(instruction, t.Read):
+            [event] = events
+            self.assertFalse(event.is_write)
+            self.assertEqual(after.local_values[spot.procedure][instruction.target][thread], event.value)
+        elif isinstance(instruction, t.Write):
+            [event] = events
+            self.assertTrue(event.is_write)
+            pointer = before.local_values[spot.procedure][instruction.pointer][thread]
+            self.assertEqual(pointer[:3], bytes([2]) + event.location.to_bytes(2, "little"))
+        else:
+            self.assertTrue(not events or isinstance(instruction, t.Atomic))
+        self.assertTrue(all(event.thread == thread for event in events))
+        others = [place for place in range(len(before.labels)) if place != thread]
+        self.assertEqual([before.labels[place] for place in others], [after.labels[place] for place in others])
 
 
 if __name__ == "__main__":
