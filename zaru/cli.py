@@ -11,6 +11,7 @@ from typing import Callable, Dict, List, Optional, Sequence, Tuple
 
 from zaru import arguments, asm, engine, refusals
 from zaru.arguments import UsageError, Words
+from zaru.copy_names import copy_names
 from zaru.engine import Request
 from zaru.names import Names, plain_names
 from zaru.show import show
@@ -145,8 +146,6 @@ def one_file_and_output(words: Words, what: str) -> Tuple[str, str]:
         raise UsageError(f"one {what} is needed")
     if "-o" not in words.options:
         raise UsageError("-o and the file to write are needed")
-    if words.options["-o"].endswith(TEXT_ENDING):
-        raise UsageError(f"a file that ends in {TEXT_ENDING} is a text; give the table another name")
     return words.positional[0], words.options["-o"]
 
 
@@ -164,9 +163,20 @@ def command_read(words: Words) -> List[str]:
 
 def command_translate(words: Words) -> List[str]:
     name, output = one_file_and_output(words, "table")
-    copy = engine.translate(source_of(name).table)
+    source = source_of(name)
+    copy = engine.translate(source.table)
+    if output.endswith(TEXT_ENDING):
+        write_file(output, copy_text(source, copy).encode())
+        return [f"{output}: the text of {len(copy):,} bytes"]
     write_file(output, copy)
     return [] if output == "-" else [f"{output}: {len(copy):,} bytes"]
+
+
+def copy_text(source: Source, copy: bytes) -> str:
+    """A copy as text, named after its source; both tables have been accepted."""
+    program = decode(source.table)
+    names = copy_names(program, source.names_for(program))
+    return show(accepted_program(SEQUENTIAL, copy), names)
 
 
 def command_run(words: Words) -> List[str]:
@@ -203,6 +213,8 @@ def command_show(words: Words) -> List[str]:
 
 def command_asm(words: Words) -> List[str]:
     name, output = one_file_and_output(words, "text")
+    if output.endswith(TEXT_ENDING):
+        raise UsageError(f"a file that ends in {TEXT_ENDING} is a text; give the table another name")
     program, _ = assembled(name)
     table = fitting(name, encode(program))
     engine.read(READ_OPS[program.kind], table)
@@ -239,7 +251,7 @@ Asks the proved reader whether it accepts a concurrent (c) or sequential (s) tab
         "zaru translate TABLE -o COPY",
         command_translate,
         """
-Writes the sequential copy of a concurrent table to the file COPY.
+Writes the sequential copy of a concurrent table to the file COPY: its bytes or, if the name ends in .zaru, its text.
 """,
         ("-o",),
     ),
@@ -332,7 +344,7 @@ zaru: concurrent programs, their sequential copies, and what both do in a given 
   zaru asm TEXT -o TABLE            text to table
   zaru help [COMMAND]               more about a command
 
-A table is a file of bytes, a text if its name ends in {TEXT_ENDING}, or - for standard input; -o - is standard output.
+A table is a file of bytes, or of text if its name ends in {TEXT_ENDING}; - is standard input, and -o - standard output.
 Every answer comes from the proved program. Exit status: 0 done, 1 refused, 2 wrong use, 3 no proved program.
 """
 

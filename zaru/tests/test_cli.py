@@ -185,6 +185,23 @@ class WithEngine(Command):
         self.assertEqual(self.good("copy", "b.copy", "0", "7").split("\n")[0].split()[0], "blocked")
         self.assertEqual(self.good("copy", "b.copy", "--h", "0").split("\n")[0], "used 9 0 0")
 
+    def test_the_text_of_a_copy(self) -> None:
+        self.good("translate", "b.zaru", "-o", "b.copy")
+        self.assertEqual(self.good("translate", "b.zaru", "-o", "copy.zaru"), "copy.zaru: the text of 419 bytes\n")
+        self.good("asm", "copy.zaru", "-o", "again.copy")
+        self.assertEqual((self.folder / "again.copy").read_bytes(), (self.folder / "b.copy").read_bytes())
+        lines = self.good("copy", "copy.zaru", *"00110101").splitlines()[1:]
+        shared = ["cell[0] = 1", "ptid[0] = 1", "pct[0..1] = 0 0", "from_work[0..1] = 0 0"]
+        self.assertEqual(lines, shared + ["work_p[0..1] = cell cell", "work_v[0..1] = 0 0"])
+
+    def test_a_copy_whose_names_are_taken(self) -> None:
+        text = "concurrent\nlocation pct[1]\nlocation a_tid[1]\nprocedure a()\nlocals tid, tmp, ptid\n"
+        self.file("taken.zaru", (text + "tid := 1\ntmp := tid\nptid := pct\nend\nthread a\n").encode())
+        self.good("translate", "taken.zaru", "-o", "taken.copy")
+        self.good("translate", "taken.zaru", "-o", "copy.zaru")
+        self.good("asm", "copy.zaru", "-o", "again.copy")
+        self.assertEqual((self.folder / "again.copy").read_bytes(), (self.folder / "taken.copy").read_bytes())
+
     def test_show_and_asm(self) -> None:
         text = self.good("show", "c", "b.table")
         self.file("again.zaru", text.encode())
