@@ -35,7 +35,8 @@ CASES = ROOT / "crates" / "cases"
 
 MISSING = not engine.engine_path().is_file()
 if MISSING:
-    print(f"skipped: what asks the proved program ({engine.engine_path()} is missing; `make zaru` builds it)", file=sys.stderr)
+    reason = f"{engine.engine_path()} is missing; `make zaru` builds it"
+    print(f"skipped: the tests that ask the proved program ({reason})", file=sys.stderr)
 
 
 def needs_engine(test: type) -> type:
