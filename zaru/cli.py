@@ -299,27 +299,38 @@ Prints an accepted table as text, a concurrent one with its labels. `zaru asm` r
         """
 Turns a text into a table, has the proved reader judge it and writes it to the file TABLE.
 
-    // the lost update
-    concurrent                      or: sequential
-    location cell[1]                a shared location and its size
+    concurrent                // or sequential
+    location cell[1]          // a shared location and its size
 
-    procedure work(a, b)            parameters, if any
-      locals p, v                   the other locals
-      p := cell                     a location as a value
-      v := p[0]                     a read
-      p[0] := v + 1                 a write
-      while v < 10  ..  end
-      if v = 0  ..  else  ..  end
-      atomic  ..  end               concurrent only
-      call other(v, true)
-      select chosen from waiting    sequential only, first procedure only
+    procedure work()
+      locals p, v
+      p := cell               // a location as a value
+      v := p[0]               // a read
+      p[0] := v + 1           // a write
+      while v < 10
+        call add(p, -5)
+        v := p[0]
+      end
+      if not (v = 0) and true
+        v := v * 2
+      else                    // may be left out
+        v := -v
+      end
     end
 
-    thread work                     one line for each thread, concurrent only
+    procedure add(place, share)
+      locals old
+      atomic                  // one step; concurrent programs only
+        old := place[0]
+        place[0] := old + share
+      end
+    end
 
-Each instruction has its own line. Expressions: numbers, true, false, locals, locations, + - * < = and not, and
-parentheses. -5 is a number, -(5) is the negation of 5. A procedure may be used before it is declared.
-docs/TEXT.md has the whole form.
+    thread work               // a line for each thread; concurrent programs only
+    thread work
+
+Each instruction has its own line. -5 is a number, -(5) is the negation of 5. The first procedure of a sequential
+program may have `select chosen from waiting`, with two locations. docs/TEXT.md has the whole form.
 """,
         ("-o",),
     ),
