@@ -182,6 +182,8 @@ def copy_text(source: Source, copy: bytes) -> str:
 def command_run(words: Words) -> List[str]:
     source, schedule = table_and_order(words)
     program = accepted_program(CONCURRENT, source.table)
+    # A table without a copy (9) is refused before its order is judged (11), as the run program does it.
+    engine.translate(source.table)
     request = Request(engine.RUN_CONCURRENT, source.table, schedule, cells=engine.CELL_ROOM)
     run = engine.run(request)
     line = engine.run_line(source.table, schedule)

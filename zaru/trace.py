@@ -61,9 +61,9 @@ class Steps:
 
 def steps_of(program: t.Program, table: bytes, schedule: bytes) -> Steps:
     cell_room = 5 * sum(program.sizes)
+    copy = engine.translate(table)
     whole = Request(engine.RUN_CONCURRENT, table, schedule, cells=cell_room, events=engine.EVENT_ROOM)
     run = engine.run(whole)
-    copy = engine.translate(table)
     shape = engine.read(engine.READ_SEQUENTIAL, copy)
     prefixes = [schedule[:length] for length in range(run.steps + 1)]
     ours = [Request(engine.RUN_CONCURRENT, table, prefix, cells=cell_room) for prefix in prefixes]

@@ -242,6 +242,16 @@ class WithEngine(Command):
         self.file("zero.zaru", b"concurrent\nlocation m[0]\nprocedure p()\nend\nthread p\n")
         self.refused(3, "asm", "zero.zaru", "-o", "new")
 
+    def test_nine_before_eleven(self) -> None:
+        """A table whose copy would be too long, with a wrong order."""
+        locals_ = ", ".join(f"x{number}" for number in range(12))
+        total = " + ".join(f"x{number}" for number in range(12))
+        body = "".join(f"x{number} := 0\n" for number in range(12)) + f"x0 := {total}\n" * 380
+        self.file("nine.zaru", f"concurrent\nprocedure p()\nlocals {locals_}\n{body}end\nthread p\n".encode())
+        for command in ("run", "trace"):
+            self.refused(9, command, "nine.zaru", "7")
+        self.refused(9, "translate", "nine.zaru", "-o", "new")
+
     def test_a_refused_file_stays(self) -> None:
         self.file("new", b"old content")
         self.refused(1, "translate", "-", "-o", "new")
