@@ -34,5 +34,15 @@ pub mod Calling
 pub mod Carrying
 -- what is inside an atomic block, way by way
 pub mod Inside
+-- the first frames of the threads of the concurrent machine
+pub mod Beginning
+-- the run of the concurrent machine, step by step
+pub mod ConcurrentRun
+-- the call of the concurrent machine, from the table to the answer
+pub mod ConcurrentCall
 -- one step of a frame's code, way by way
 pub mod Turning
+-- where a thread goes on after a turn, way by way
+pub mod Moving
+-- one step of a thread
+pub mod Stepping

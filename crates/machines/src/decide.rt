@@ -259,7 +259,7 @@ pub fn decide_select(
         return Step::Blocked;
     };
     if n == 0 {
-        return Step::Blocked;
+        return Step::Blocked; // "and takes none"
     }
     let target = table::two(t, at + 1) as usize;
     Step::Select {

@@ -26,22 +26,22 @@ ghost use Rattle.machines.specs.Sequential.{mostFrames, Recorded, Entera
 pub const FRAMES: usize = 513;
 
 // The bytes of a procedure's record.
-const RECORD: usize = 6;
+pub const RECORD: usize = 6;
 
 // The bytes of a location's size, and of the trailer.
-const SIZE: usize = 2;
+pub const SIZE: usize = 2;
 
-const TRAILER: usize = 16;
+pub const TRAILER: usize = 16;
 
 // "All cells start as number 0": the word of that number.
-const ZERO: u64 = 4294967296;
+pub const ZERO: u64 = 4294967296;
 
 // A number for each end.
-const FINISHED: u8 = 0;
+pub const FINISHED: u8 = 0;
 
-const USED: u8 = 1;
+pub const USED: u8 = 1;
 
-const BLOCKED: u8 = 2;
+pub const BLOCKED: u8 = 2;
 
 const SPENT: u8 = 3;
 

@@ -28,7 +28,7 @@ reach-on (direct h) i = onward h (direct i)
 reach-on (onward h r) i = onward h (reach-on r i)
 
 -- as many procedures
-length-labels : {A : Type 0} (ps : List (Proc A)) (l : ℕ) → length (labels l ps) ≡ length ps
+pub length-labels : {A : Type 0} (ps : List (Proc A)) (l : ℕ) → length (labels l ps) ≡ length ps
 length-labels [] l = refl
 length-labels (p ∷ ps) l = ap suc (length-labels ps (l + suc (count (p .body))))
 
