@@ -2,8 +2,8 @@
 use Prim.Native.Nat.{ℕ, _+_, _-_, _≤_, _<_, min}
 use native.Mathlib.Omega.{arith}
 use native.Mathlib.Decide.{decLe}
-use mathlib.Core.Path.{_≡_, refl, sym, ap, _∙_}
-use mathlib.Core.List.{List, []}
+use mathlib.Core.Path.{_≡_, sym, ap, _∙_}
+use mathlib.Core.List.{List}
 use lib.ListN.{length, take, drop, length-drop, drop-of-length-le}
 use lib.Seq.{take-all, drop-drop}
 use borrow.Author.Tests.{lt-ltb, le-ltb}
@@ -11,7 +11,7 @@ use Rattle.value.specs.Values.{unbytes, numberAt}
 use Rattle.value.specs.Laws.Bytes.{number-at}
 use Rattle.agreement.specs.declared.Figures.{Figures}
 use Rattle.agreement.specs.Figures.{refusal, figuresCall}
-use Rattle.agreement.specs.Line.{scheduleOf, tableOf, told}
+use Rattle.agreement.specs.Line.{scheduleOf, tableOf, told, line, printed, lined}
 
 -- ---- a place in a list, or its end
 
@@ -52,3 +52,8 @@ module _ (input : List ℕ) {r : Figures} where
       = ap (take (stop - start)) (cut-drop start 2 input first)
       ∙ cut-take (stop - start) (unbytes (take 2 input)) (drop 2 input) (omega arith) in
       e ∙ rw (table, schedule, le-ltb 20482 (length input) h)
+
+-- the figures of an input, then their line
+pub input-lined : (input o : List ℕ) {f : Figures} {o′ : List ℕ} {n : ℕ} → f ≡ told input → record { count = n; out = o′ } ≡ lined (line f) o
+    → record { count = n; out = o′ } ≡ lined (printed input) o
+input-lined input o e l = l ∙ ap (λ g. lined (line g) o) e

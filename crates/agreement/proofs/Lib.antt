@@ -4,3 +4,5 @@
 pub mod Lines
 -- its input, way by way
 pub mod Inputs
+-- its figures, way by way
+pub mod Compares

@@ -4,13 +4,17 @@ use Prim.Native.Nat.{ℕ}
 use mathlib.Core.List.{List}
 use mathlib.Core.Bool.{true, false}
 use lib.ListN.{length}
+use lib.Dec.{eqb}
+use Rattle.value.specs.Maybe.{pick}
 use Rattle.reader.specs.Syntax.{Program, Plain, Kind, concurrent, sequential}
 use Rattle.reader.specs.Rules.{Verdict, refused, accepted, verdict}
 use Rattle.machines.specs.Threads as P
 use Rattle.machines.specs.Copy as C
 use Rattle.machines.specs.declared.RunAnswer.{RunAnswer}
 use Rattle.machines.specs.Calls.{refusal, ran, scheduled, concurrentRun, sequentialRun}
+use Rattle.agreement.specs.declared.Figures.{Figures}
 use Rattle.agreement.specs.Agreement.{budget}
+use Rattle.agreement.specs.Figures as Told
 
 -- by the verdict on the table, then 11; 12 cannot occur
 abbrev pub answerAs : Kind → Verdict → (Program Plain → RunAnswer) → List ℕ → RunAnswer
@@ -28,3 +32,9 @@ unfoldable pub copyAnswer : List ℕ → List ℕ → ℕ → RunAnswer
 copyAnswer t ts h = answerAs sequential (verdict sequential t) (λ p.
     let r : C.Ran = sequentialRun budget h p ts in
     ran (r .how) (r .steps) (length (r .config .todo)) (length (r .config .events))) ts
+
+-- the run program's figures, from the answers of the program's run and of its copy's
+unfoldable pub compared : RunAnswer → RunAnswer → Figures
+compared r s = pick (eqb (r .number) 0)
+    (record { number = 0; end = r .end; steps = r .steps; copy = s .steps; unused = r .unused; events = r .events })
+    (Told.refusal (r .number))

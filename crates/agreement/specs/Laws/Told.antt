@@ -1,12 +1,12 @@
 -- From what the calls answer to what the run program tells.
-use Prim.Native.Nat.{ℕ, _*_, _≤_, _<_}
+use Prim.Native.Nat.{ℕ, _*_, _≤_}
 use native.Mathlib.Omega.{arith}
 use mathlib.Core.Path.{_≡_, refl, sym, ap, _∙_}
 use mathlib.Core.List.{List}
 use mathlib.Core.Bool.{true, false}
 use lib.ListN.{length, take}
 use lib.Dec.{ltb, leb}
-use borrow.Author.Tests.{le-leb, le-ltb, leb-true, ltb-false}
+use borrow.Author.Tests.{le-leb, le-ltb, ltb-false}
 use Rattle.value.specs.Lists.{sum, all}
 use Rattle.value.specs.Laws.Tests.{by-test, both-passed}
 use Rattle.value.specs.Laws.Bytes.{Bytes}
@@ -15,18 +15,15 @@ use Rattle.reader.specs.Calls.{readCall}
 use Rattle.reader.specs.Syntax.{Program, Plain, Kind, concurrent, sequential}
 use Rattle.reader.specs.Encode.{table}
 use Rattle.reader.specs.Rules.{Verdict, refused, accepted, verdict, limits}
-use Rattle.reader.specs.Laws.Sound.{Sound}
 use Rattle.reader.specs.Laws.Accepted.{accepted-exactly}
-use Rattle.reader.specs.Laws.TableBytes.{table-bytes}
 use Rattle.translator.specs.declared.WriteAnswer.{WriteAnswer}
 use Rattle.translator.specs.Translate.{translate}
-use Rattle.translator.specs.Calls.{Written, writes, writesTable, translateCall}
+use Rattle.translator.specs.Calls.{writes, writesTable, translateCall}
 use Rattle.translator.specs.Laws.Called.{Copied, call-copies}
 use Rattle.machines.specs.declared.RunAnswer.{RunAnswer}
 use Rattle.machines.specs.Buffers.{cellSize}
 use Rattle.machines.specs.Calls.{Outcome, maxEntries, scheduled, roomy, runAs, concurrentOutcome, concurrentCall, sequentialOutcome, sequentialCall}
-use Rattle.agreement.specs.declared.Figures.{Figures}
-use Rattle.agreement.specs.Agreement.{programRun, copyRun, budget}
+use Rattle.agreement.specs.Agreement.{budget}
 use Rattle.agreement.specs.Figures.{refusal, figures, figuresOf, figuresAs, figuresCall}
 use Rattle.agreement.specs.Answers.{answerAs, programAnswer, copyAnswer}
 
