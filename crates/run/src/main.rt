@@ -1,0 +1,14 @@
+// The run program: reads a schedule length (2 bytes), a schedule and a concurrent table from standard input, and prints one line.
+//
+// Stack, beside what the calls below use: 20,483 bytes for the input, 128 for the line.
+
+// One byte more than an input may have, so that one that is too long is seen; what follows is not read.
+const INPUT: usize = 20483;
+
+fn main() {
+    let mut input = [0u8; INPUT];
+    let mut line = [0u8; 128];
+    let n = io::read_full(0, &mut input);
+    let m = agreement::input::print(&input[..n], &mut line);
+    io::write_all(1, &line[..m]);
+}
