@@ -18,7 +18,7 @@ second:
 # the stored cases are those that the second implementation writes
 cases: second
 	@mkdir -p target/cases
-	cd second && cargo run --release --offline --quiet --bin cases -- ../target/cases/stdin ../target/cases/stdout 1235 2>/dev/null
+	cd second && cargo run --release --offline --quiet --bin cases -- ../target/cases/stdin ../target/cases/stdout 2>/dev/null
 	cmp target/cases/stdin crates/cases/stdin
 	cmp target/cases/stdout crates/cases/stdout
 

@@ -1,8 +1,9 @@
 //! Batches of cases: how a case is written down and which line answers it.
 //!
-//! A case is a header of 36 bytes, a table and a schedule. The header is: op (1 byte), 3 zero
-//! bytes, table length (4), schedule length (4), budget (8), h (4), cell buffer length (4), event
-//! buffer length (4), out buffer length (4), low byte first. A header whose op is 0 ends the batch.
+//! A case is a header of 36 bytes, a table and a schedule. The header is: op (1 byte), whether the
+//! lent buffers are to be shown (1 byte, here 0), 2 zero bytes, table length (4), schedule length
+//! (4), budget (8), h (4), cell buffer length (4), event buffer length (4), out buffer length (4),
+//! low byte first. A header whose op is 0 ends the batch.
 
 use crate::calls::*;
 use crate::line::line;

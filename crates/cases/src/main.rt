@@ -98,6 +98,9 @@ fn run(
     cells: &mut [u8],
     events: &mut [u8],
 ) -> RunAnswer {
+    if request.call == RUN_CONCURRENT {
+        return machines::run_concurrent(table, schedule, cells, events);
+    }
     machines::run_sequential(table, schedule, request.budget, request.h, cells, events)
 }
 
@@ -159,6 +162,13 @@ fn run_machine(request: Request, table: &[u8], schedule: &[u8]) {
     lend_cells(request, table, schedule, &mut cells, &mut events);
 }
 
+// The run program's line on its whole input.
+fn run_program(input: &[u8]) {
+    let mut line = [0u8; 128];
+    let n = agreement::input::print(input, &mut line);
+    print::line(RUN_PROGRAM, &line[..n]);
+}
+
 // One call, and its line; false for a call that there is none of.
 fn answer(request: Request, table: &[u8], schedule: &[u8]) -> bool {
     let call = request.call;
@@ -168,6 +178,7 @@ fn answer(request: Request, table: &[u8], schedule: &[u8]) -> bool {
         TRANSLATE => translate(request, table),
         RUN_CONCURRENT => run_machine(request, table, schedule),
         RUN_SEQUENTIAL => run_machine(request, table, schedule),
+        RUN_PROGRAM => run_program(table),
         _ => return false,
     }
     true

@@ -43,6 +43,13 @@ pub fn run(call: u8, r: RunAnswer) {
     number(r.events);
 }
 
+// A line that has its newline.
+pub fn line(call: u8, text: &[u8]) {
+    io::print_decimal(1, call as u64);
+    io::write_all(1, b" ");
+    io::write_all(1, text);
+}
+
 // A space, then the hash of a buffer.
 pub fn hash(buffer: &[u8]) {
     io::write_all(1, b" ");

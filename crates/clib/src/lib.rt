@@ -9,7 +9,7 @@ ghost use lib.ListN.{set};
 ghost use Rattle.reader.specs.Syntax.{concurrent, sequential};
 ghost use Rattle.reader.specs.Calls.{readCall};
 ghost use Rattle.translator.specs.Calls.{translateCall};
-ghost use Rattle.machines.specs.Calls.{sequentialCall};
+ghost use Rattle.machines.specs.Calls.{concurrentCall, sequentialCall};
 ghost use Rattle.clib.specs.Numbers.{stored, readNumbers, writeNumbers, runNumbers, Translated, translated, Ran, ran};
 
 // Number i of an answer.
@@ -85,6 +85,21 @@ pub extern "C" fn zaru_translate(table: &[u8], out: &mut [u8], answer: &mut [u64
 {
     let r = translator::translate(table, out);
     store_write(answer, r);
+}
+
+// Runs a concurrent table.
+#[no_mangle]
+pub extern "C" fn zaru_run_concurrent(
+    table: &[u8],
+    schedule: &[u8],
+    cells: &mut [u8],
+    events: &mut [u8],
+    answer: &mut [u64],
+)
+    ensures { λ _. ⌜ _≡_ {A = Ran} (record { cells = now (cells .exit); events = now (events .exit); answer = now (answer .exit) }) (ran (concurrentCall (now (table .entry)) (now (schedule .entry)) (now (cells .entry)) (now (events .entry))) (now (answer .entry))) ⌝ }
+{
+    let r = machines::run_concurrent(table, schedule, cells, events);
+    store_run(answer, r);
 }
 
 // Runs a sequential table.
