@@ -1,14 +1,14 @@
 # Two commands: `make demo` runs the main job, `make test` proves and tests everything.
-.PHONY: demo test kit second cases
+.PHONY: demo test kit second cases zaru use lib bench
 
 kit:
 	@tools/need rt
 
-# until there is a run program: proves the worked list and prints it
+# B of document 01 under both orders: the sum, and the lost share
 demo: kit
-	@rt check agreement | tail -n 1
-	@echo "document 01, \"Worked by hand\": antt has computed each of these"
-	@sed -n 's/^    -- /  /p' crates/agreement/specs/Worked.antt
+	@tools/need python3 python3
+	@rt check run cases | tail -n 1
+	@tools/demo
 
 # the second implementation's own tests
 second:
@@ -22,6 +22,26 @@ cases: second
 	cmp target/cases/stdin crates/cases/stdin
 	cmp target/cases/stdout crates/cases/stdout
 
+# the proved program that the command zaru asks
+zaru: kit
+	rt check cases
+
+# the command line: its own tests, and the pasted output of the documents
+use: zaru
+	@tools/need python3 python3
+	python3 -m unittest discover --quiet --start-directory zaru/tests
+	tools/check-tour README.md docs/TOUR.md examples/README.md
+
+# target/staticlib/libzaru.a for C programs (header: lib/zaru.h), and its test
+lib: kit
+	tools/check-lib
+
+# not part of the test: instructions and time a step of the sequential machine
+bench: zaru
+	@tools/need python3 python3
+	tools/bench
+
 test: kit cases
 	rt fmt --check
+	$(MAKE) use lib
 	rt ci
