@@ -30,7 +30,7 @@ zaru: kit
 use: zaru
 	@tools/need python3 python3
 	python3 -m unittest discover --quiet --start-directory zaru/tests
-	tools/check-tour README.md docs/TOUR.md examples/README.md
+	tools/check-tour README.md examples/README.md
 
 # target/staticlib/libzaru.a for C programs (header: lib/zaru.h), and its test
 lib: kit
