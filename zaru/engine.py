@@ -3,6 +3,7 @@
 from __future__ import annotations
 
 import os
+import platform
 import subprocess
 from dataclasses import dataclass
 from pathlib import Path
@@ -117,14 +118,25 @@ def ask(requests: List[Request]) -> List[Answer]:
     return answers
 
 
+def program_words(path: Path, machine: str) -> List[str]:
+    """How to run the proved program, which is for x86-64: elsewhere on the emulator that the kit brings."""
+    if machine == "x86_64":
+        return [str(path)]
+    guide = subprocess.run(["rt", "doc"], stdout=subprocess.PIPE, check=True, text=True).stdout.strip()
+    tools = Path(guide).parent.parent / "on" / machine / "toolchain"
+    loader = tools / "lib" / "ld-linux-x86-64.so.2"
+    return [str(tools / "bin" / "qemu-x86_64"), str(loader), "--library-path", str(loader.parent), str(path)]
+
+
 def call_program(batch: bytes) -> bytes:
     path = engine_path()
     if not path.is_file():
         raise EngineError(f"{path} is missing: `make zaru` builds the proved program")
     try:
-        return subprocess.run([str(path)], input=batch, stdout=subprocess.PIPE, check=False).stdout
-    except OSError as error:
-        raise EngineError(f"{path} cannot be run: {error.strerror}") from error
+        words = program_words(path, platform.machine())
+        return subprocess.run(words, input=batch, stdout=subprocess.PIPE, check=False).stdout
+    except (OSError, subprocess.CalledProcessError) as error:
+        raise EngineError(f"{path} cannot be run: {error}") from error
 
 
 def accepted(answer: Answer) -> Answer:
