@@ -37,7 +37,7 @@ use Rattle.machines.specs.Work.{Puts, Beside, Clears, frameWords, localW
 use Rattle.machines.specs.Events.{Logged, withEvent}
 use Rattle.machines.specs.Jumps.{positions, Settled, last, first, Jumps, Settles, Branches}
 use Rattle.machines.specs.Frames.{FrameAt, Called, Stacked, none, more}
-use Rattle.machines.specs.Sequential.{mostFrames, Loaded, Present, Decision, leaves, acts, selects, Due, Recorded, Enterable, Enters, Moves, CarriesOut}
+use Rattle.machines.specs.Sequential.{mostFrames, Loaded, Present, Decision, leaves, acts, selects, Due, eventIn, Recorded, Enterable, Enters, movedTo, selectedTo, Moves, CarriesOut}
 use Rattle.machines.specs.Laws.Work.{beside-same, beside-put, framed-put, framed-below, framed-entered}
 use Rattle.machines.specs.Laws.Holding.{cell-word, holds-put, no-cell}
 use Rattle.machines.specs.Laws.Cells.{shape, shape-stored}
@@ -384,10 +384,9 @@ module _ {t : List ℕ} {records : ℕ} {js ls bs cs es : List ℕ} {s : State} 
 
 module _ {t : List ℕ} {records : ℕ} {js : List ℕ} {h : ℕ} {ls bs cs es : List ℕ} {s : State} {x : Step} where
   -- "x := e"
-  pub did-assign : {y n k : ℕ} {v : Value} {ls′ : List ℕ} → x ≡ Assign y v n → Puts ls ls′ (frameWords * (s .depth - 1) + y) v → Settles t js n k
-      → CarriesOut t records js h ls bs cs es s x ls′ bs cs es
-      (record { at = k; depth = s .depth; thread = s .thread; taken = s .taken; events = s .events })
-  did-assign {y} {n} {k} {v} {ls′} e w g = record { moves = λ d. go d (done d e); most = omega arith }
+  pub did-assign : {y n k : ℕ} {v : Value} {ls′ : List ℕ} {s′ : State} → x ≡ Assign y v n → Puts ls ls′ (frameWords * (s .depth - 1) + y) v
+      → Settles t js n k → s′ ≡ movedTo s k (s .depth) (s .events) → CarriesOut t records js h ls bs cs es s x ls′ bs cs es s′
+  did-assign {y} {n} {k} {v} {ls′} e w g f = rw f (record { moves = λ d. go d (done d e); most = omega arith })
     where
       go : (d : Due t records js ls bs cs es s x) → Doing (d .loaded .program) (d .config) (d .frame) (s .at) (Assign y v n)
           → Moves (d .loaded .program) (d .lent) (d .schedule) h (d .config) ls′ bs cs es (to d k)
@@ -401,10 +400,9 @@ module _ {t : List ℕ} {records : ℕ} {js : List ℕ} {h : ℕ} {ls bs cs es :
           }
 
   -- "while", "if, then, else"
-  pub did-test : {n k : ℕ} {q : Bool} → x ≡ Test q n → Branches t js (s .at) q n k
-      → CarriesOut t records js h ls bs cs es s x ls bs cs es
-      (record { at = k; depth = s .depth; thread = s .thread; taken = s .taken; events = s .events })
-  did-test {n} {k} {q} e B = record { moves = λ d. go d q refl (done d e); most = omega arith }
+  pub did-test : {n k : ℕ} {q : Bool} {s′ : State} → x ≡ Test q n → Branches t js (s .at) q n k → s′ ≡ movedTo s k (s .depth) (s .events)
+      → CarriesOut t records js h ls bs cs es s x ls bs cs es s′
+  did-test {n} {k} {q} e B f = rw f (record { moves = λ d. go d q refl (done d e); most = omega arith })
     where
       go : (d : Due t records js ls bs cs es s x) (g : Bool) → q ≡ g → Doing (d .loaded .program) (d .config) (d .frame) (s .at) (Test q n)
           → Moves (d .loaded .program) (d .lent) (d .schedule) h (d .config) ls bs cs es (to d k)
@@ -436,14 +434,12 @@ module _ {t : List ℕ} {records : ℕ} {js : List ℕ} {h : ℕ} {ls bs cs es :
           }
 
   -- the end of a body: the frame below goes on where its caller wrote
-  pub did-return : {k : ℕ} → x ≡ Return → k ≡ getD bs (s .depth - 1) 0
-      → CarriesOut t records js h ls bs cs es s x ls bs cs es
-      (record { at = k; depth = s .depth - 1; thread = s .thread; taken = s .taken; events = s .events })
-  did-return {k} e f = record { moves = λ d. go d (done d e); most = omega arith }
+  pub did-return : {k : ℕ} {s′ : State} → x ≡ Return → k ≡ getD bs (s .depth - 1) 0 → s′ ≡ movedTo s k (s .depth - 1) (s .events)
+      → CarriesOut t records js h ls bs cs es s x ls bs cs es s′
+  did-return {k} e f z = rw z (record { moves = λ d. go d (done d e); most = omega arith })
     where
       go : (d : Due t records js ls bs cs es s x) → Doing (d .loaded .program) (d .config) (d .frame) (s .at) Return
-          → Moves (d .loaded .program) (d .lent) (d .schedule) h (d .config) ls bs cs es
-          (record { at = k; depth = s .depth - 1; thread = s .thread; taken = s .taken; events = s .events })
+          → Moves (d .loaded .program) (d .lent) (d .schedule) h (d .config) ls bs cs es (movedTo s k (s .depth - 1) (s .events))
       go d (returning q) =
           let less : s .depth - 1 ≡ length (d .below) = omega (arith, deep d) in
           record {
@@ -463,15 +459,13 @@ module _ {t : List ℕ} {records : ℕ} {js : List ℕ} {h : ℕ} {ls bs cs es :
           }
 
   -- "x := y[o]"
-  pub did-read : {y l i n k a : ℕ} {v : Value} {ls′ es′ : List ℕ} → x ≡ Read y l i v n → Puts ls ls′ (frameWords * (s .depth - 1) + y) v
-      → Recorded h es (s .events) (record { thread = s .thread; way = M.reading; place = l; index = i; value = v }) es′ a → Settles t js n k
-      → CarriesOut t records js h ls bs cs es s x ls′ bs cs es′
-      (record { at = k; depth = s .depth; thread = s .thread; taken = s .taken; events = a })
-  did-read {y} {l} {i} {n} {k} {a} {v} {ls′} {es′} e w E g = record { moves = λ d. go d (done d e); most = E .most }
+  pub did-read : {y l i n k a : ℕ} {v : Value} {ls′ es′ : List ℕ} {s′ : State} → x ≡ Read y l i v n → Puts ls ls′ (frameWords * (s .depth - 1) + y) v
+      → Recorded h es (s .events) (eventIn s false l i v) es′ a → Settles t js n k → s′ ≡ movedTo s k (s .depth) a
+      → CarriesOut t records js h ls bs cs es s x ls′ bs cs es′ s′
+  did-read {y} {l} {i} {n} {k} {a} {v} {ls′} {es′} e w E g f = rw f (record { moves = λ d. go d (done d e); most = E .most })
     where
       go : (d : Due t records js ls bs cs es s x) → Doing (d .loaded .program) (d .config) (d .frame) (s .at) (Read y l i v n)
-          → Moves (d .loaded .program) (d .lent) (d .schedule) h (d .config) ls′ bs cs es′
-          (record { at = k; depth = s .depth; thread = s .thread; taken = s .taken; events = a })
+          → Moves (d .loaded .program) (d .lent) (d .schedule) h (d .config) ls′ bs cs es′ (movedTo s k (s .depth) a)
       go d (reading y′ o b r p q z u u′ u″) =
           let F = top-frame (tower d) in
           let low : y < length (d .frame .env) = omega (arith, F .long, code-named (d .loaded .same) (d .loaded .sound) (F .found) p .0) in
@@ -498,15 +492,13 @@ module _ {t : List ℕ} {records : ℕ} {js : List ℕ} {h : ℕ} {ls bs cs es :
           }
 
   -- "y[o] := e"
-  pub did-write : {l i j n k a : ℕ} {v : Value} {cs′ es′ : List ℕ} → x ≡ Write l i j v n → Puts cs cs′ j v
-      → Recorded h es (s .events) (record { thread = s .thread; way = M.writing; place = l; index = i; value = v }) es′ a → Settles t js n k
-      → CarriesOut t records js h ls bs cs es s x ls bs cs′ es′
-      (record { at = k; depth = s .depth; thread = s .thread; taken = s .taken; events = a })
-  did-write {l} {i} {j} {n} {k} {a} {v} {cs′} {es′} e w E g = record { moves = λ d. go d (done d e); most = E .most }
+  pub did-write : {l i j n k a : ℕ} {v : Value} {cs′ es′ : List ℕ} {s′ : State} → x ≡ Write l i j v n → Puts cs cs′ j v
+      → Recorded h es (s .events) (eventIn s true l i v) es′ a → Settles t js n k → s′ ≡ movedTo s k (s .depth) a
+      → CarriesOut t records js h ls bs cs es s x ls bs cs′ es′ s′
+  did-write {l} {i} {j} {n} {k} {a} {v} {cs′} {es′} e w E g z = rw z (record { moves = λ d. go d (done d e); most = E .most })
     where
       go : (d : Due t records js ls bs cs es s x) → Doing (d .loaded .program) (d .config) (d .frame) (s .at) (Write l i j v n)
-          → Moves (d .loaded .program) (d .lent) (d .schedule) h (d .config) ls bs cs′ es′
-          (record { at = k; depth = s .depth; thread = s .thread; taken = s .taken; events = a })
+          → Moves (d .loaded .program) (d .lent) (d .schedule) h (d .config) ls bs cs′ es′ (movedTo s k (s .depth) a)
       go d (writing y o m b r u p q z u₀ u₁ u₂ u₃ f) = record {
         config = record {
           stack = recoded (d .frame) (b ⊕ r) ∷ d .below;
@@ -530,14 +522,12 @@ module _ {t : List ℕ} {records : ℕ} {js : List ℕ} {h : ℕ} {ls bs cs es :
       }
 
   -- "select"
-  pub did-select : {j u n k : ℕ} {v : Value} {cs′ : List ℕ} → x ≡ Select j u n → v ≡ Whole (pos u) → Puts cs cs′ j v → Settles t js n k
-      → CarriesOut t records js h ls bs cs es s x ls bs cs′ es
-      (record { at = k; depth = s .depth; thread = u; taken = s .taken + 1; events = s .events })
-  did-select {j} {u} {n} {k} {v} {cs′} e i w g = record { moves = λ d. go d (done d e); most = omega arith }
+  pub did-select : {j u n k : ℕ} {v : Value} {cs′ : List ℕ} {s′ : State} → x ≡ Select j u n → v ≡ Whole (pos u) → Puts cs cs′ j v → Settles t js n k
+      → s′ ≡ selectedTo s k u → CarriesOut t records js h ls bs cs es s x ls bs cs′ es s′
+  did-select {j} {u} {n} {k} {v} {cs′} e i w g f = rw f (record { moves = λ d. go d (done d e); most = omega arith })
     where
       go : (d : Due t records js ls bs cs es s x) → Doing (d .loaded .program) (d .config) (d .frame) (s .at) (Select j u n)
-          → Moves (d .loaded .program) (d .lent) (d .schedule) h (d .config) ls bs cs′ es
-          (record { at = k; depth = s .depth; thread = u; taken = s .taken + 1; events = s .events })
+          → Moves (d .loaded .program) (d .lent) (d .schedule) h (d .config) ls bs cs′ es (selectedTo s k u)
       go d (selecting a b us b′ r o p q z u₀ u₁ u₂ f) =
           let η : Memory = d .config .memory in
           let rest : drop (s .taken) (d .schedule) ≡ u ∷ us = sym (d .present .todo) ∙ u₀ in
@@ -564,14 +554,12 @@ module _ {t : List ℕ} {records : ℕ} {js : List ℕ} {h : ℕ} {ls bs cs es :
           }
 
   -- "call procedure m"
-  pub did-call : {m n k v : ℕ} {ls′ bs′ : List ℕ} → x ≡ Call m n → Settles t js n k → Enters t records (s .depth) m k ls bs ls′ bs′ v
-      → CarriesOut t records js h ls bs cs es s x ls′ bs′ cs es
-      (record { at = v; depth = s .depth + 1; thread = s .thread; taken = s .taken; events = s .events })
-  did-call {m} {n} {k} {v} {ls′} {bs′} e g N = record { moves = λ d. go d (done d e); most = omega arith }
+  pub did-call : {m n k v : ℕ} {ls′ bs′ : List ℕ} {s′ : State} → x ≡ Call m n → Settles t js n k → Enters t records (s .depth) m k ls bs ls′ bs′ v
+      → s′ ≡ movedTo s v (s .depth + 1) (s .events) → CarriesOut t records js h ls bs cs es s x ls′ bs′ cs es s′
+  did-call {m} {n} {k} {v} {ls′} {bs′} e g N f = rw f (record { moves = λ d. go d (done d e); most = omega arith })
     where
       go : (d : Due t records js ls bs cs es s x) → Doing (d .loaded .program) (d .config) (d .frame) (s .at) (Call m n)
-          → Moves (d .loaded .program) (d .lent) (d .schedule) h (d .config) ls′ bs′ cs es
-          (record { at = v; depth = s .depth + 1; thread = s .thread; taken = s .taken; events = s .events })
+          → Moves (d .loaded .program) (d .lent) (d .schedule) h (d .config) ls′ bs′ cs es (movedTo s v (s .depth + 1) (s .events))
       go d (calling as′ b r vs o w z u) =
           let ps : List (Proc Plain) = d .loaded .program .procs in
           let F = top-frame (tower d) in

@@ -27,7 +27,7 @@ use Rattle.machines.specs.Copy as C
 use Rattle.machines.specs.Buffers.{cellSize}
 use Rattle.machines.specs.Calls.{endNumber, Outcome, sequentialOutcome}
 use Rattle.machines.specs.Work.{Clears, frameWords, localWords, Framed, Holds, Bases}
-use Rattle.machines.specs.Events.{Logged}
+use Rattle.machines.specs.Events.{Logged, wayOf}
 use Rattle.machines.specs.Decided.{Act, actOf, actEnd, decided, chosen}
 use Rattle.machines.specs.Jumps.{positions, Jumps}
 use Rattle.machines.specs.Frames.{Stacked}
@@ -96,6 +96,10 @@ pub record Due (t : List ℕ) (records : ℕ) (js ls bs cs es : List ℕ) (s : S
 
 -- ---- what it leaves
 
+-- what is read or written in the state s
+abbrev pub eventIn : State → Bool → ℕ → ℕ → Value → Event
+eventIn s writes l i v = record { thread = s .thread; way = wayOf writes; place = l; index = i; value = v }
+
 -- "records only locations below h": an event was written as number n, or not
 pub record Recorded (h : ℕ) (es : List ℕ) (n : ℕ) (e : Event) (es′ : List ℕ) (n′ : ℕ) : Type 0 where
   pub logged : (lent : List ℕ) (evs : List Event) → Logged lent evs es n → Logged lent (pick (ltb (e .place) h) (evs ++ (e ∷ [])) evs) es′ n′
@@ -113,6 +117,14 @@ pub record Enters (t : List ℕ) (records d m k : ℕ) (ls bs ls′ bs′ : List
   pub back : bs′ ≡ set bs d k
   pub clears : Clears ls ls′ (frameWords * d + getD t (records + 6 * m) 0) (frameWords * d + getD t (records + 6 * m + 1) 0)
   pub start : v ≡ numberAt 4 t (records + 6 * m + 2)
+
+-- the state in which the run goes on at k, with d frames and n events
+abbrev pub movedTo : State → ℕ → ℕ → ℕ → State
+movedTo s k d n = record { at = k; depth = d; thread = s .thread; taken = s .taken; events = n }
+
+-- the state in which it goes on at k, with the next entry u taken
+abbrev pub selectedTo : State → ℕ → ℕ → State
+selectedTo s k u = record { at = k; depth = s .depth; thread = u; taken = s .taken + 1; events = s .events }
 
 -- the definition's step from c, and its configuration at work
 pub record Moves (p : Program Plain) (lent ts : List ℕ) (h : ℕ) (c : C.Config) (ls bs cs es : List ℕ) (s : State) : Type 0 where

@@ -18,9 +18,8 @@ ghost use Prim.Native.Nat.{_+_, _^_, _≤_, _<_};
 ghost use lib.IntN.{pos};
 ghost use lib.ListN.{length};
 ghost use Rattle.value.specs.declared.Value.the-variants.{Whole};
-ghost use Rattle.machines.specs.Events.{eventOf};
 ghost use Rattle.machines.specs.Jumps.{positions};
-ghost use Rattle.machines.specs.Sequential.{mostFrames, Recorded, Enterable, Enters, Due, CarriesOut, Facing, Faces, UsedUp, ranWith, Starting, Runs, Accepted, Outcomes};
+ghost use Rattle.machines.specs.Sequential.{mostFrames, eventIn, Recorded, movedTo, selectedTo, Enterable, Enters, Due, CarriesOut, Facing, Faces, UsedUp, ranWith, Starting, Runs, Accepted, Outcomes};
 
 // "P not 1..512": a position for each frame, by the number of frames up to it.
 pub const FRAMES: usize = 513;
@@ -78,15 +77,58 @@ fn number(entry: u8) -> Value
 }
 
 // "records only locations below h". Answers how many events there are.
-fn record_event(events: &mut [u8], h: usize, count: usize, e: Event) -> usize
-    requires { ⌜ count + 1 < 2 ^ 64 ⌝ }
-    ensures { λ r. ⌜ Recorded h (now (events .entry)) count (eventOf e) (now (events .exit)) r ⌝ }
+fn record_event(
+    events: &mut [u8],
+    h: usize,
+    state: State,
+    writes: bool,
+    location: usize,
+    index: usize,
+    value: Value,
+) -> usize
+    requires { ⌜ state .events + 1 < 2 ^ 64 ⌝ }
+    ensures { λ r. ⌜ Recorded h (now (events .entry)) (state .events) (eventIn state writes location index value) (now (events .exit)) r ⌝ }
 {
-    if e.location < h {
+    let count = state.events;
+    if location < h {
+        let e = Event {
+            thread: state.thread,
+            writes,
+            location,
+            index,
+            value,
+        };
         event::write_event(events, count, e);
         return count + 1;
     }
     count
+}
+
+// The state in which a run goes on at `at`, with so many frames and events.
+fn moved(state: State, at: usize, depth: usize, events: usize) -> State
+    ensures { λ r. ⌜ r ≡ movedTo state at depth events ⌝ }
+{
+    State {
+        at,
+        depth,
+        thread: state.thread,
+        taken: state.taken,
+        events,
+    }
+}
+
+// The state in which a run goes on at `at` that took an entry of the schedule.
+fn selected(state: State, at: usize, thread: u8) -> State
+    requires { ⌜ state .taken + 1 < 2 ^ 64 ⌝ }
+    ensures { λ r. ⌜ r ≡ selectedTo state at thread ⌝ }
+{
+    State {
+        at,
+        depth: state.depth,
+        thread,
+        taken: state.taken + 1,
+        events: state.events,
+    }
 }
 
 // Procedure `m` begins above `depth` frames; its arguments are in its frame already, and the frame below is to go on at `next`.
@@ -114,7 +156,8 @@ fn enter(
     wide(table::four(t, record + 2))
 }
 
-// Carries out a step that was decided. A test goes on by the jump table, a return where the frame below was left.
+// Carries out a step that was decided. A test goes on by the jump table, a return where the frame below was left. Nothing stands before
+// the match and each way makes its state anew: so the compiled code goes from what decides a step straight to what carries it out.
 fn carry_out(
     t: &[u8],
     records: usize,
@@ -130,19 +173,15 @@ fn carry_out(
     requires { ⌜ Due (now t) records (now jumps) (now words) (now back) (now cells) (now events) state step ⌝ }
     ensures { λ r. ⌜ CarriesOut (now (t .entry)) records (now (jumps .entry)) h (now (words .entry)) (now (back .entry)) (now (cells .entry)) (now (events .entry)) state step (now (words .exit)) (now (back .exit)) (now (cells .exit)) (now (events .exit)) r ⌝ }
 {
-    let depth = state.depth;
-    let base = FRAME * (depth - 1);
-    let mut after = state;
     match step {
         Step::Return => {
-            after.at = wide(back[depth - 1]);
-            after.depth = depth - 1;
-            after
+            let depth = state.depth - 1;
+            moved(state, wide(back[depth]), depth, state.events)
         }
         Step::Assign { x, value, next } => {
-            locals::put(words, base, x, value);
-            after.at = jumps::settle(t, jumps, next);
-            after
+            locals::put(words, FRAME * (state.depth - 1), x, value);
+            let to = jumps::settle(t, jumps, next);
+            moved(state, to, state.depth, state.events)
         }
         Step::Read {
             x,
@@ -151,17 +190,9 @@ fn carry_out(
             value,
             next,
         } => {
-            locals::put(words, base, x, value);
-            let e = Event {
-                thread: state.thread,
-                writes: false,
-                location,
-                index,
-                value,
-            };
-            after.events = record_event(events, h, state.events, e);
-            after.at = jumps::settle(t, jumps, next);
-            after
+            locals::put(words, FRAME * (state.depth - 1), x, value);
+            let count = record_event(events, h, state, false, location, index, value);
+            moved(state, jumps::settle(t, jumps, next), state.depth, count)
         }
         Step::Write {
             location,
@@ -171,35 +202,23 @@ fn carry_out(
             next,
         } => {
             memory::put(cells, cell, value);
-            let e = Event {
-                thread: state.thread,
-                writes: true,
-                location,
-                index,
-                value,
-            };
-            after.events = record_event(events, h, state.events, e);
-            after.at = jumps::settle(t, jumps, next);
-            after
+            let count = record_event(events, h, state, true, location, index, value);
+            moved(state, jumps::settle(t, jumps, next), state.depth, count)
         }
         Step::Test { truth, next } => {
-            after.at = jumps::branch(t, jumps, state.at, truth, next);
-            after
+            let to = jumps::branch(t, jumps, state.at, truth, next);
+            moved(state, to, state.depth, state.events)
         }
         Step::Call { procedure, next } => {
             let to = jumps::settle(t, jumps, next);
-            after.at = enter(t, records, words, back, depth, procedure, to);
-            after.depth = depth + 1;
-            after
+            let start = enter(t, records, words, back, state.depth, procedure, to);
+            moved(state, start, state.depth + 1, state.events)
         }
         Step::Select { cell, thread, next } => {
             memory::put(cells, cell, number(thread));
-            after.at = jumps::settle(t, jumps, next);
-            after.thread = thread;
-            after.taken = state.taken + 1;
-            after
+            selected(state, jumps::settle(t, jumps, next), thread)
         }
-        Step::Blocked => after,
+        Step::Blocked => state,
     }
 }
 
@@ -218,9 +237,10 @@ fn due(
     let at = state.at;
     if t[at] == SELECT {
         let taken = state.taken;
-        return decide::decide_select(t, starts, cells, at, schedule[taken]);
+        decide::decide_select(t, starts, cells, at, schedule[taken])
+    } else {
+        decide::decide(t, words, FRAME * (state.depth - 1), starts, cells, at)
     }
-    decide::decide(t, words, FRAME * (state.depth - 1), starts, cells, at)
 }
 
 // "used up (select and no entry)".
