@@ -90,16 +90,16 @@ pub fn find(starts: &[u32; STARTS], location: usize, index: u32) -> Spot
 pub fn place(starts: &[u32; STARTS], pointer: Answer, offset: Answer) -> Spot
     ensures { λ r. ⌜ Places (now (starts .entry)) (given pointer) (given offset) r ⌝ }
 {
-    let Answer::Is(o) = offset else {
-        return Spot::Nowhere;
-    };
-    let Value::Whole(n) = o else {
-        return Spot::Nowhere;
-    };
     let Answer::Is(p) = pointer else {
         return Spot::Nowhere;
     };
     let Value::Location(l) = p else {
+        return Spot::Nowhere;
+    };
+    let Answer::Is(o) = offset else {
+        return Spot::Nowhere;
+    };
+    let Value::Whole(n) = o else {
         return Spot::Nowhere;
     };
     if n < 0 {

@@ -20,6 +20,6 @@ place-spec =
     (λ c. search (place-ways, needs))
     (λ c. search (place-ways, needs))
     (λ c. search needs)
-    (λ c. high-read (c .before .before .before .before .before .before .before .before .o .given .0 .0) (search needs) (c .if1 .left))
+    (λ c. high-read (c .before .before .o .given .0 .0) (search needs) (c .if1 .left))
     (λ c κs. search needs)
     (λ c. search (place-ways, needs)))
