@@ -21,7 +21,7 @@ use Rattle.reader.specs.Variables.{mentioned, mentions, keep, variables,
 use Rattle.reader.specs.Walks.{arity, Gathers, GathersLeaf, CountsFlags}
 use Rattle.reader.specs.Laws.Variables.{flag-at, row-is, joined-flags}
 use Rattle.reader.specs.Laws.Stands.{first, others, front, back}
-use Rattle.reader.specs.Laws.Grammar.{ExprAt, expr-inside, expr-deep}
+use Rattle.reader.specs.Laws.ExprGrammar.{ExprAt, expr-inside, expr-deep}
 use Rattle.reader.specs.declared.variables.Gathered.{Gathered}
 
 -- ---- one variable

@@ -13,7 +13,8 @@ ghost use Rattle.reader.specs.Rules.{setFirst};
 ghost use Rattle.reader.specs.BitSets.{bits, insert, below};
 ghost use Rattle.reader.specs.Laws.Laid.{Room, Judges, Named};
 ghost use Rattle.reader.specs.Laws.KnownScans.{leafKnown, Knows};
-ghost use Rattle.reader.specs.Laws.SetScans.{settled, SetsPlain, SetsInstr, SetsBlock, procSet};
+ghost use Rattle.reader.specs.Laws.SetPlain.{settled, SetsPlain, SetsInstr, SetsBlock};
+ghost use Rattle.reader.specs.Laws.SetScans.{procSet};
 
 // What is set after a block or an instruction, and where it ends; or that a local may be read before it is set.
 pub enum After {

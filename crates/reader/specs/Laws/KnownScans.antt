@@ -27,7 +27,7 @@ use Rattle.reader.specs.Laws.BitSets.{has-bit, no-bit}
 use Rattle.reader.specs.Laws.Depths.{depth}
 use Rattle.reader.specs.Laws.Fits.{ExprFits}
 use Rattle.reader.specs.Laws.Stands.{Stands, first, others, back, join}
-use Rattle.reader.specs.Laws.Grammar.{ExprAt, ExprsAt, exprs-none, exprs-more, expr-inside}
+use Rattle.reader.specs.Laws.ExprGrammar.{ExprAt, ExprsAt, exprs-none, exprs-more, expr-inside}
 use Rattle.reader.specs.Laws.Tokens.{shift}
 use Rattle.reader.specs.Laws.NameScans.{both-both, both-true}
 
