@@ -106,7 +106,8 @@ plain-at (atomic w) h a b c = absurd (c (first (h .stands)))
 plain-at (select x y) h a b c = record { stands = h .stands; fits = (omega arith, h .fits .1) }
 
 -- and its label
-plain-one : {t : List ℕ} {i d : ℕ} (s : Instr Plain) {j : ℕ} → Grammar.InstrAt t i d s j → (getD t i 0 ≡ 0x23 → ⊥) → (getD t i 0 ≡ 0x24 → ⊥) → countI s ≡ 1
+plain-one : {t : List ℕ} {i d : ℕ} (s : Instr Plain) {j : ℕ} → Grammar.InstrAt t i d s j → (getD t i 0 ≡ 0x23 → ⊥) → (getD t i 0 ≡ 0x24 → ⊥)
+    → countI s ≡ 1
 plain-one (assign x e) h a b = refl
 plain-one (write y o e) h a b = refl
 plain-one (read x y o) h a b = refl
@@ -215,7 +216,8 @@ module _ {t : List ℕ} {i d : ℕ} where
       X .gives (w .b) (w .l) (subst (λ (n : ℕ). Grammar.BlockAt t n d (w .b) (w .l)) (sym (K .ends (w .e) (w .k) (w .test))) (w .first))
 
   -- the second
-  pub else-counts : {x y : Counted} {s : Instr Plain} {j : ℕ} (w : Grammar.IfAt t i d s j) → x ≡ counted (w .l) (count (w .b)) → CountsBlock t (x .next) d y
+  pub else-counts : {x y : Counted} {s : Instr Plain} {j : ℕ} (w : Grammar.IfAt t i d s j) → x ≡ counted (w .l) (count (w .b))
+      → CountsBlock t (x .next) d y
       → y ≡ counted j (count (w .c))
   else-counts {x} {j = j} w e Y =
       Y .gives (w .c) j (subst (λ (n : ℕ). Grammar.BlockAt t n d (w .c) j) (sym (ap (λ (z : Counted). z .next) e)) (w .second))
@@ -242,7 +244,8 @@ module _ {t : List ℕ} {i d : ℕ} where
   }
 
   -- "24 e block block"
-  pub counts-if : {k : ℕ} {x y : Counted} → InstrIn t i d → getD t i 0 ≡ 0x24 → ExprEnds t (i + 1) k → CountsBlock t k d x → CountsBlock t (x .next) d y
+  pub counts-if : {k : ℕ} {x y : Counted} → InstrIn t i d → getD t i 0 ≡ 0x24 → ExprEnds t (i + 1) k → CountsBlock t k d x
+      → CountsBlock t (x .next) d y
       → CountsInstr t i d (counted (y .next) (1 + x .labels + y .labels))
   counts-if {k} {x} {y} h q K X Y = record {
     gives = λ s j a.
@@ -337,4 +340,18 @@ module _ {t : List ℕ} {i d : ℕ} where
         fits = omega (arith, C .rest .inside);
       }))
 
-pub ruleset count-ways = (body-in, then-in, else-in, atomic-in, plain-in, counts-while, counts-if, counts-atomic, counts-plain, count-start, count-instr-in, count-next, count-end)
+pub ruleset count-ways = (
+  body-in,
+  then-in,
+  else-in,
+  atomic-in,
+  plain-in,
+  counts-while,
+  counts-if,
+  counts-atomic,
+  counts-plain,
+  count-start,
+  count-instr-in,
+  count-next,
+  count-end,
+)

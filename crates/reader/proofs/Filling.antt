@@ -25,7 +25,8 @@ sets-append l i [] b = ap (λ (n : ℕ). sets l n b) (omega arith)
 sets-append l i (x ∷ a) b = sets-append (set l i x) (suc i) a b ∙ ap (λ (n : ℕ). sets (sets l i (x ∷ a)) n b) (omega arith)
 
 -- the numbers of a label
-pub put-four : {n n′ : List ℕ} {l a b c d : ℕ} → n′ ≡ set (set (set (set n (4 * l) a) (4 * l + 1) b) (4 * l + 2) c) (4 * l + 3) d → PutsNode n l a b c d n′
+pub put-four : {n n′ : List ℕ} {l a b c d : ℕ} → n′ ≡ set (set (set (set n (4 * l) a) (4 * l + 1) b) (4 * l + 2) c) (4 * l + 3) d
+    → PutsNode n l a b c d n′
 put-four {l = l} e =
     let one : 4 * l + 1 ≡ suc (4 * l) = omega arith in
     let two : 4 * l + 2 ≡ suc (suc (4 * l)) = omega arith in
@@ -104,7 +105,8 @@ module _ (m : ℕ) where
 -- ---- instructions
 
 -- numbers, and then those from a later label on
-pub put-then : {w : ℕ} {n n′ n″ : List ℕ} {l l′ : ℕ} {xs ys : List ℕ} → Put w n l xs n′ → w * l + length xs ≡ w * l′ → Put w n′ l′ ys n″ → Put w n l (xs ++ ys) n″
+pub put-then : {w : ℕ} {n n′ n″ : List ℕ} {l l′ : ℕ} {xs ys : List ℕ} → Put w n l xs n′ → w * l + length xs ≡ w * l′ → Put w n′ l′ ys n″
+    → Put w n l (xs ++ ys) n″
 put-then {w} {n} {l = l} {xs = xs} {ys} P h Q = record {
   wrote = Q .wrote ∙ ap₂ (λ (z : List ℕ) (k : ℕ). sets z k ys) (P .wrote) (sym h) ∙ sym (sets-append n (w * l) xs ys);
 }
@@ -210,11 +212,17 @@ module _ {t : List ℕ} {i d l k m : ℕ} {n : List ℕ} where
               let more : l′ + x .labels ≡ l′ + countI (v .s) = ap (λ (z : Counted). l′ + z .labels) one in
               let place : x .next ≡ i′ + length (instr (v .s)) = at ∙ v .here .stands .ends in
               let rest : Grammar.BlockAt t (x .next) d (v .rest) j = subst (λ (z : ℕ). Grammar.BlockAt t z d (v .rest) j) (sym at) (v .after) in
-              let few : l′ + (countI (v .s) + count (v .rest)) ≤ maxLabels + 1 = subst (λ (z : Block Plain). l′ + count z ≤ maxLabels + 1) (v .is) r in
-              let follow : f ≡ first k (label (l′ + countI (v .s)) (v .rest)) = B .gives d (v .rest) j rest ∙ ap (λ (z : ℕ). first k (label z (v .rest))) more in
+              let few : l′ + (countI (v .s) + count (v .rest)) ≤ maxLabels + 1 =
+              subst (λ (z : Block Plain). l′ + count z ≤ maxLabels + 1) (v .is) r
+              in
+              let follow : f ≡ first k (label (l′ + countI (v .s)) (v .rest)) =
+              B .gives d (v .rest) j rest ∙ ap (λ (z : ℕ). first k (label z (v .rest))) more
+              in
               subst (λ (z : Block Plain). Put 4 n′ l′ (numbers m i′ l′ z k) n‴) (sym (v .is))
               (put-then
-              (put-same refl (ap (λ (z : ℕ). i′ ∷ m ∷ nextOf l′ (v .s) z ∷ otherOf l′ (v .s) z ∷ numbersI m i′ l′ (v .s) z) follow) (I .gives (v .s) (v .k) (v .here) (omega arith)))
+              (put-same refl
+              (ap (λ (z : ℕ). i′ ∷ m ∷ nextOf l′ (v .s) z ∷ otherOf l′ (v .s) z ∷ numbersI m i′ l′ (v .s) z) follow)
+              (I .gives (v .s) (v .k) (v .here) (omega arith)))
               (omega (arith, length-numbersI m (v .s) i′ l′ (first k (label (l′ + countI (v .s)) (v .rest)))))
               (put-same more (ap₂ (λ (y z : ℕ). numbers m y z (v .rest) k) place more) (R .gives (v .rest) j rest (omega arith))));
         });

@@ -9,7 +9,8 @@ use Rattle.value.specs.Maybe.{is}
 use Rattle.value.specs.Lists.{at}
 use Rattle.value.specs.Laws.Maybes.{is-inj, missing}
 use Rattle.value.specs.Laws.Lists.{at-below}
-use Rattle.reader.specs.Syntax.{Instr, assign, write, read, while, if, call, atomic, select, Block, end, step, _⊕_, Proc, Program, Plain, concurrent}
+use Rattle.reader.specs.Syntax.{Instr, assign, write, read, while, if, call, atomic, select}
+use Rattle.reader.specs.Syntax.{Block, end, step, _⊕_, Proc, Program, Plain, concurrent}
 use Rattle.reader.specs.Encode.{expr, instr, block, each, bodiesOf}
 use Rattle.reader.specs.Labels.{count, countI, counts, label, labelI, labels, labelled, first, endOf, endsOf, bodyOf, begins}
 use Rattle.reader.specs.LabelMap.{Node, held, nodes, allNodes, nodeOf, next, other, words, Mapped}
@@ -88,7 +89,9 @@ module _ {t : List ℕ} {c : ℕ} {n b : List ℕ} where
     back = λ n″ b″ r F. M .back n″ b″ r (record {
       map = λ ps j a k.
           let w = first-body ps a (omega arith) in
-          let few : l + (suc (count (w .p .body)) + counts (w .others)) ≤ maxLabels + 1 = subst (λ (z : List (Proc Plain)). l + counts z ≤ maxLabels + 1) (w .is) k in
+          let few : l + (suc (count (w .p .body)) + counts (w .others)) ≤ maxLabels + 1 =
+          subst (λ (z : List (Proc Plain)). l + counts z ≤ maxLabels + 1) (w .is) k
+          in
           subst (λ (z : List (Proc Plain)). Put 4 n₁ l (allNumbers m i l z) n″) (sym (w .is))
           (put-then
           (put-same refl (ap (numbers m i l (w .p .body)) (labels-are w)) (B .gives (w .p .body) (w .k) (w .here) (omega arith)))
@@ -96,7 +99,9 @@ module _ {t : List ℕ} {c : ℕ} {n b : List ℕ} where
           (put-then
           (put-same (labels-are w) (ap (λ (z : ℕ). (z - 1) ∷ m ∷ 0 ∷ 0 ∷ []) (place-is w)) (N .gives (omega (arith, labels-are w))))
           (omega arith)
-          (put-same (ends-are w) (ap₂ (λ (y z : ℕ). allNumbers y (x .next) z (w .others)) one (ends-are w) ∙ ap (λ (z : ℕ). allNumbers (suc m) z (suc (l + count (w .p .body))) (w .others)) (place-is w))
+          (put-same (ends-are w)
+          (ap₂ (λ (y z : ℕ). allNumbers y (x .next) z (w .others)) one (ends-are w)
+          ∙ ap (λ (z : ℕ). allNumbers (suc m) z (suc (l + count (w .p .body))) (w .others)) (place-is w))
           (F .map (w .others) j (after-is w) (omega (arith, labels-are w))))));
       bounds = λ ps j a k.
           let w = first-body ps a (omega arith) in
@@ -189,7 +194,14 @@ module _ (ends : ℕ → ℕ) (m : ℕ) where
         let follow : first (ends m) rest ≡ first (first (ends m) c) (label (l + countI s) b) = first-append (ends m) (label (l + countI s) b) c in
         ap (λ (z : List ℕ). i ∷ m ∷ next (ends m) (step l (labelI l s) rest) ∷ other (ends m) (step l (labelI l s) rest) ∷ z)
         (words-append ends (held m i l (labelI l s) rest) (nodes m (i + length (instr (labelI l s))) (label (l + countI s) b) c))
-        ∙ rw (next-is s l rest, other-is s l rest, held-numbers s i l rest, follow, instr-label s l, nodes-numbers b (i + length (instr s)) (l + countI s) c)
+        ∙ rw (
+          next-is s l rest,
+          other-is s l rest,
+          held-numbers s i l rest,
+          follow,
+          instr-label s l,
+          nodes-numbers b (i + length (instr s)) (l + countI s) c,
+        )
 
 -- of all procedures
 all-numbers : (ends : ℕ → ℕ) (ps : List (Proc Plain)) (m i l : ℕ) → ((q : ℕ) → ends (m + q) ≡ endOf l ps q)
@@ -204,7 +216,8 @@ all-numbers ends (p ∷ ps) m i l h =
     all-numbers ends ps (suc m) j (suc k) (λ q. ap ends (omega arith) ∙ h (suc q) ∙ ap (λ (z : ℕ). endOf z ps q) from)
     in
     words-append ends (nodes m i (label l (p .body)) end)
-    (record { place = i + length (block (label l (p .body))) - 1; proc = m; code = end } ∷ allNodes (suc m) (i + length (block (label l (p .body)))) (labels (l + suc (count (p .body))) ps))
+    (record { place = i + length (block (label l (p .body))) - 1; proc = m; code = end } ∷
+    allNodes (suc m) (i + length (block (label l (p .body)))) (labels (l + suc (count (p .body))) ps))
     ∙ rw (nodes-numbers ends m (p .body) i l end, last, block-label (p .body) l, from, later)
 
 -- ---- looking them up
@@ -219,7 +232,8 @@ abbrev numbersOf : (ℕ → ℕ) → Node → List ℕ
 numbersOf ends n = n .place ∷ n .proc ∷ next (ends (n .proc)) (n .code) ∷ other (ends (n .proc)) (n .code) ∷ []
 
 -- stand at its place
-words-at : (ends : ℕ → ℕ) (ns : List Node) (x y : ℕ) {n : Node} → at ns x ≡ is n → y < 4 → getD (words ends ns) (4 * x + y) 0 ≡ getD (numbersOf ends n) y 0
+words-at : (ends : ℕ → ℕ) (ns : List Node) (x y : ℕ) {n : Node} → at ns x ≡ is n → y < 4
+    → getD (words ends ns) (4 * x + y) 0 ≡ getD (numbersOf ends n) y 0
 words-at ends [] x y e h = missing e
 words-at ends (o ∷ ns) zero y {n} e h =
     let from : 4 * 0 + y ≡ y = omega arith in
@@ -247,20 +261,25 @@ bounds-at (p ∷ ps) l (suc m) y k h =
     rw (from, next) (bounds-at ps (suc (l + count (p .body))) m y (omega arith) h)
 
 -- what was put stands there
-put-look : {w : ℕ} {n : List ℕ} {l : ℕ} {xs n′ : List ℕ} (x : ℕ) → Put w n l xs n′ → w * l + length xs ≤ length n → x < length xs → getD n′ (w * l + x) 0 ≡ getD xs x 0
+put-look : {w : ℕ} {n : List ℕ} {l : ℕ} {xs n′ : List ℕ} (x : ℕ) → Put w n l xs n′ → w * l + length xs ≤ length n → x < length xs
+    → getD n′ (w * l + x) 0 ≡ getD xs x 0
 put-look {w} {n} {l} {xs} {n′} x P fits h =
     let i : ℕ = w * l in
     let first : length (take i n) ≡ i = length-take-le i n (omega arith) in
-    let same : n′ ≡ take i n ++ (xs ++ drop (i + length xs) n) = P .wrote ∙ sets-eq xs n i fits ∙ append-assoc (take i n) xs (drop (i + length xs) n) in
+    let same : n′ ≡ take i n ++ (xs ++ drop (i + length xs) n) =
+    P .wrote ∙ sets-eq xs n i fits ∙ append-assoc (take i n) xs (drop (i + length xs) n)
+    in
     let at : getD (take i n ++ (xs ++ drop (i + length xs) n)) (i + x) 0 ≡ getD (xs ++ drop (i + length xs) n) x 0 =
-    ap (λ (z : ℕ). getD (take i n ++ (xs ++ drop (i + length xs) n)) (z + x) 0) (sym first) ∙ getD-append-add (take i n) (xs ++ drop (i + length xs) n) x 0
+    ap (λ (z : ℕ). getD (take i n ++ (xs ++ drop (i + length xs) n)) (z + x) 0) (sym first)
+    ∙ getD-append-add (take i n) (xs ++ drop (i + length xs) n) x 0
     in
     ap (λ (z : List ℕ). getD z (i + x) 0) same ∙ at ∙ List·getD-append xs (drop (i + length xs) n) 0 x h
 
 -- ---- the map
 
 -- the numbers of all labels and the bounds of all procedures are a program's map
-mapped : (p : Program Plain) {n b n′ b′ : List ℕ} → length n ≡ 1604 → length b ≡ 32 → length (p .procs) ≤ limits concurrent .procs → counts (p .procs) ≤ maxLabels
+mapped : (p : Program Plain) {n b n′ b′ : List ℕ} → length n ≡ 1604 → length b ≡ 32 → length (p .procs) ≤ limits concurrent .procs
+    → counts (p .procs) ≤ maxLabels
     → Put 4 n 1 (allNumbers 0 0 1 (p .procs)) n′ → Put 2 b 0 (allBounds 1 (p .procs)) b′ → Mapped p n′ b′
 mapped p {n} {b} {n′} {b′} ln lb few labels N B = record {
   place = λ l o e. look l 0 e (omega arith) (omega arith);
@@ -301,7 +320,8 @@ pub map-end : {t : List ℕ} {c m i l : ℕ} {n b n′ b′ : List ℕ} → Mapp
 map-end {t} {c} {m} {i} {l} {n} {b} {n′} {b′} M h ln lb = record {
   gives = λ p f e few.
       let bodies : BodiesAt t 0 c (p .procs) (recordsAt p) = subst (λ (z : ℕ). BodiesAt t 0 z (p .procs) (recordsAt p)) e (bodies-at f) in (
-        mapped p ln lb (f .procs .high) few (F .map (p .procs) _ bodies (omega arith)) (F .bounds (p .procs) _ bodies (omega (arith, f .procs .high))),
+        mapped p ln lb (f .procs .high) few (F .map (p .procs) _ bodies (omega arith))
+            (F .bounds (p .procs) _ bodies (omega (arith, f .procs .high))),
         omega (arith, F .last (p .procs) _ bodies),
       );
 }

@@ -97,7 +97,8 @@ module _ (t : List ℕ) (i : ℕ) (h : Here) where
       where
         -- two expressions, and nothing is forbidden
         two-values : (y : ℕ) (m : Read Expr)
-            → endOf t ((m >>= λ (o, r). expr 16 r >>= λ (e, r). is (write y o e, r)) >>= check (allowedI {A = Plain} h)) ≡ endOf t (m >>= λ (o, r). expr 16 r)
+            → endOf t ((m >>= λ (o, r). expr 16 r >>= λ (e, r). is (write y o e, r)) >>= check (allowedI {A = Plain} h))
+            ≡ endOf t (m >>= λ (o, r). expr 16 r)
         two-values y nothing = refl
         two-values y (is got) = always-passes t (expr 16 (got .1)) (write y (got .0)) (allowedI h) (λ e. refl)
 
@@ -108,7 +109,8 @@ module _ (t : List ℕ) (i : ℕ) (h : Here) where
         let next : i + 1 + 1 ≡ i + 2 = omega arith in
         let after : i + 2 + 1 ≡ i + 3 = omega arith in
         rw (instr-at t i d 0x22 inside q, byte-at t (i + 1) (omega arith), next, byte-at t (i + 2) (omega arith), after)
-        (always-passes t (expr 16 (drop (i + 3) t)) (read (getD t (i + 1) 0) (getD t (i + 2) 0)) (allowedI h) (λ e. refl) ∙ one-value (drop (i + 3) t)))
+        (always-passes t (expr 16 (drop (i + 3) t)) (read (getD t (i + 1) 0) (getD t (i + 2) 0)) (allowedI h) (λ e. refl)
+        ∙ one-value (drop (i + 3) t)))
         (λ d short.
         rw (instr-at t i d 0x22 inside q)
         (by-test (leb (length t) (i + 1))

@@ -85,7 +85,8 @@ module _ (t : List ℕ) (i n most : ℕ) where
     -- "parameters over locals"
     pub locals-low : 0 < m → getD t (p + 1) 0 < getD t p 0 → LocalsTest t i n most false
     locals-low some h = record {
-      same = scan-fail headAt 6 (fewLocals most) t i n p m (F .scan) some (rw (params-at t p, locals-at t p, lt-leb (getD t p 0) (getD t (p + 1) 0) h));
+      same = scan-fail headAt 6 (fewLocals most) t i n p m (F .scan) some
+          (rw (params-at t p, locals-at t p, lt-leb (getD t p 0) (getD t (p + 1) 0) h));
     }
 
     module _ (some : 0 < m) (few : getD t p 0 ≤ getD t (p + 1) 0) where

@@ -42,7 +42,11 @@ module _ (k : Kind) (t : List ℕ) (r : Trailer) where
       -- the distance
       pub distance-wrong : (r .back ≡ 6 * r .procs + 2 * r .places + 2 * r .threads → ⊥) → TrailerTest k t r false
       distance-wrong n = record {
-        same = rw (eq-eqb (r .kind) (kindMark k) (kind ∙ e), eq-eqb (r .mark) 0x50 mark, ne-eqb (r .back) (6 * r .procs + 2 * r .places + 2 * r .threads) n);
+        same = rw (
+          eq-eqb (r .kind) (kindMark k) (kind ∙ e),
+          eq-eqb (r .mark) 0x50 mark,
+          ne-eqb (r .back) (6 * r .procs + 2 * r .places + 2 * r .threads) n,
+        );
       }
 
       module _ (back : r .back ≡ 6 * r .procs + 2 * r .places + 2 * r .threads) where

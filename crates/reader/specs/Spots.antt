@@ -23,7 +23,8 @@ mutual
     thens : {i : ℕ} {a : A} {e : Expr} {b f c : Block A} → Spot k d r (i + 1 + length (expr e)) b c → Inner k d r i a (if e b f) c
     elses : {i : ℕ} {a : A} {e : Expr} {b f c : Block A} → Spot k d r (i + 1 + length (expr e) + length (block b)) f c → Inner k d r i a (if e b f) c
 
--- where the body of procedure m begins, if the first begins at i
+-- where the body of procedure m begins, if the first begins at i: counted as a walk goes, from body to body
+-- (`Laws.Walked.body-place`: i more than `Laws.TablePlaces.bodyAt`)
 abbrev pub bodyAt : {A : Type 0} → ℕ → List (Proc A) → ℕ → ℕ
 bodyAt i [] m = i
 bodyAt i (p ∷ ps) zero = i

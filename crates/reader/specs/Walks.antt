@@ -6,7 +6,8 @@ use mathlib.Core.Bool.{Bool}
 use lib.ListN.{length}
 use lib.Seq.{sets}
 use Rattle.value.specs.Laws.Lists.{Each}
-use Rattle.reader.specs.Syntax.{Expr, constant, local, one, two, Instr, assign, write, read, while, if, call, atomic, select, Block, end, step, Proc, Program, Plain}
+use Rattle.reader.specs.Syntax.{Expr, constant, local, one, two}
+use Rattle.reader.specs.Syntax.{Instr, assign, write, read, while, if, call, atomic, select, Block, end, step, Proc, Program, Plain}
 use Rattle.reader.specs.Syntax.{concurrent}
 use Rattle.reader.specs.Encode.{expr, instr, block, each, bodiesOf}
 use Rattle.reader.specs.Labels.{count, countI, counts, label, first}
@@ -130,7 +131,9 @@ module _ (m : ℕ) where
     numbersI i l (write y o e) k = []
     numbersI i l (read x y o) k = []
     numbersI i l (while e b) k = numbers (i + 1 + length (expr e)) (suc l) b l
-    numbersI i l (if e b f) k = numbers (i + 1 + length (expr e)) (suc l) b k ++ numbers (i + 1 + length (expr e) + length (block b)) (suc l + count b) f k
+    numbersI i l (if e b f) k =
+        numbers (i + 1 + length (expr e)) (suc l) b k
+        ++ numbers (i + 1 + length (expr e) + length (block b)) (suc l + count b) f k
     numbersI i l (call q es) k = []
     numbersI i l (atomic b) k = []
     numbersI i l (select x y) k = []

@@ -58,7 +58,8 @@ joined e f g = cc
 
 -- the trailer of a table that p's sections make
 trailer-is : (k : Kind) (p : Program Plain) (t : List ℕ) (r : Trailer) → MiddleFits (r .procs) (r .places) (r .threads) (middleOf p)
-    → r .kind ≡ kindMark k → r .mark ≡ 0x50 → r .back ≡ distance (r .procs) (r .places) (r .threads) → r .whole ≡ length t → t ≡ front p ++ E.trailer r
+    → r .kind ≡ kindMark k → r .mark ≡ 0x50 → r .back ≡ distance (r .procs) (r .places) (r .threads) → r .whole ≡ length t
+    → t ≡ front p ++ E.trailer r
     → r ≡ trailerOf k p
 trailer-is k p t r fits kind mark back whole same =
     let procs : r .procs ≡ length (p .procs) = sym (fits .heads .0) ∙ length-heads 0 (p .procs) in
@@ -84,7 +85,8 @@ closed-by k t r read kind mark back whole room = record {
 }
 
 -- 3 holds
-records-by : (k : Kind) (r : Trailer) (rest : List ℕ) (m : Middle) → All E.middle (MiddleFits (r .procs) (r .places) (r .threads)) (last (r .back) rest) m
+records-by : (k : Kind) (r : Trailer) (rest : List ℕ) (m : Middle)
+    → All E.middle (MiddleFits (r .procs) (r .places) (r .threads)) (last (r .back) rest) m
     → Each (HeadRight (limits k .locals)) (m .heads) × (Each (Within 1 256) (m .sizes) ×
     ((sum (m .sizes) ≤ limits k .cells) × Each (Begun (m .heads)) (starts k (m .mains))))
     → RightRecords k r rest (but (r .back) rest) m
@@ -149,7 +151,8 @@ module _ (k : Kind) (t : List ℕ) where
       let closed : RightTrailer k t (but 16 t) r = closed-by k t r closing kind mark back whole room in
       required 1 _ (upto1 closed) (counts? k t r) λ counts.
       demanded 0 _ upto0
-      (finish-only (middle-exact (r .procs) (r .places) (r .threads)) (last (r .back) (but 16 t)) (bytes-last (r .back) (but 16 t) (bytes-but 16 t h)))
+      (finish-only (middle-exact (r .procs) (r .places) (r .threads)) (last (r .back) (but 16 t))
+      (bytes-last (r .back) (but 16 t) (bytes-but 16 t h)))
       λ m middle.
       required 2 _ (upto2 closed counts) (records? k m) λ right.
       let records : RightRecords k r (but 16 t) (but (r .back) (but 16 t)) m = records-by k r (but 16 t) m middle right in

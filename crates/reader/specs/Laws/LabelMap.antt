@@ -88,7 +88,8 @@ module _ {A : Type 0} (ends : ℕ → ℕ) (m : ℕ) where
     held-labels (read x y o) i l c = refl
     held-labels (while e b) i l c = rw (nodes-labels b (i + 1 + length (expr e)) (suc l) (step l (while e (label (suc l) b)) c))
     held-labels (if e b f) i l c = rw (
-      map-append (labelAt ends) (nodes m (i + 1 + length (expr e)) (label (suc l) b) c) (nodes m (i + 1 + length (expr e) + length (block (label (suc l) b))) (label (suc l + count b) f) c),
+      map-append (labelAt ends) (nodes m (i + 1 + length (expr e)) (label (suc l) b) c)
+          (nodes m (i + 1 + length (expr e) + length (block (label (suc l) b))) (label (suc l + count b) f) c),
       nodes-labels b (i + 1 + length (expr e)) (suc l) c,
       nodes-labels f (i + 1 + length (expr e) + length (block (label (suc l) b))) (suc l + count b) c,
       upto-append (suc l) (count b) (count f),
@@ -161,7 +162,8 @@ pub record NodeSpot (m i : ℕ) (b c : Block ℕ) (n : Node) : Type 0 where
 
 module _ {m : ℕ} {n : Node} where
   -- a spot of what is inside is a spot
-  wider : {i i′ : ℕ} {b b′ c c′ : Block ℕ} → ((k : ℕ) (d r : Block ℕ) → Spot k d r i b c → Spot k d r i′ b′ c′) → NodeSpot m i b c n → NodeSpot m i′ b′ c′ n
+  wider : {i i′ : ℕ} {b b′ c c′ : Block ℕ} → ((k : ℕ) (d r : Block ℕ) → Spot k d r i b c → Spot k d r i′ b′ c′) → NodeSpot m i b c n
+      → NodeSpot m i′ b′ c′ n
   wider f w = record {
     tag = w .tag;
     instr = w .instr;
@@ -242,7 +244,8 @@ all-nodes (q ∷ ps) m i {n} p =
       },
     ))
     (λ o. in-cons o
-    (λ e. rw e (0, omega arith, record { proc = q; found = refl; left = end; after = end; code = refl; ends = λ e. refl; spot = last-spot i (q .body) end }))
+    (λ e. rw e
+    (0, omega arith, record { proc = q; found = refl; left = end; after = end; code = refl; ends = λ e. refl; spot = last-spot i (q .body) end }))
     (λ r. let w : (x : ℕ) × (n .proc ≡ suc m + x) × ProcNode ps j x n = all-nodes ps (suc m) j r in (
       suc (w .0),
       w .1 ∙ omega arith,
@@ -258,7 +261,8 @@ all-nodes (q ∷ ps) m i {n} p =
     )))
 
 -- the nodes of procedure x are among them
-proc-nodes : (ps : List (Proc ℕ)) (m i x : ℕ) {q : Proc ℕ} {n : Node} → at ps x ≡ is q → In n (nodes (m + x) (bodyAt i ps x) (q .body) end) → In n (allNodes m i ps)
+proc-nodes : (ps : List (Proc ℕ)) (m i x : ℕ) {q : Proc ℕ} {n : Node} → at ps x ≡ is q → In n (nodes (m + x) (bodyAt i ps x) (q .body) end)
+    → In n (allNodes m i ps)
 proc-nodes [] m i x e p = missing e
 proc-nodes (o ∷ ps) m i zero {q} {n} e p =
     let j : ℕ = i + length (block (o .body)) in
@@ -318,7 +322,10 @@ module _ {A : Type 0} (p : Program A) where
   -- each label from 1 on has a node
   pub node-there : (l : ℕ) → 1 ≤ l → l ≤ counts (p .procs) → (n : Node) × (nodeOf p l ≡ is n)
   node-there zero h k = absurd (omega arith)
-  node-there (suc l) h k = (_, at-getD (allNodes 0 0 (labelled p .procs)) l (record { place = 0; proc = 0; code = end }) (omega (arith, length-nodes)))
+  node-there (suc l) h k = (
+    _,
+    at-getD (allNodes 0 0 (labelled p .procs)) l (record { place = 0; proc = 0; code = end }) (omega (arith, length-nodes)),
+  )
 
   -- and no other number has
   pub node-range : (l : ℕ) {n : Node} → nodeOf p l ≡ is n → (1 ≤ l) × (l ≤ counts (p .procs))

@@ -356,7 +356,9 @@ module _ (t : List ℕ) (P R : ℕ) where
   count-done {i} {c} {n} C l = record {
     gives = λ p laid.
         let s : Scans t R (tally P 0) 0 c = from-end (C .from) l (omega arith) in
-        let code : Row t 0 (allTokens (p .procs)) (recordsAt p) = all-rows 0 (p .procs) (laid .formed .fits) (all-bodies (laid .kind) p (laid .formed .same)) in
+        let code : Row t 0 (allTokens (p .procs)) (recordsAt p) =
+        all-rows 0 (p .procs) (laid .formed .fits) (all-bodies (laid .kind) p (laid .formed .same))
+        in
         let whole : Row t 0 (allTokens (p .procs)) R = rw (laid .records) code in
         s .gives (allTokens (p .procs)) whole ∙ rw (laid .procs) (all-labels (p .procs));
   }

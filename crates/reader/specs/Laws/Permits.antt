@@ -4,7 +4,8 @@ use mathlib.Core.Path.{_≡_, refl, sym}
 use mathlib.Core.List.{List, [], _∷_}
 use mathlib.Core.Bool.{Bool, true, false, not}
 use Rattle.value.specs.Laws.Tests.{Decides, never, always, _and_, eq?}
-use Rattle.reader.specs.Syntax.{Instr, assign, write, read, while, if, call, atomic, select, Block, end, step, Plain, Kind, concurrent, sequential}
+use Rattle.reader.specs.Syntax.{Instr, assign, write, read, while, if, call, atomic, select}
+use Rattle.reader.specs.Syntax.{Block, end, step, Plain, Kind, concurrent, sequential}
 use Rattle.reader.specs.Rules.{Here, plainly, isConcurrent, allowed, allowedI, allAllowed}
 
 -- an instruction, and a block, may stand here: in a table of this kind, in this procedure, inside an atomic block or not

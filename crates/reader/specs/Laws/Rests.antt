@@ -97,7 +97,11 @@ module _ (inner : List ℕ → Read (Block Plain)) (leaves : (bs : List ℕ) →
   formed-leaves readForm bs = then _ (byte-leaves bs) λ x r. then _ (byte-leaves r) λ y r. then _ (e16 r) λ o r. done _ r
   formed-leaves whileForm bs = then _ (e16 bs) λ e r. then _ (leaves r) λ b r. done _ r
   formed-leaves ifForm bs = then _ (e16 bs) λ e r. then _ (leaves r) λ b r. then _ (leaves r) λ c r. done _ r
-  formed-leaves callForm bs = then _ (number-leaves 2 bs) λ m r. then _ (byte-leaves r) λ n r. then _ (times-leaves (expr 16) e16 n r) λ es r. done _ r
+  formed-leaves callForm bs =
+      then _ (number-leaves 2 bs) λ m r.
+      then _ (byte-leaves r) λ n r.
+      then _ (times-leaves (expr 16) e16 n r) λ es r.
+      done _ r
   formed-leaves atomicForm bs = then _ (leaves bs) λ b r. done _ r
   formed-leaves selectForm bs = then _ (number-leaves 2 bs) λ a r. then _ (number-leaves 2 r) λ b r. done _ r
   formed-leaves noForm bs = none

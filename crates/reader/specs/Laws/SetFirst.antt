@@ -5,7 +5,8 @@ use lib.Dec.{ltb}
 use Rattle.value.specs.Maybe.{Maybe, is, nothing, there, both}
 use Rattle.value.specs.Laws.Tests.{Decides, never, itself, always, _and_}
 use Rattle.value.specs.Laws.Lists.{Each, all?}
-use Rattle.reader.specs.Syntax.{Expr, constant, local, one, two, Instr, assign, write, read, while, if, call, atomic, select, Block, end, step, Program}
+use Rattle.reader.specs.Syntax.{Expr, constant, local, one, two}
+use Rattle.reader.specs.Syntax.{Instr, assign, write, read, while, if, call, atomic, select, Block, end, step, Program}
 use Rattle.reader.specs.Rules.{Known, with, known, afterI, after, setFirst}
 use Rattle.reader.specs.Laws.Reading.{If, so, none, chain, if-so, tested, test-passed}
 

@@ -47,7 +47,8 @@ module _ {A : Type 0} {k i : ℕ} {a : A} {d r b c : Block A} where
   spot-after p = onward p (later itself)
 
   -- the body of a loop: the loop remains after it
-  pub spot-body : {e : Expr} {w : Block A} → Spot k (step a (while e w) d) r i b c → Spot (k + 1 + length (expr e)) w (step a (while e w) (d ⊕ r)) i b c
+  pub spot-body : {e : Expr} {w : Block A} → Spot k (step a (while e w) d) r i b c
+      → Spot (k + 1 + length (expr e)) w (step a (while e w) (d ⊕ r)) i b c
   spot-body p = onward p (inner (body itself))
 
   -- the first branch
@@ -172,9 +173,11 @@ module _ {A : Type 0} where
     inner-goes {i = i} {a} b c (body {e = e} {b = w} p) f =
         goes-in (λ k d r q. inner (body (rw f at q))) (λ o. goes i a (while e w) b c itself (o ∙ rw f)) (spot-goes p)
     inner-goes {i = i} b c (thens {e = e} {b = y} {f = n} p) f =
-        goes-in (λ k d r q. inner (thens (rw f at q))) (λ o. rw (o ∙ f) (goes-in (λ k d r. later) out (joined-goes (i + length (instr (if e y n))) b c))) (spot-goes p)
+        goes-in (λ k d r q. inner (thens (rw f at q)))
+        (λ o. rw (o ∙ f) (goes-in (λ k d r. later) out (joined-goes (i + length (instr (if e y n))) b c))) (spot-goes p)
     inner-goes {i = i} b c (elses {e = e} {b = y} {f = n} p) f =
-        goes-in (λ k d r q. inner (elses (rw f at q))) (λ o. rw (o ∙ f) (goes-in (λ k d r. later) out (joined-goes (i + length (instr (if e y n))) b c))) (spot-goes p)
+        goes-in (λ k d r q. inner (elses (rw f at q)))
+        (λ o. rw (o ∙ f) (goes-in (λ k d r. later) out (joined-goes (i + length (instr (if e y n))) b c))) (spot-goes p)
 
 -- ---- end or instruction, by the byte
 

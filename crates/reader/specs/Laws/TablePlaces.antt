@@ -16,7 +16,7 @@ use Rattle.reader.specs.Laws.Stands.{Stands, others, whole, front as lef
 
 -- ---- where things are
 
--- where the body of procedure m begins
+-- where the body of procedure m begins: the lengths of the bodies before it
 abbrev pub bodyAt : {A : Type 0} → List (Proc A) → ℕ → ℕ
 bodyAt [] m = 0
 bodyAt (p ∷ ps) zero = 0

@@ -35,7 +35,8 @@ row-is f row l h = ext-getD false row (flags f) l (λ x k. h x (omega arith) ∙
 pub joined-flags : (f g : ℕ → Bool) → joined (flags f) (flags g) ≡ flags (λ x. either (f x) (g x))
 joined-flags f g =
     row-is (λ x. either (f x) (g x)) (joined (flags f) (flags g)) refl
-    (λ x h. flag-at (λ y. either (getD (flags f) y false) (getD (flags g) y false)) x false h ∙ ap₂ either (flag-at f x false h) (flag-at g x false h))
+    (λ x h. flag-at (λ y. either (getD (flags f) y false) (getD (flags g) y false)) x false h
+    ∙ ap₂ either (flag-at f x false h) (flag-at g x false h))
 
 -- ---- rows of several expressions
 

@@ -98,5 +98,6 @@ module _ {κ : Kind} {t : List ℕ} {p : Program Plain} (formed : Formed κ t p)
   }
 
   -- what the map says of a label stands at its place
-  pub node-block : (l : ℕ) {n : Node} (e : nodeOf p l ≡ is n) → BlockAt t (n .place) 16 (node-of p l e .left) (n .place + length (block (node-of p l e .left)))
+  pub node-block : (l : ℕ) {n : Node} (e : nodeOf p l ≡ is n)
+      → BlockAt t (n .place) 16 (node-of p l e .left) (n .place + length (block (node-of p l e .left)))
   node-block l e = label-block (node-of p l e .spot)

@@ -59,10 +59,22 @@ abbrev read-block-calls : ℕ → read-block-lts.Claims
 read-block-calls t = (read-instruction-below t, read-instruction.Post)
 
 abbrev read-instruction-calls : ℕ → read-instruction-lts.Claims
-read-instruction-calls t = (read-expr-reads.Asked, read-expr-reads.Learnt, read-block-below t, read-block.Post, may-atomic-reads.Asked, may-atomic-reads.Learnt, within-reads.Asked, within-reads.Learnt, read-plain-reads.Asked, read-plain-reads.Learnt)
+read-instruction-calls t = (
+  read-expr-reads.Asked,
+  read-expr-reads.Learnt,
+  read-block-below t,
+  read-block.Post,
+  may-atomic-reads.Asked,
+  may-atomic-reads.Learnt,
+  within-reads.Asked,
+  within-reads.Learnt,
+  read-plain-reads.Asked,
+  read-plain-reads.Learnt,
+)
 
 pub +read-block+read-instruction-spec : {M : Type 1} → statement M
-+read-block+read-instruction-spec = close μ-read-block μ-read-instruction (λ t. read-block-lts.spec (read-block-calls t) (read-block-at t) read-block.Post read-block-Inv-loop read-block-μ-loop
++read-block+read-instruction-spec = close μ-read-block μ-read-instruction
+    (λ t. read-block-lts.spec (read-block-calls t) (read-block-at t) read-block.Post read-block-Inv-loop read-block-μ-loop
     (λ c. search block-ways)
     (λ c. search block-ways)
     (λ c. search needs)

@@ -6,7 +6,8 @@ use Rattle.reader.proofs.bodies.right_bodies.Statement.{statement}
 use Rattle.reader.proofs.bodies.right_bodies.Tie as tie
 
 abbrev Inv-loop : tie.InvT-loop
-Inv-loop code body records count kind position₀ at₀ procedure₀ left₀ position at procedure left = BodiesFrom (kindOf kind) code body records count position at procedure left
+Inv-loop code body records count kind position₀ at₀ procedure₀ left₀ position at procedure left =
+    BodiesFrom (kindOf kind) code body records count position at procedure left
 
 abbrev μ-loop : tie.MeasureT-loop
 μ-loop code body records count kind position₀ at₀ procedure₀ left₀ position at procedure left = left

@@ -48,10 +48,18 @@ abbrev count-block-calls : ℕ → count-block-lts.Claims
 count-block-calls t = (count-instr-below t, count-instr.Post)
 
 abbrev count-instr-calls : ℕ → count-instr-lts.Claims
-count-instr-calls t = (after-expr-reads.Asked, after-expr-reads.Learnt, count-block-below t, count-block.Post, after-plain-reads.Asked, after-plain-reads.Learnt)
+count-instr-calls t = (
+  after-expr-reads.Asked,
+  after-expr-reads.Learnt,
+  count-block-below t,
+  count-block.Post,
+  after-plain-reads.Asked,
+  after-plain-reads.Learnt,
+)
 
 pub +count-block+count-instr-spec : {M : Type 1} → statement M
-+count-block+count-instr-spec = close μ-count-block μ-count-instr (λ t. count-block-lts.spec (count-block-calls t) (count-block-at t) count-block.Post count-block-Inv-loop count-block-μ-loop
++count-block+count-instr-spec = close μ-count-block μ-count-instr
+    (λ t. count-block-lts.spec (count-block-calls t) (count-block-at t) count-block.Post count-block-Inv-loop count-block-μ-loop
     (λ c. search count-ways)
     (λ c. search needs)
     (λ c. search needs)

@@ -23,7 +23,16 @@ abbrev gather-below : ℕ → In 1 gather-kinds.ps
 gather-below t = and 1 gather-kinds.ps (falls 1 gather-kinds.ps _<_ μ-gather t) gather.Pre
 
 abbrev gather-calls : ℕ → gather-lts.Claims
-gather-calls t = (operands-reads.Asked, operands-reads.Learnt, gather-below t, gather.Post, join-reads.Asked, join-reads.Learnt, leaf-reads.Asked, leaf-reads.Learnt)
+gather-calls t = (
+  operands-reads.Asked,
+  operands-reads.Learnt,
+  gather-below t,
+  gather.Post,
+  join-reads.Asked,
+  join-reads.Learnt,
+  leaf-reads.Asked,
+  leaf-reads.Learnt,
+)
 
 pub +gather-spec : {M : Type 1} → statement M
 +gather-spec = close μ-gather λ t. gather-lts.spec (gather-calls t) (gather-at t) gather.Post

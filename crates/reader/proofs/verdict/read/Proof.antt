@@ -5,17 +5,17 @@ use Rattle.reader.proofs.verdict.read.Statement.{statement}
 use Rattle.reader.proofs.verdict.read.Tie as tie
 
 pub read-spec : {M : Type 1} → statement M
-read-spec =
-    tie.close
-    (tie.spec
+read-spec = tie.close (tie.spec
     (λ c κs. search needs)
     (λ c. search needs)
     (λ c κs. search needs)
     (λ c. search needs)
     (λ c κs.
-    let bytes = slice-bytes (c .before .before .before .before .before .args .table .now) (c .before .before .before .before .shared-slice-known .given) in
-    read-shaped _ _ bytes (c .before .before .before .read-form .ensures) (c .before .form2 .given .1))
+    let shape = c .before .before .before in
+    let bytes = slice-bytes (shape .before .before .args .table .now) (shape .before .shared-slice-known .given) in
+    read-shaped _ _ bytes (shape .read-form .ensures) (c .before .form2 .given .1))
     (λ c.
-    let bytes = slice-bytes (c .before .before .before .before .before .before .args .table .now) (c .before .before .before .before .before .shared-slice-known .given) in
-    read-refused _ _ bytes (c .before .before .before .before .read-form .ensures) (c .before .before .form .given .1) (c .refused .ensures))
+    let shape = c .before .before .before .before in
+    let bytes = slice-bytes (shape .before .before .args .table .now) (shape .before .shared-slice-known .given) in
+    read-refused _ _ bytes (shape .read-form .ensures) (c .before .before .form .given .1) (c .refused .ensures))
     (λ c. search needs))
