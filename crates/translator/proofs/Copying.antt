@@ -14,7 +14,7 @@ use Rattle.value.specs.declared.Value.the-variants.{Whole, Location, Truth}
 use Rattle.reader.specs.Syntax.{Expr, constant, local, one, two}
 use Rattle.reader.specs.Encode.{expr}
 use Rattle.reader.specs.Laws.Stands.{Stands, first, in-take}
-use Rattle.reader.specs.Laws.Grammar.{ExprAt, OneAt, TwoAt, one-here, two-here, local-here, expr-inside, expr-deep}
+use Rattle.reader.specs.Laws.ExprGrammar.{ExprAt, OneAt, TwoAt, one-here, two-here, local-here, expr-inside, expr-deep}
 use Rattle.translator.specs.Code.{shift}
 use Rattle.translator.specs.Laws.Put.{Put}
 use Rattle.translator.specs.Laws.Sources.{Low, Copies}

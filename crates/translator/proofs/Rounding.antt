@@ -23,7 +23,8 @@ use Rattle.translator.specs.Laws.Put.{Put, PutExpr, PutInstr, PutBlock, 
 use Rattle.translator.specs.Laws.Sources.{Takes, Sited}
 use Rattle.translator.specs.Laws.Shapes.{Shaped, MainAt, Hubbed, HubAt, SiteAt}
 use Rattle.translator.specs.Laws.Bodies.{Begun, BeginAt}
-use Rattle.translator.specs.Laws.Zeroth.{judgment, pieceOf, Judged, OneThread, ThreadsLeft, AllThreads, Invokes, Cases, SwitchLeft, Switches, Chooses}
+use Rattle.translator.specs.Laws.Zeroth.{judgment, pieceOf, Judged, OneThread, ThreadsLeft}
+use Rattle.translator.specs.Laws.Zeroth.{AllThreads, Invokes, Cases, SwitchLeft, Switches, Chooses}
 use Rattle.translator.specs.Laws.Zeroth.{Closes}
 use Rattle.translator.specs.Laws.Zeroth.{RoundOf, LoopOf, StartOf, ZerothOf}
 use Rattle.translator.specs.declared.layout.Shape.{Shape}

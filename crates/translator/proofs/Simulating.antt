@@ -241,7 +241,8 @@ module _ {t : List ℕ} {h : Shape} {map bounds : List ℕ} where
           fits =
               spot-has (fits-inherited 16) (v .spot .spot)
               (subst (λ (b : Block ℕ). BlockFits 16 b) (sym (found .3)) (fits-label (f .body) (found .1)
-              (each-at (BlockFits 16) (bodiesOf (q .procs)) (d .proc) (bodies-fit concurrent q (w .sound)) (body-at (q .procs) (d .proc) (found .2)))))
+              (each-at (BlockFits 16) (bodiesOf (q .procs)) (d .proc) (bodies-fit concurrent q (w .sound))
+              (body-at (q .procs) (d .proc) (found .2)))))
 
           named′ : named (labelled q) n (v .left) ≡ true
           named′ =

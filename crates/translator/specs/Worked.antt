@@ -5,7 +5,8 @@ use mathlib.Core.List.{List, [], _∷_}
 use mathlib.Core.Bool.{true, false}
 use Rattle.value.specs.Values.{not, add, less, equal, and}
 use Rattle.value.specs.declared.Value.the-variants.{Truth}
-use Rattle.reader.specs.Syntax.{Expr, constant, local, one, two, assign, write, read, while, if, call, atomic, select, Block, end, Proc, Program, Plain}
+use Rattle.reader.specs.Syntax.{Expr, constant, local, one, two, assign, write, read, while, if, call, atomic, select}
+use Rattle.reader.specs.Syntax.{Block, end, Proc, Program, Plain}
 use Rattle.translator.specs.Code.{_then_, num, loc}
 use Rattle.translator.specs.Translate.{translate}
 

@@ -125,7 +125,8 @@ pub fn put_bodies(
     to: usize,
 ) -> usize
     requires { ⌜ (shape .labels ≤ 400) × (length (now offsets) ≡ 400) ⌝ }
-    ensures { λ r. ⌜ PutsBodies (now (t .entry)) shape (now (map .entry)) (now (bounds .entry)) (now (offsets .exit)) (now (out .entry)) to (now (out .exit)) r ⌝ }
+    ensures { λ r. ⌜ PutsBodies (now (t .entry)) shape (now (map .entry)) (now (bounds .entry)) (now (offsets .exit))
+        (now (out .entry)) to (now (out .exit)) r ⌝ }
 {
     let labels = shape.labels as usize;
     let mut done = 0;

@@ -127,7 +127,8 @@ fn put_code(
     out: &mut [u8],
 ) -> usize
     requires { ⌜ (shape .labels ≤ 400) × (length (now offsets) ≡ 400) ⌝ }
-    ensures { λ r. ⌜ CodeOf (now (t .entry)) shape (now (map .entry)) (now (bounds .entry)) (now (offsets .exit)) (now (out .entry)) (now (out .exit)) r ⌝ }
+    ensures { λ r. ⌜ CodeOf (now (t .entry)) shape (now (map .entry)) (now (bounds .entry)) (now (offsets .exit))
+        (now (out .entry)) (now (out .exit)) r ⌝ }
 {
     let p = put_zeroth(t, shape, bounds, out, 0);
     put_bodies(t, shape, map, bounds, offsets, out, p)

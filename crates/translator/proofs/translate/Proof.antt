@@ -8,19 +8,22 @@ use Rattle.translator.proofs.translate.Tie as tie
 returns : tie.Need-returns
 returns c =
     let start = c .before .before .before .before .before .before in
-    call-refused (start .args .table .now) (c .before .before .before .read-concurrent .ensures) (start .args .out .now) (c .before .if1 .taken) (c .refuse .ensures)
+    call-refused (start .args .table .now) (c .before .before .before .read-concurrent .ensures) (start .args .out .now)
+    (c .before .if1 .taken) (c .refuse .ensures)
 
 -- 0 is answered of an accepted table
 shape-of-requires : tie.Need-shape-of-requires
 shape-of-requires c κs =
     let table = c .before .before .before .before in
-    call-accepts (table .before .args .table .now) (c .before .before .read-concurrent .ensures) (λ i l. table .shared-slice-known .given i .fits) (c .if1 .left)
+    call-accepts (table .before .args .table .now) (c .before .before .read-concurrent .ensures)
+    (λ i l. table .shared-slice-known .given i .fits) (c .if1 .left)
 
 -- the copy is written
 returns-2 : tie.Need-returns-2
 returns-2 c =
     let start = c .before .before .before .before .before .before .before .before .before .before in
-    call-copies (start .args .table .now) (start .args .out .now) (c .before .before .before .before .shape-of .ensures) (c .before .before .write-copy .ensures)
+    call-copies (start .args .table .now) (start .args .out .now)
+    (c .before .before .before .before .shape-of .ensures) (c .before .before .write-copy .ensures)
 
 pub translate-spec : {M : Type 1} → statement M
 translate-spec =
