@@ -20,7 +20,7 @@ use Rattle.machines.specs.Threads as P
 use Rattle.machines.specs.Copy as C
 use Rattle.machines.specs.Laws.Ends.{finished-run, used-run, blocked-run, step-run}
 use Rattle.agreement.specs.Agreement.{atHead, Visit, visits, visitsOf, copyRun, programRun, prices, pricesOf}
-use Rattle.agreement.specs.Laws.Follows.{price-done, price-blocked}
+use Rattle.agreement.specs.Laws.Shows.{price-done, price-blocked}
 
 -- ---- visits
 
