@@ -31,7 +31,8 @@ Known t = (i : ℕ) → Fits w8 (getD t i 0)
 
 module _ (t ts : List ℕ) {cs es : List ℕ} {r : RunAnswer} (known : Known t) where
   -- the program's
-  pub program-ran : _≡_ {A = Outcome} (record { answer = r; cells = cs; events = es }) (concurrentCall t ts (replicate 10240 0) []) → r ≡ programAnswer t ts
+  pub program-ran : _≡_ {A = Outcome} (record { answer = r; cells = cs; events = es }) (concurrentCall t ts (replicate 10240 0) [])
+      → r ≡ programAnswer t ts
   program-ran e = ap (λ x. x .answer) e ∙ program-answers t ts (replicate 10240 0) [] (slice-bytes t known) (simp length-replicate (omega arith))
 
   -- the copy's
@@ -70,7 +71,8 @@ module _ (t ts : List ℕ) {o : List ℕ} {w : WriteAnswer} (W : record { answer
     copy-fits = told-fits t ts (replicate 65536 0) W (slice-bytes t known) written (simp length-replicate (omega arith))
 
     -- one that is
-    pub figures-written : {r : Figures} → r ≡ compared (programAnswer t ts) (copyAnswer (take (w .length) o) ts (readCall concurrent t .locations)) → r ≡ figuresCall t ts
+    pub figures-written : {r : Figures} → r ≡ compared (programAnswer t ts) (copyAnswer (take (w .length) o) ts (readCall concurrent t .locations))
+        → r ≡ figuresCall t ts
     unfolding compared
     figures-written e =
         let p : RunAnswer = programAnswer t ts in

@@ -39,7 +39,8 @@ module _ (input : List ℕ) {r : Figures} where
 
   -- two bytes, then the schedule from `start` to `stop`, then the table
   pub input-split : {start n stop : ℕ} → length input ≤ 20482 → start ≡ min 2 (length input) → n ≡ numberAt 2 input 0
-      → stop ≡ min (start + n) (length input) → r ≡ figuresCall (take (length input - stop) (drop stop input)) (take (stop - start) (drop start input)) → r ≡ told input
+      → stop ≡ min (start + n) (length input)
+      → r ≡ figuresCall (take (length input - stop) (drop stop input)) (take (stop - start) (drop start input)) → r ≡ told input
   unfolding told
   input-split {start} {n} {stop} h first number second e =
       let two : n ≡ unbytes (take 2 input) = number ∙ number-at 2 input 0 in

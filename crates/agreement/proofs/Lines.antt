@@ -12,7 +12,8 @@ use Rattle.value.specs.Laws.Tests.{by-test}
 use Rattle.translator.specs.Laws.Put.{Put}
 use Rattle.translator.proofs.Puts.{put-none, put-then, put-cons, put-same}
 use Rattle.agreement.specs.declared.Figures.{Figures}
-use Rattle.agreement.specs.Line.{digits, spaced, endWord, finishedWord, usedWord, blockedWord, refusedWord, newline, refusedLine, numbers, line, lined}
+use Rattle.agreement.specs.Line.{digits, spaced, endWord, finishedWord, usedWord, blockedWord}
+use Rattle.agreement.specs.Line.{refusedWord, newline, refusedLine, numbers, line, lined}
 
 -- ---- numbers
 
@@ -148,4 +149,16 @@ line-whole {o} {o′} {r} f h P =
     rw (count, bytes)
 
 -- one law for each way
-pub ruleset line-ways = (digits-none, digits-first, digits-last, spaced-digits, end-finished, end-used, end-blocked, refused-parts, line-refused, four-numbers, line-told)
+pub ruleset line-ways = (
+  digits-none,
+  digits-first,
+  digits-last,
+  spaced-digits,
+  end-finished,
+  end-used,
+  end-blocked,
+  refused-parts,
+  line-refused,
+  four-numbers,
+  line-told,
+)

@@ -47,7 +47,8 @@ fn run_copy(copy: &[u8], schedule: &[u8], locations: usize) -> RunAnswer
 
 // Both runs; the copy runs only where the program does.
 fn run_both(table: &[u8], schedule: &[u8], copy: &[u8]) -> Figures
-    ensures { λ r. ⌜ r ≡ compared (programAnswer (now (table .entry)) (now (schedule .entry))) (copyAnswer (now (copy .entry)) (now (schedule .entry)) (readCall concurrent (now (table .entry)) .locations)) ⌝ }
+    ensures { λ r. ⌜ r ≡ compared (programAnswer (now (table .entry)) (now (schedule .entry)))
+        (copyAnswer (now (copy .entry)) (now (schedule .entry)) (readCall concurrent (now (table .entry)) .locations)) ⌝ }
 {
     let program = run_program(table, schedule);
     if program.number != 0 {

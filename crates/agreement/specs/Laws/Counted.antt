@@ -128,7 +128,8 @@ module _ (h : ℕ) (procs : List (Proc Plain)) where
       omega (arith, r .1 .after)
 
   -- a later visit has more steps
-  rising : (n k : ℕ) (c : C.Config) (i : ℕ) (u v : Visit) → at (visits h procs n k c) i ≡ is u → at (visits h procs n k c) (suc i) ≡ is v → u .steps < v .steps
+  rising : (n k : ℕ) (c : C.Config) (i : ℕ) (u v : Visit) → at (visits h procs n k c) i ≡ is u → at (visits h procs n k c) (suc i) ≡ is v
+      → u .steps < v .steps
   rising zero k c i u v p q = by-test (atHead (c .stack)) (λ a. missing (rw a at q)) (λ a. missing (rw a at q))
   rising (suc n) k c i u v p q = by (C.next h procs c) refl (rising n (suc k))
     where
@@ -162,13 +163,15 @@ visits-exactly n p ts v = (so, of)
         let s : v .steps ≡ r .0 = omega (arith, r .1 .after) in
         (omega (arith, r .1 .within), rw s (r .1 .steps ∙ s), rw s (r .1 .config), r .1 .head)
 
-    of : (v .steps ≤ n) × (copyRun (v .steps) p ts .steps ≡ v .steps) × (copyRun (v .steps) p ts .config ≡ v .config) × (atHead (v .config .stack) ≡ true)
+    of : (v .steps ≤ n) × (copyRun (v .steps) p ts .steps ≡ v .steps) × (copyRun (v .steps) p ts .config ≡ v .config) ×
+        (atHead (v .config .stack) ≡ true)
         → In v (visitsOf n p ts)
     of g = visited (length (p .sizes)) (q .procs) n 0 (C.start q ts) v (v .steps)
         (record { within = g .0; after = omega arith; steps = g .1; config = g .2; head = g .3 })
 
 -- THEY ARE IN ORDER.
-pub visits-rise : (n : ℕ) (p : Program Plain) (ts : List ℕ) (k : ℕ) (u v : Visit) → at (visitsOf n p ts) k ≡ is u → at (visitsOf n p ts) (suc k) ≡ is v
+pub visits-rise : (n : ℕ) (p : Program Plain) (ts : List ℕ) (k : ℕ) (u v : Visit) → at (visitsOf n p ts) k ≡ is u
+    → at (visitsOf n p ts) (suc k) ≡ is v
     → u .steps < v .steps
 visits-rise n p ts k u v e f = let q : Program Plain = translate p in rising (length (p .sizes)) (q .procs) n 0 (C.start q ts) k u v e f
 

@@ -76,7 +76,8 @@ figured t ts p reads agree =
     }
 
 -- figures that are no refusal went through 9 and 11
-through : (t ts : List ℕ) (p : Program Plain) → Bytes t → verdict concurrent t ≡ accepted p → figuresOf p ts .number ≡ 0 → Figured t ts (figuresOf p ts) p
+through : (t ts : List ℕ) (p : Program Plain) → Bytes t → verdict concurrent t ≡ accepted p → figuresOf p ts .number ≡ 0
+    → Figured t ts (figuresOf p ts) p
 unfolding Demand3
 through t ts p bytes reads zero =
     by-test (ltb (limits sequential .bytes) (length (table sequential (translate p))))
@@ -85,7 +86,8 @@ through t ts p bytes reads zero =
     (λ b.
     let two = both-passed (leb (length ts) maxEntries) (all (λ t. ltb t (length (p .mains))) ts) b in
     let agree : Agree t p ts budget
-    = demand3 t p ts budget bytes reads (ltb-false _ _ a) (leb-true _ _ (two .0)) (all? (λ t. lt? t (length (p .mains))) ts .so (two .1)) (omega arith) in
+    = demand3 t p ts budget bytes reads (ltb-false _ _ a) (leb-true _ _ (two .0))
+    (all? (λ t. lt? t (length (p .mains))) ts .so (two .1)) (omega arith) in
     rw (a, b, figuresOf) (figured t ts p reads agree))
     (λ b. let z : _≡_ {A = ℕ} 11 0 = rw (a, b, figuresOf) at zero in absurd (omega arith))
 

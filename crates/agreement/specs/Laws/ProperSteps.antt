@@ -94,8 +94,8 @@ pub data Simple : Instr ℕ → Type 0 where
   simple-write : {y : ℕ} {o e : Expr} → Simple (write y o e)
 
 -- a simple instruction goes on with the code after it, and as many locals
-simple-shape : (procs : List (Proc ℕ)) (t m : ℕ) (ρ : Env) (a : ℕ) (c : Block ℕ) (z : Stack ℕ) (η : Memory) (ins : Instr ℕ) → Simple ins → (r : Moved ℕ)
-    → instr procs t m ρ a ins c z η ≡ is r
+simple-shape : (procs : List (Proc ℕ)) (t m : ℕ) (ρ : Env) (a : ℕ) (c : Block ℕ) (z : Stack ℕ) (η : Memory) (ins : Instr ℕ) → Simple ins
+    → (r : Moved ℕ) → instr procs t m ρ a ins c z η ≡ is r
     → (ρ₁ : Env) × (r .stack ≡ record { proc = m; env = ρ₁; code = c } ∷ z) × (length ρ₁ ≡ length ρ)
 simple-shape procs t m ρ a c z η (assign x e) simple-assign r p =
     let b = bind-is (eval ρ e) _ p in (bound ρ x (b .0), ap (λ (o : Moved ℕ). o .stack) (sym (is-inj (b .2))), length-set ρ x (is (b .0)))
@@ -132,7 +132,8 @@ module _ (W : World) (t m : ℕ) where
   one-proper : {ρ : Env} {η : Memory} {a : ℕ} {c : Block ℕ} (n : ℕ) (old : List Event) (A : P.Atomic) (ins : Instr ℕ) → Simple ins
       → Block-proper ρ (step a ins c) η
       → ((ρ₁ : Env) (η₁ : Memory) (old : List Event) → Block-proper ρ₁ c η₁ → block-end n ρ₁ c η₁ old ≡ is A → ProperAtomic A)
-      → (instr (W .source .procs) t m ρ a ins c [] η >>= λ r. P.toEnd (W .source .procs) t n (r .stack) (r .memory) (old ++ r .events)) ≡ is A → ProperAtomic A
+      → (instr (W .source .procs) t m ρ a ins c [] η >>= λ r. P.toEnd (W .source .procs) t n (r .stack) (r .memory) (old ++ r .events)) ≡ is A
+      → ProperAtomic A
   one-proper {ρ} {η} {a} {c} n old A ins kind B ih e =
       let p = bind-is (instr (W .source .procs) t m ρ a ins c [] η) _ e in
       let g = simple-shape (W .source .procs) t m ρ a c [] η ins kind (p .0) (p .1) in
@@ -149,15 +150,19 @@ module _ (W : World) (t m : ℕ) where
   block-proper zero end old A B e = rw (← is-inj e) (B .env, B .memory)
   block-proper zero (step a ins c) old A B e = missing e
   block-proper (suc n) end old A B e = rw (← is-inj e) (B .env, B .memory)
-  block-proper (suc n) (step a (assign x v) c) old A B e = one-proper n old A (assign x v) simple-assign B (λ ρ₁ η₁ old₁ B₁ p. block-proper n c old₁ A B₁ p) e
-  block-proper (suc n) (step a (read x y o) c) old A B e = one-proper n old A (read x y o) simple-read B (λ ρ₁ η₁ old₁ B₁ p. block-proper n c old₁ A B₁ p) e
-  block-proper (suc n) (step a (write y o v) c) old A B e = one-proper n old A (write y o v) simple-write B (λ ρ₁ η₁ old₁ B₁ p. block-proper n c old₁ A B₁ p) e
+  block-proper (suc n) (step a (assign x v) c) old A B e =
+      one-proper n old A (assign x v) simple-assign B (λ ρ₁ η₁ old₁ B₁ p. block-proper n c old₁ A B₁ p) e
+  block-proper (suc n) (step a (read x y o) c) old A B e =
+      one-proper n old A (read x y o) simple-read B (λ ρ₁ η₁ old₁ B₁ p. block-proper n c old₁ A B₁ p) e
+  block-proper (suc n) (step a (write y o v) c) old A B e =
+      one-proper n old A (write y o v) simple-write B (λ ρ₁ η₁ old₁ B₁ p. block-proper n c old₁ A B₁ p) e
   block-proper (suc n) (step a (if v b d) c) {ρ} {η} old A B e =
       let q = bind-is (instr (W .source .procs) t m ρ a (if v b d) c [] η) _ e in
       let u = bind-is (eval ρ v >>= truth) _ (q .1) in
       let nm = both-passed (namedI (W .source) (W .S .L m) (if v b d)) (named (W .source) (W .S .L m) c) (B .named) in
       let nb
-      = both-passed (named (W .source) (W .S .L m) b) (named (W .source) (W .S .L m) d) (both-passed (Rules.ex (W .source) (W .S .L m) v) _ (nm .0) .1) in
+      = both-passed (named (W .source) (W .S .L m) b) (named (W .source) (W .S .L m) d)
+      (both-passed (Rules.ex (W .source) (W .S .L m) v) _ (nm .0) .1) in
       let al = both-passed (Rules.allowedI (inner m) (if v b d)) (Rules.allowed (inner m) c) (B .allowed) in
       let ab = both-passed (Rules.allowed (inner m) b) (Rules.allowed (inner m) d) (al .0) in
       let e′ : block-end n ρ (pick (u .0) b d ⊕ c) η (old ++ []) ≡ is A = rw (← is-inj (u .2)) at (q .2) in
@@ -185,23 +190,30 @@ module _ (W : World) (t m : ℕ) where
       let z : _≡_ {A = Bool} false true = B .allowed in let z′ : _≡_ {A = ℕ} 0 1 = cc in absurd (omega arith)
   block-proper (suc n) (step a (call q es) c) old A B e =
       let z : _≡_ {A = Bool} false true = B .allowed in let z′ : _≡_ {A = ℕ} 0 1 = cc in absurd (omega arith)
-  block-proper (suc n) (step a (atomic b) c) old A B e = let z : _≡_ {A = Bool} false true = B .allowed in let z′ : _≡_ {A = ℕ} 0 1 = cc in absurd (omega arith)
+  block-proper (suc n) (step a (atomic b) c) old A B e =
+      let z : _≡_ {A = Bool} false true = B .allowed in let z′ : _≡_ {A = ℕ} 0 1 = cc in absurd (omega arith)
   block-proper (suc n) (step a (select x y) c) old A B e =
       let z : _≡_ {A = Bool} false true = B .allowed in let z′ : _≡_ {A = ℕ} 0 1 = cc in absurd (omega arith)
 
 -- ---- a step of a thread
 
 -- a step of a thread keeps values proper
-pub proper-code : (W : World) (t m : ℕ) (ρ : Env) (s : Stack ℕ) (η : Memory) → ProperEnv (W .S .h) ρ → AllProper (W .S .h) s → ProperMemory (W .S .h) η
-    → (c : Block ℕ) → FrameSound W m ρ c
+pub proper-code : (W : World) (t m : ℕ) (ρ : Env) (s : Stack ℕ) (η : Memory) → ProperEnv (W .S .h) ρ → AllProper (W .S .h) s
+    → ProperMemory (W .S .h) η → (c : Block ℕ) → FrameSound W m ρ c
     → (r : Moved ℕ) → P.code (W .source .procs) t c m ρ s η ≡ is r → ProperMoved (W .S .h) r
 proper-code W t m ρ s η pρ ps pη end F r p = rw (← is-inj p) (ps, pη)
-proper-code W t m ρ s η pρ ps pη (step a (assign x e) c) F r p = proper-instr W t m ρ a c s η (F .fit .full) pρ ps pη (assign x e) (fit-named (F .fit) .0) r p
-proper-code W t m ρ s η pρ ps pη (step a (write y o e) c) F r p = proper-instr W t m ρ a c s η (F .fit .full) pρ ps pη (write y o e) (fit-named (F .fit) .0) r p
-proper-code W t m ρ s η pρ ps pη (step a (read x y o) c) F r p = proper-instr W t m ρ a c s η (F .fit .full) pρ ps pη (read x y o) (fit-named (F .fit) .0) r p
-proper-code W t m ρ s η pρ ps pη (step a (while e b) c) F r p = proper-instr W t m ρ a c s η (F .fit .full) pρ ps pη (while e b) (fit-named (F .fit) .0) r p
-proper-code W t m ρ s η pρ ps pη (step a (if e b d) c) F r p = proper-instr W t m ρ a c s η (F .fit .full) pρ ps pη (if e b d) (fit-named (F .fit) .0) r p
-proper-code W t m ρ s η pρ ps pη (step a (call q es) c) F r p = proper-instr W t m ρ a c s η (F .fit .full) pρ ps pη (call q es) (fit-named (F .fit) .0) r p
+proper-code W t m ρ s η pρ ps pη (step a (assign x e) c) F r p =
+    proper-instr W t m ρ a c s η (F .fit .full) pρ ps pη (assign x e) (fit-named (F .fit) .0) r p
+proper-code W t m ρ s η pρ ps pη (step a (write y o e) c) F r p =
+    proper-instr W t m ρ a c s η (F .fit .full) pρ ps pη (write y o e) (fit-named (F .fit) .0) r p
+proper-code W t m ρ s η pρ ps pη (step a (read x y o) c) F r p =
+    proper-instr W t m ρ a c s η (F .fit .full) pρ ps pη (read x y o) (fit-named (F .fit) .0) r p
+proper-code W t m ρ s η pρ ps pη (step a (while e b) c) F r p =
+    proper-instr W t m ρ a c s η (F .fit .full) pρ ps pη (while e b) (fit-named (F .fit) .0) r p
+proper-code W t m ρ s η pρ ps pη (step a (if e b d) c) F r p =
+    proper-instr W t m ρ a c s η (F .fit .full) pρ ps pη (if e b d) (fit-named (F .fit) .0) r p
+proper-code W t m ρ s η pρ ps pη (step a (call q es) c) F r p =
+    proper-instr W t m ρ a c s η (F .fit .full) pρ ps pη (call q es) (fit-named (F .fit) .0) r p
 proper-code W t m ρ s η pρ ps pη (step a (atomic b) c) F r p =
     let u = bind-is (P.toEnd (W .source .procs) t (P.size b) (record { proc = m; env = ρ; code = b } ∷ []) η []) _ p in
     let g

@@ -28,7 +28,8 @@ slice-aggregate-run-both c = let fits = array-share-prefix-copy (c .before) in s
 returns-2 : tie.Need-returns-2
 returns-2 c =
     let known = c .before .before .before .before .before .before .before .before in
-    figures-written (known .before .args .table .now) (known .before .args .schedule .now) (c .before .before .before .before .before .translate .ensures)
+    figures-written (known .before .args .table .now) (known .before .args .schedule .now)
+    (c .before .before .before .before .before .translate .ensures)
     (known .shared-slice-known .given) (c .before .before .if1 .left) (c .run-both .ensures)
 
 pub figures-spec : {M : Type 1} → statement M

@@ -7,11 +7,15 @@ use Rattle.agreement.proofs.line.put_numbers.Tie as tie
 -- each call after the one before it
 numbers-put : tie.Need-returns
 numbers-put c =
+    let fourth = c .before .before .before .before .before .before in
+    let third = fourth .before .before .before .before in
+    let second = third .before .before .before .before in
+    let first = second .before .before .before .before in
     four-numbers _ _ _ _
-    (c .before .before .before .before .before .before .before .before .before .before .before .before .before .before .before .before .before .before .put-number .ensures)
-    (c .before .before .before .before .before .before .before .before .before .before .before .before .before .before .put-number2 .ensures)
-    (c .before .before .before .before .before .before .before .before .before .before .put-number3 .ensures)
-    (c .before .before .before .before .before .before .put-number4 .ensures)
+    (first .put-number .ensures)
+    (second .put-number2 .ensures)
+    (third .put-number3 .ensures)
+    (fourth .put-number4 .ensures)
     (c .before .before .put .ensures)
 
 pub put-numbers-spec : {M : Type 1} → statement M
