@@ -32,7 +32,7 @@ use Rattle.machines.specs.Evaluated.{Below, Ready, Evaluates}
 use Rattle.machines.specs.Laws.Work.{beside-same, framed-none}
 use Rattle.machines.specs.Laws.Holding.{cell-full, cell-word, cell-held}
 use Rattle.machines.specs.Decided.{Act, assigns, writes, reads, tests, calls, returns, numberOf, decided, orBlocked, AssignHere, WriteHere, ReadHere, Tests, TestHere, CallHere, ActAt}
-use Rattle.machines.specs.Decided.{argsOf, Poised, Passable, Laid, Lies, Kept, Any, Decides, PassedAs, PassesAll, Passes, DecidesAll}
+use Rattle.machines.specs.Decided.{argsOf, Poised, Passable, Writable, Readable, Laid, Lies, Kept, Any, AssignOf, TestOf, Decides, PassedAs, PassesAll, Passes, DecidesAll}
 
 -- ---- what stands there, by its mark
 
@@ -132,24 +132,17 @@ module _ {t ls : List ℕ} {fb i : ℕ} where
   assign-ready h q = let s = see-assign (h .act) (h .here) q in ready (h .framed) (s .3 .source) (s .3 .below .1)
 
   -- what its value decides
-  assign-step : {r : Valued} {x : ℕ} (h : Poised t ls fb i) (η : Memory) → getD t i 0 ≡ 0x20 → Evaluates t ls fb (i + 2) 16 r → x ≡ getD t (i + 1) 0
-      → orBlocked (given (r .answer) >>= λ v. is (Assign x v (r .next))) ≡ decided (h .env) η (h .act) (h .j)
-  assign-step {x = x} h η q E a =
-      let w = see-assign (h .act) (h .here) q in
-      let p = ready (h .framed) (w .3 .source) (w .3 .below .1) in
-      ap₂ (λ a j. orBlocked (a >>= λ v. is (Assign x v j))) (E .value p) (E .next p)
-      ∙ ap (λ x. orBlocked (eval (h .env) (w .1) >>= λ v. is (Assign x v (h .j)))) (a ∙ w .3 .target)
-      ∙ sym (ap (λ a. decided (h .env) η a (h .j)) (w .2))
-
-  -- it has none
-  pub assign-none : {M : Memory → Type 0} {r : Valued} → getD t i 0 ≡ 0x20 → Evaluates t ls fb (i + 2) 16 r → r .answer ≡ Nothing
-      → Decides t ls fb i M Blocked
-  assign-none q E e = record { step = λ h η m. rw (ap given e) at (assign-step h η q E refl) }
-
-  -- it has one
-  pub assign-some : {M : Memory → Type 0} {r : Valued} {v : Value} {x : ℕ} → getD t i 0 ≡ 0x20 → Evaluates t ls fb (i + 2) 16 r → r .answer ≡ Is v
-      → x ≡ getD t (i + 1) 0 → Decides t ls fb i M (Assign x v (r .next))
-  assign-some q E e a = record { step = λ h η m. rw (ap given e) at (assign-step h η q E a) }
+  pub assign-decides : {M : Memory → Type 0} {r : Valued} {s : Step} → getD t i 0 ≡ 0x20 → Evaluates t ls fb (i + 2) 16 r → AssignOf t i r s
+      → Decides t ls fb i M s
+  assign-decides {r = r} q E A = record {
+    step = λ h η m.
+        let w = see-assign (h .act) (h .here) q in
+        let p = ready (h .framed) (w .3 .source) (w .3 .below .1) in
+        A .step
+        ∙ ap₂ (λ a j. orBlocked (a >>= λ v. is (Assign (getD t (i + 1) 0) v j))) (E .value p) (E .next p)
+        ∙ ap (λ x. orBlocked (eval (h .env) (w .1) >>= λ v. is (Assign x v (h .j)))) (w .3 .target)
+        ∙ sym (ap (λ a. decided (h .env) η a (h .j)) (w .2));
+  }
 
   -- ---- the test of a while or an if
 
@@ -158,31 +151,41 @@ module _ {t ls : List ℕ} {fb i : ℕ} where
   test-ready h q = let s = see-test (h .act) (h .here) q in ready (h .framed) (s .2 .test) (s .2 .below)
 
   -- what its value decides
-  test-step : {r : Valued} (h : Poised t ls fb i) (η : Memory) → Tests t i → Evaluates t ls fb (i + 1) 16 r
-      → orBlocked (given (r .answer) >>= truth >>= λ b. is (Test b (r .next))) ≡ decided (h .env) η (h .act) (h .j)
-  test-step h η q E =
-      let w = see-test (h .act) (h .here) q in
-      let p = ready (h .framed) (w .2 .test) (w .2 .below) in
-      ap₂ (λ a j. orBlocked (a >>= truth >>= λ b. is (Test b j))) (E .value p) (E .next p) ∙ sym (ap (λ a. decided (h .env) η a (h .j)) (w .1))
+  pub test-decides : {M : Memory → Type 0} {r : Valued} {s : Step} → Tests t i → Evaluates t ls fb (i + 1) 16 r → TestOf r s → Decides t ls fb i M s
+  test-decides {r = r} q E A = record {
+    step = λ h η m.
+        let w = see-test (h .act) (h .here) q in
+        let p = ready (h .framed) (w .2 .test) (w .2 .below) in
+        A .step
+        ∙ ap₂ (λ a j. orBlocked (a >>= truth >>= λ b. is (Test b j))) (E .value p) (E .next p)
+        ∙ sym (ap (λ a. decided (h .env) η a (h .j)) (w .1));
+  }
 
-  -- it has none
-  pub test-none : {M : Memory → Type 0} {r : Valued} → Tests t i → Evaluates t ls fb (i + 1) 16 r → r .answer ≡ Nothing → Decides t ls fb i M Blocked
-  test-none q E e = record { step = λ h η m. rw (ap given e) at (test-step h η q E) }
+-- ---- what an expression came to: no value, one of another kind, or the right one
 
-  -- it has one of another kind
-  pub test-other : {M : Memory → Type 0} {r : Valued} {v : Value} → Tests t i → Evaluates t ls fb (i + 1) 16 r → r .answer ≡ Is v
-      → OneOf (0 ∷ 1 ∷ []) (tagOf the-type v) → Decides t ls fb i M Blocked
-  test-other {v = v} q E e k = record { step = λ h η m. rw (ap given e, no-truth v k) at (test-step h η q E) }
+module _ {t : List ℕ} {i : ℕ} {r : Valued} where
+  -- "x := e"
+  pub assign-none : r .answer ≡ Nothing → AssignOf t i r Blocked
+  assign-none e = record { step = rw e }
+
+  pub assign-some : {v : Value} {x : ℕ} → r .answer ≡ Is v → x ≡ getD t (i + 1) 0 → AssignOf t i r (Assign x v (r .next))
+  assign-some e a = record { step = rw (e, a) }
+
+module _ {r : Valued} where
+  -- the test of a while or an if
+  pub test-none : r .answer ≡ Nothing → TestOf r Blocked
+  test-none e = record { step = rw e }
+
+  pub test-other : {v : Value} → r .answer ≡ Is v → OneOf (0 ∷ 1 ∷ []) (tagOf the-type v) → TestOf r Blocked
+  test-other {v} e k = record { step = rw (e, no-truth v k) }
     where
       no-truth : (v : Value) → OneOf (0 ∷ 1 ∷ []) (tagOf the-type v) → truth v ≡ nothing
       no-truth (Truth b) h = absurd (miss (0 ∷ 1 ∷ []) 2 tt h)
       no-truth (Whole z) h = refl
       no-truth (Location l) h = refl
 
-  -- it is true or false
-  pub test-some : {M : Memory → Type 0} {r : Valued} {v : Value} {b : Bool} → Tests t i → Evaluates t ls fb (i + 1) 16 r → r .answer ≡ Is v
-      → v ≡ Truth b → Decides t ls fb i M (Test b (r .next))
-  test-some q E e f = record { step = λ h η m. rw (ap given e, f) at (test-step h η q E) }
+  pub test-some : {v : Value} {b : Bool} → r .answer ≡ Is v → v ≡ Truth b → TestOf r (Test b (r .next))
+  test-some e f = record { step = rw (e, f) }
 
 -- ---- a pointer and an index
 
@@ -412,17 +415,14 @@ module _ {t ls : List ℕ} {fb i : ℕ} where
   pub act-inside : Poised t ls fb i → i < length t
   act-inside h = see-inside t i (length (h .env)) (h .act) (h .j) (h .here)
 
-  pub assign-inside : Poised t ls fb i → getD t i 0 ≡ 0x20 → i + 2 < length t
+  pub assign-inside : Poised t ls fb i → getD t i 0 ≡ 0x20 → i + 1 < length t
   assign-inside h q = omega (arith, expr-inside (see-assign (h .act) (h .here) q .3 .source))
 
-  pub write-inside : Poised t ls fb i → getD t i 0 ≡ 0x21 → i + 2 < length t
-  write-inside h q = omega (arith, expr-inside (see-write (h .act) (h .here) q .4 .offset))
+  pub write-inside : {o e : Valued} → Writable t ls fb i o e → i + 1 < length t
+  write-inside w = omega (arith, expr-inside (see-write (w .poised .act) (w .poised .here) (w .mark) .4 .offset))
 
-  pub read-inside : Poised t ls fb i → getD t i 0 ≡ 0x22 → i + 3 < length t
-  read-inside h q = omega (arith, expr-inside (see-read (h .act) (h .here) q .4 .offset))
-
-  pub test-inside : Poised t ls fb i → Tests t i → i + 1 < length t
-  test-inside h q = omega (arith, expr-inside (see-test (h .act) (h .here) q .2 .test))
+  pub read-inside : {o : Valued} → Readable t ls fb i o → i + 2 < length t
+  read-inside w = omega (arith, expr-inside (see-read (w .poised .act) (w .poised .here) (w .mark) .4 .offset))
 
   pub call-inside : Poised t ls fb i → getD t i 0 ≡ 0x25 → i + 4 ≤ length t
   call-inside h q = see-call (h .act) (h .here) q .3 .inside
@@ -442,15 +442,18 @@ module _ {t ls : List ℕ} {fb i : ℕ} where
   }
 
   module _ {bs cs : List ℕ} {s : Step} where
-    -- a step of any memory, of one of these first cells, of one that these words hold
-    pub decides-any : (getD t i 0 ≡ 0x25 → ⊥) → Decides t ls fb i Any s → DecidesAll t ls ls fb i (Lies bs cs) s
-    decides-any n D = record { decides = record { step = λ h η m. D .step h η (record {}) }; passes = no-args n }
+    -- the step of each instruction but a call
+    pub decides-assign : {e : Valued} → getD t i 0 ≡ 0x20 → Evaluates t ls fb (i + 2) 16 e → AssignOf t i e s → DecidesAll t ls ls fb i (Lies bs cs) s
+    decides-assign q E A = record { decides = assign-decides q E A; passes = no-args (λ n. omega arith) }
 
-    pub decides-laid : (getD t i 0 ≡ 0x25 → ⊥) → Decides t ls fb i (Laid bs) s → DecidesAll t ls ls fb i (Lies bs cs) s
-    decides-laid n D = record { decides = record { step = λ h η m. D .step h η (record { bases = m .bases }) }; passes = no-args n }
+    pub decides-write : getD t i 0 ≡ 0x21 → Decides t ls fb i (Laid bs) s → DecidesAll t ls ls fb i (Lies bs cs) s
+    decides-write q D = record { decides = record { step = λ h η m. D .step h η (record { bases = m .bases }) }; passes = no-args (λ n. omega arith) }
 
-    pub decides-lies : (getD t i 0 ≡ 0x25 → ⊥) → Decides t ls fb i (Lies bs cs) s → DecidesAll t ls ls fb i (Lies bs cs) s
-    decides-lies n D = record { decides = D; passes = no-args n }
+    pub decides-read : getD t i 0 ≡ 0x22 → Decides t ls fb i (Lies bs cs) s → DecidesAll t ls ls fb i (Lies bs cs) s
+    decides-read q D = record { decides = D; passes = no-args (λ n. omega arith) }
+
+    pub decides-test : {e : Valued} → Tests t i → Evaluates t ls fb (i + 1) 16 e → TestOf e s → DecidesAll t ls ls fb i (Lies bs cs) s
+    decides-test q E T = record { decides = test-decides q E T; passes = no-args (λ n. ⊎-elim (λ m. omega arith) (λ m. omega arith) q) }
 
     -- a call's
     pub decides-call : {ls′ : List ℕ} → DecidesAll t ls ls′ fb i Any s → DecidesAll t ls ls′ fb i (Lies bs cs) s
@@ -464,27 +467,30 @@ module _ {t ls : List ℕ} {fb i : ℕ} where
   }
 
 -- one law for each way
-pub ruleset assign-ways = (assign-ready, assign-none, assign-some)
+pub ruleset assign-ways = (assign-none, assign-some)
 
-pub ruleset test-ways = (test-ready, test-none, test-other, test-some)
+pub ruleset test-ways = (test-none, test-other, test-some)
 
-pub ruleset write-ways = (offset-ready, source-ready, write-word, write-none, write-nowhere, write-some)
+pub ruleset write-ways = (write-word, write-none, write-nowhere, write-some)
 
-pub ruleset read-ways = (read-ready, read-word, found-word, read-nowhere, read-empty, read-some)
+pub ruleset read-ways = (read-word, found-word, read-nowhere, read-empty, read-some)
 
 pub ruleset call-ways = (call-ready, call-none, call-some)
 
 pub ruleset decide-ways = (
   act-inside,
+  assign-ready,
+  offset-ready,
+  source-ready,
+  read-ready,
+  test-ready,
   assign-inside,
-  write-inside,
-  read-inside,
-  test-inside,
   call-inside,
   act-tests,
-  decides-any,
-  decides-laid,
-  decides-lies,
+  decides-assign,
+  decides-write,
+  decides-read,
+  decides-test,
   decides-call,
   decides-return,
 )

@@ -34,7 +34,7 @@ use Rattle.machines.specs.Memory.{evals}
 use Rattle.machines.specs.Step.{Frame, Stack}
 use Rattle.machines.specs.Copy as C
 use Rattle.machines.specs.Work.{Beside, frameWords, localWords, Framed, Bases}
-use Rattle.machines.specs.Decided.{Act, assigns, writes, reads, tests, calls, returns, actOf, actEnd, argsOf, ActAt, Poised, Lies, Kept, DecidesAll, SelectHere, Selects, Selectable}
+use Rattle.machines.specs.Decided.{Act, assigns, writes, reads, tests, calls, returns, actOf, actEnd, argsOf, Tests, ActAt, Poised, Lies, Kept, DecidesAll, SelectHere, Selects, Selectable}
 use Rattle.machines.specs.Jumps.{Settled, last, first}
 use Rattle.machines.specs.Frames.{FrameAt, Stacked}
 use Rattle.machines.specs.Sequential.{mostFrames, Present, Decision, leaves, acts, selects, Facing, Faced, Faces, UsedUp}
@@ -42,6 +42,7 @@ use Rattle.machines.specs.Laws.Cells.{shape}
 use Rattle.machines.specs.Laws.Deciding.{act-at}
 use Rattle.machines.proofs.Standing.{Here, stands-here, settled-here, code-inside}
 use Rattle.machines.proofs.Framing.{frame-small, stacked-below, stacked-few}
+use Rattle.machines.proofs.Deciding.{assign-inside, call-inside, act-tests}
 use Rattle.machines.proofs.CarryingOut.{tower-of, deep-of, top-frame, some-size}
 
 -- ---- what stands there
@@ -139,15 +140,53 @@ module _ {t ts ss ls cs : List ℕ} {s : State} (f : Facing t ts ss ls cs s) whe
 pub facing-kept : {t ts ss ls cs : List ℕ} {s : State} → Facing t ts ss ls cs s → Kept ss cs
 facing-kept f = record { memory = f .config .memory; lies = lies f }
 
+-- no select stands at i
+pub record NoSelect (t : List ℕ) (i : ℕ) : Type 0 where
+  pub other : getD t i 0 ≡ 0x27 → ⊥
+
+-- it has another mark, by each way of the match
+module _ {t : List ℕ} {i : ℕ} where
+  pub no-select-return : getD t i 0 ≡ 0x00 → NoSelect t i
+  no-select-return e = record { other = λ q. omega arith }
+
+  pub no-select-assign : getD t i 0 ≡ 0x20 → NoSelect t i
+  no-select-assign e = record { other = λ q. omega arith }
+
+  pub no-select-write : getD t i 0 ≡ 0x21 → NoSelect t i
+  no-select-write e = record { other = λ q. omega arith }
+
+  pub no-select-read : getD t i 0 ≡ 0x22 → NoSelect t i
+  no-select-read e = record { other = λ q. omega arith }
+
+  pub no-select-call : getD t i 0 ≡ 0x25 → NoSelect t i
+  no-select-call e = record { other = λ q. omega arith }
+
+  -- or none of them
+  pub no-select-other : (getD t i 0 ≡ 0x27 → ⊥) → NoSelect t i
+  no-select-other n = record { other = n }
+
 module _ {t ts ss ls cs : List ℕ} {s : State} where
   -- where no select stands
-  pub facing-poised : Facing t ts ss ls cs s → (getD t (s .at) 0 ≡ 0x27 → ⊥) → s .at < length t → Poised t ls (frameWords * (s .depth - 1)) (s .at)
+  pub facing-poised : Facing t ts ss ls cs s → NoSelect t (s .at) → s .at < length t → Poised t ls (frameWords * (s .depth - 1)) (s .at)
   facing-poised f n l = go (viewed f)
     where
       go : View t (f .loaded .program) (f .frame) (s .at) → Poised t ls (frameWords * (s .depth - 1)) (s .at)
       go (ending e z) = poise f returns (s .at) (record { mark = z; inside = l })
       go (acting i d r a c e q h o) = poise f a (actEnd (s .at) i) h
-      go (choosing a b d r c e z u v w y) = absurd (n z)
+      go (choosing a b d r c e z u v w y) = absurd (n .other z)
+
+  -- an assignment has a target
+  pub facing-target : Facing t ts ss ls cs s → getD t (s .at) 0 ≡ 0x20 → s .at < length t → s .at + 1 < length t
+  facing-target f q l = assign-inside (facing-poised f (no-select-assign q) l) q
+
+  -- a call has a callee and a number of arguments
+  pub facing-callee : Facing t ts ss ls cs s → getD t (s .at) 0 ≡ 0x25 → s .at < length t → s .at + 4 ≤ length t
+  facing-callee f q l = call-inside (facing-poised f (no-select-call q) l) q
+
+  -- no other mark than those of a test is left
+  pub facing-tests : Facing t ts ss ls cs s → NoSelect t (s .at) → s .at < length t → (getD t (s .at) 0 ≡ 0x25 → ⊥) → (getD t (s .at) 0 ≡ 0x00 → ⊥)
+      → (getD t (s .at) 0 ≡ 0x20 → ⊥) → (getD t (s .at) 0 ≡ 0x21 → ⊥) → (getD t (s .at) 0 ≡ 0x22 → ⊥) → Tests t (s .at)
+  facing-tests f n l n₁ n₂ n₃ n₄ n₅ = act-tests (facing-poised f n l) n₁ n₂ n₃ n₄ n₅
 
   -- where one does
   pub facing-selectable : Facing t ts ss ls cs s → getD t (s .at) 0 ≡ 0x27 → Selectable t ss cs (s .at)
@@ -195,7 +234,7 @@ present-above {p} sound P B h = record {
 
 module _ {t ts ss ls cs : List ℕ} {s : State} where
   -- an instruction, or a return
-  pub faces-act : {ls′ : List ℕ} {x : Step} → (getD t (s .at) 0 ≡ 0x27 → ⊥) → s .at < length t → 1 ≤ s .depth
+  pub faces-act : {ls′ : List ℕ} {x : Step} → NoSelect t (s .at) → s .at < length t → 1 ≤ s .depth
       → DecidesAll t ls ls′ (frameWords * (s .depth - 1)) (s .at) (Lies ss cs) x → Faces t ts ss ls cs s ls′ x
   unfolding poise
   faces-act {ls′} {x} n l some D = record { faced = λ f. go f (viewed f) }
@@ -221,7 +260,7 @@ module _ {t ts ss ls cs : List ℕ} {s : State} where
                 let asked : argsOf a ≡ es = ap argsOf (is-inj (sym q ∙ ap actOf one)) in
                 rw up at (D .passes .passed g vs (rw asked w));
           }
-      go f (choosing a b d r c e z u v w y) = absurd (n z)
+      go f (choosing a b d r c e z u v w y) = absurd (n .other z)
 
   -- a select
   pub faces-select : {x : Step} {u : ℕ} → getD t (s .at) 0 ≡ 0x27 → u ≡ getD ts (s .taken) 0 → Selects t ss cs (s .at) u x → Faces t ts ss ls cs s ls x
@@ -247,7 +286,23 @@ module _ {t ts ss ls cs : List ℕ} {s : State} where
           clash e = let z : _≡_ {A = ℕ} 0 1 = cc in absurd (omega arith)
 
 -- one law for each way
-pub ruleset facing-ways = (facing-kept, facing-poised, facing-selectable, facing-entry, faces-act, faces-select)
+pub ruleset facing-ways = (
+  no-select-return,
+  no-select-assign,
+  no-select-write,
+  no-select-read,
+  no-select-call,
+  no-select-other,
+  facing-kept,
+  facing-poised,
+  facing-target,
+  facing-callee,
+  facing-tests,
+  facing-selectable,
+  facing-entry,
+  faces-act,
+  faces-select,
+)
 
 -- ---- "used up (select and no entry)"
 

@@ -9,12 +9,13 @@ use lib.ListN.{length, getD, take}
 use lib.Dec.{eqb}
 use Rattle.value.specs.Maybe.{Maybe, is, nothing, _>>=_, when, pick, either}
 use Rattle.value.specs.Lists.{at, sum}
-use Rattle.value.specs.Values.{numberAt}
+use Rattle.value.specs.Values.{given, numberAt}
 use Rattle.value.specs.declared.Value.{Value}
 use Rattle.value.specs.Laws.Lists.{Each}
 use Rattle.reader.specs.Syntax.{Expr, Instr, assign, write, read, while, if, call, atomic, select, Block, step, _⊕_, Proc}
 use Rattle.reader.specs.Encode.{expr, instr}
 use Rattle.reader.specs.Laws.Grammar.{ExprAt, ExprsAt}
+use Rattle.machines.specs.declared.evaluate.Valued.{Valued}
 use Rattle.machines.specs.declared.decide.Passed.{Passed}
 use Rattle.machines.specs.declared.decide.Passed.the-variants.{All, Missing}
 use Rattle.machines.specs.declared.decide.Step.{Step}
@@ -23,7 +24,7 @@ use Rattle.machines.specs.Memory.{Env, lookup, bound, eval, evals, index
 use Rattle.machines.specs.Step.{Stack, Moved, entered, quiet, runs}
 use Rattle.machines.specs.Copy.{running}
 use Rattle.machines.specs.Work.{Beside, frameWords, localWords, Framed, Holds, Bases, IsCell}
-use Rattle.machines.specs.Evaluated.{Below}
+use Rattle.machines.specs.Evaluated.{Below, Evaluates}
 use Rattle.machines.specs.Laws.Cells.{shape}
 
 -- ---- what an instruction asks
@@ -267,6 +268,19 @@ pub record Passable (t ls : List ℕ) (fb i n : ℕ) : Type 0 where
   pub narrow : length env ≤ frameWords
   pub room : fb + frameWords + frameWords ≤ localWords
 
+-- "y[o] := e" stands at i, and its index and value are evaluated
+pub record Writable (t ls : List ℕ) (fb i : ℕ) (o e : Valued) : Type 0 where
+  pub poised : Poised t ls fb i
+  pub mark : getD t i 0 ≡ 0x21
+  pub offset : Evaluates t ls fb (i + 2) 16 o
+  pub source : Evaluates t ls fb (o .next) 16 e
+
+-- "x := y[o]" stands at i, and its index is evaluated
+pub record Readable (t ls : List ℕ) (fb i : ℕ) (o : Valued) : Type 0 where
+  pub poised : Poised t ls fb i
+  pub mark : getD t i 0 ≡ 0x22
+  pub offset : Evaluates t ls fb (i + 3) 16 o
+
 -- a memory of these first cells
 pub record Laid (bs : List ℕ) (η : Memory) : Type 0 where
   pub bases : Bases (shape η) bs
@@ -289,6 +303,14 @@ pub record Any (η : Memory) : Type 0 where
 -- the step of what stands there, in each memory of which M is known
 pub record Decides (t ls : List ℕ) (fb i : ℕ) (M : Memory → Type 0) (s : Step) : Type 0 where
   pub step : (h : Poised t ls fb i) (η : Memory) → M η → s ≡ decided (h .env) η (h .act) (h .j)
+
+-- the step of "x := e" at i, by what e came to
+pub record AssignOf (t : List ℕ) (i : ℕ) (e : Valued) (s : Step) : Type 0 where
+  pub step : s ≡ orBlocked (given (e .answer) >>= λ v. is (Assign (getD t (i + 1) 0) v (e .next)))
+
+-- the step of a while or an if, by what its test came to
+pub record TestOf (e : Valued) (s : Step) : Type 0 where
+  pub step : s ≡ orBlocked (given (e .answer) >>= truth >>= λ q. is (Test q (e .next)))
 
 -- the arguments of a call were passed: the words of the frame above hold their values; or one has none
 abbrev pub PassedAs : {t ls : List ℕ} {fb i n : ℕ} → Passable t ls fb i n → List ℕ → Passed → Type 0

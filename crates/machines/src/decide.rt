@@ -1,5 +1,6 @@
 // The deciding half of a step: reads the instruction that stands at a place, and answers what is to be done.
 use super::evaluate;
+use super::evaluate::Valued;
 use super::locals;
 use super::locals::FRAME;
 use super::memory;
@@ -11,7 +12,7 @@ use value::Value;
 ghost use mathlib.Core.Path.{_≡_};
 ghost use Prim.Native.Nat.{_+_, _≤_, _<_};
 ghost use lib.ListN.{length, getD};
-ghost use Rattle.machines.specs.Decided.{Tests, Poised, Passable, Laid, Lies, Kept, Any, Decides, PassesAll, DecidesAll, Selectable, Selects};
+ghost use Rattle.machines.specs.Decided.{Poised, Passable, Writable, Readable, Laid, Lies, Kept, Any, AssignOf, TestOf, Decides, PassesAll, DecidesAll, Selectable, Selects};
 
 // What a step does. `next` is where the instruction ends, of a test where its expression ends.
 pub enum Step {
@@ -51,12 +52,13 @@ pub enum Step {
     Blocked,
 }
 
+// Each kind of instruction has a function that gets what the instruction's expressions came to. So it is small, and inline in both machines.
+
 // "x := e".
-fn decide_assign(t: &[u8], words: &[u64; locals::WORDS], base: usize, at: usize) -> Step
-    requires { ⌜ Poised (now t) (now words) base at × (getD (now t) at 0 ≡ 0x20) × (at + 2 < length (now t)) ⌝ }
-    ensures { λ r. ⌜ Decides (now (t .entry)) (now (words .entry)) base at Any r ⌝ }
+pub fn decide_assign(t: &[u8], at: usize, e: Valued) -> Step
+    requires { ⌜ at + 1 < length (now t) ⌝ }
+    ensures { λ r. ⌜ AssignOf (now (t .entry)) at e r ⌝ }
 {
-    let e = evaluate::evaluate(t, words, base, at + 2);
     let answer = e.answer;
     let Answer::Is(value) = answer else {
         return Step::Blocked;
@@ -69,11 +71,9 @@ fn decide_assign(t: &[u8], words: &[u64; locals::WORDS], base: usize, at: usize)
 }
 
 // The test of a while or an if.
-fn decide_test(t: &[u8], words: &[u64; locals::WORDS], base: usize, at: usize) -> Step
-    requires { ⌜ Poised (now t) (now words) base at × Tests (now t) at × (at + 1 < length (now t)) ⌝ }
-    ensures { λ r. ⌜ Decides (now (t .entry)) (now (words .entry)) base at Any r ⌝ }
+pub fn decide_test(e: Valued) -> Step
+    ensures { λ r. ⌜ TestOf e r ⌝ }
 {
-    let e = evaluate::evaluate(t, words, base, at + 1);
     let answer = e.answer;
     let Answer::Is(value) = answer else {
         return Step::Blocked;
@@ -88,20 +88,19 @@ fn decide_test(t: &[u8], words: &[u64; locals::WORDS], base: usize, at: usize) -
 }
 
 // "y[o] := e".
-fn decide_write(
+pub fn decide_write(
     t: &[u8],
     words: &[u64; locals::WORDS],
     base: usize,
     starts: &[u32; STARTS],
     at: usize,
+    o: Valued,
+    e: Valued,
 ) -> Step
-    requires { ⌜ Poised (now t) (now words) base at × (getD (now t) at 0 ≡ 0x21) × (at + 2 < length (now t)) ⌝ }
+    requires { ⌜ Writable (now t) (now words) base at o e ⌝ }
     ensures { λ r. ⌜ Decides (now (t .entry)) (now (words .entry)) base at (Laid (now (starts .entry))) r ⌝ }
 {
-    let o = evaluate::evaluate(t, words, base, at + 2);
     let offset = o.answer;
-    let middle = o.next;
-    let e = evaluate::evaluate(t, words, base, middle);
     let answer = e.answer;
     let Answer::Is(value) = answer else {
         return Step::Blocked;
@@ -125,18 +124,18 @@ fn decide_write(
 }
 
 // "x := y[o]".
-fn decide_read(
+pub fn decide_read(
     t: &[u8],
     words: &[u64; locals::WORDS],
     base: usize,
     starts: &[u32; STARTS],
     cells: &[u64; memory::WORDS],
     at: usize,
+    o: Valued,
 ) -> Step
-    requires { ⌜ Poised (now t) (now words) base at × (getD (now t) at 0 ≡ 0x22) × (at + 3 < length (now t)) × Kept (now starts) (now cells) ⌝ }
+    requires { ⌜ Readable (now t) (now words) base at o × Kept (now starts) (now cells) ⌝ }
     ensures { λ r. ⌜ Decides (now (t .entry)) (now (words .entry)) base at (Lies (now (starts .entry)) (now (cells .entry))) r ⌝ }
 {
-    let o = evaluate::evaluate(t, words, base, at + 3);
     let offset = o.answer;
     let pointer = locals::get(words, base, table::byte(t, at + 2));
     let Spot::At {
@@ -193,7 +192,7 @@ fn pass(
 }
 
 // "call procedure m".
-fn decide_call(t: &[u8], words: &mut [u64; locals::WORDS], base: usize, at: usize) -> Step
+pub fn decide_call(t: &[u8], words: &mut [u64; locals::WORDS], base: usize, at: usize) -> Step
     requires { ⌜ Poised (now t) (now words) base at × (getD (now t) at 0 ≡ 0x25) × (at + 4 ≤ length (now t)) ⌝ }
     ensures { λ r. ⌜ DecidesAll (now (t .entry)) (now (words .entry)) (now (words .exit)) base at Any r ⌝ }
 {
@@ -208,6 +207,7 @@ fn decide_call(t: &[u8], words: &mut [u64; locals::WORDS], base: usize, at: usiz
 }
 
 // The step of the instruction or return at `at`, over the locals of the frame at `base`. It is no select and no atomic block.
+// The sequential machine matches on the mark itself (`sequential::due`).
 pub fn decide(
     t: &[u8],
     words: &mut [u64; locals::WORDS],
@@ -220,15 +220,20 @@ pub fn decide(
     ensures { λ r. ⌜ DecidesAll (now (t .entry)) (now (words .entry)) (now (words .exit)) base at (Lies (now (starts .entry)) (now (cells .entry))) r ⌝ }
 {
     let mark = t[at];
-    if mark == 0x25 {
-        return decide_call(t, words, base, at);
-    }
     match mark {
         0x00 => Step::Return,
-        0x20 => decide_assign(t, words, base, at),
-        0x21 => decide_write(t, words, base, starts, at),
-        0x22 => decide_read(t, words, base, starts, cells, at),
-        _ => decide_test(t, words, base, at),
+        0x20 => decide_assign(t, at, evaluate::evaluate(t, words, base, at + 2)),
+        0x21 => {
+            let o = evaluate::evaluate(t, words, base, at + 2);
+            let e = evaluate::evaluate(t, words, base, o.next);
+            decide_write(t, words, base, starts, at, o, e)
+        }
+        0x22 => {
+            let o = evaluate::evaluate(t, words, base, at + 3);
+            decide_read(t, words, base, starts, cells, at, o)
+        }
+        0x25 => decide_call(t, words, base, at),
+        _ => decide_test(evaluate::evaluate(t, words, base, at + 1)),
     }
 }
 

@@ -2,6 +2,7 @@
 use super::RunAnswer;
 use super::decide;
 use super::decide::Step;
+use super::evaluate;
 use super::event;
 use super::event::Event;
 use super::jumps;
@@ -222,7 +223,8 @@ fn carry_out(
     }
 }
 
-// The step that is due: a select asks the schedule's next entry.
+// The step that is due: a select asks the schedule's next entry. For the rest this does what `decide::decide` does: that has other callers,
+// and so would not be compiled into the loop.
 fn due(
     t: &[u8],
     schedule: &[u8],
@@ -235,11 +237,26 @@ fn due(
     ensures { λ r. ⌜ Faces (now (t .entry)) (now (schedule .entry)) (now (starts .entry)) (now (words .entry)) (now (cells .entry)) state (now (words .exit)) r ⌝ }
 {
     let at = state.at;
-    if t[at] == SELECT {
-        let taken = state.taken;
-        decide::decide_select(t, starts, cells, at, schedule[taken])
-    } else {
-        decide::decide(t, words, FRAME * (state.depth - 1), starts, cells, at)
+    let base = FRAME * (state.depth - 1);
+    let mark = t[at];
+    match mark {
+        SELECT => {
+            let taken = state.taken;
+            decide::decide_select(t, starts, cells, at, schedule[taken])
+        }
+        0x00 => Step::Return,
+        0x20 => decide::decide_assign(t, at, evaluate::evaluate(t, words, base, at + 2)),
+        0x21 => {
+            let o = evaluate::evaluate(t, words, base, at + 2);
+            let e = evaluate::evaluate(t, words, base, o.next);
+            decide::decide_write(t, words, base, starts, at, o, e)
+        }
+        0x22 => {
+            let o = evaluate::evaluate(t, words, base, at + 3);
+            decide::decide_read(t, words, base, starts, cells, at, o)
+        }
+        0x25 => decide::decide_call(t, words, base, at),
+        _ => decide::decide_test(evaluate::evaluate(t, words, base, at + 1)),
     }
 }
 

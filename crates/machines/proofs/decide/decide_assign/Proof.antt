@@ -9,8 +9,6 @@ decide-assign-spec =
     tie.close
     (tie.spec
     (λ c. search needs)
-    (λ c κs. search (assign-ways, needs))
-    (λ c. search needs)
     (λ c. search needs)
     (λ c. search (assign-ways, needs))
     (λ c. search needs)

@@ -1,6 +1,6 @@
 -- `machines::decide::decide_read` meets its contract.
 use borrow.Author.Needs.{needs}
-use Rattle.machines.proofs.Deciding.{read-ways}
+use Rattle.machines.proofs.Deciding.{read-inside, read-ways}
 use Rattle.machines.proofs.decide.decide_read.Statement.{statement}
 use Rattle.machines.proofs.decide.decide_read.Tie as tie
 
@@ -8,10 +8,8 @@ pub decide-read-spec : {M : Type 1} → statement M
 decide-read-spec =
     tie.close
     (tie.spec
-    (λ c. search needs)
-    (λ c κs. search (read-ways, needs))
-    (λ c. search needs)
-    (λ c κs. search needs)
+    (λ c. search (read-inside (c .before .pre .0), needs))
+    (λ c κs. search (read-inside (c .before .pre .0), needs))
     (λ c κs. search (read-ways, needs))
     (λ c κs. search needs)
     (λ c. search needs)
@@ -21,6 +19,6 @@ decide-read-spec =
     (λ c. search needs)
     (λ c. search needs)
     (λ c. search (read-ways, needs))
-    (λ c. search needs)
-    (λ c κs. search needs)
+    (λ c. search (read-inside (c .before .before .before .before .before .before .before .before .before .before .before .pre .0), needs))
+    (λ c κs. search (read-inside (c .before .before .before .before .before .before .before .before .before .before .before .pre .0), needs))
     (λ c. search (read-ways, needs)))

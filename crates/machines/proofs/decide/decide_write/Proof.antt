@@ -1,6 +1,6 @@
 -- `machines::decide::decide_write` meets its contract.
 use borrow.Author.Needs.{needs}
-use Rattle.machines.proofs.Deciding.{write-ways}
+use Rattle.machines.proofs.Deciding.{write-inside, write-ways}
 use Rattle.machines.proofs.decide.decide_write.Statement.{statement}
 use Rattle.machines.proofs.decide.decide_write.Tie as tie
 
@@ -9,13 +9,10 @@ decide-write-spec =
     tie.close
     (tie.spec
     (λ c. search needs)
-    (λ c κs. search (write-ways, needs))
-    (λ c κs. search (write-ways, needs))
-    (λ c. search needs)
     (λ c. search needs)
     (λ c. search (write-ways, needs))
-    (λ c. search needs)
-    (λ c κs. search needs)
+    (λ c. search (write-inside (c .before .before .before .before .pre), needs))
+    (λ c κs. search (write-inside (c .before .before .before .before .pre), needs))
     (λ c κs. search (write-ways, needs))
     (λ c κs. search needs)
     (λ c. search needs)

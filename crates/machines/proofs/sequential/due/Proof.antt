@@ -1,6 +1,7 @@
 -- `sequential::due` meets its contract.
 use borrow.Author.Needs.{needs}
 use Rattle.machines.proofs.Facing.{facing-ways}
+use Rattle.machines.proofs.Deciding.{decide-ways}
 use Rattle.machines.proofs.sequential.due.Statement.{statement}
 use Rattle.machines.proofs.sequential.due.Tie as tie
 
@@ -9,10 +10,28 @@ due-spec =
     tie.close
     (tie.spec
     (λ c. search needs)
+    (λ c. search needs)
+    (λ c. search needs)
     (λ c. search facing-ways)
     (λ c κs. search facing-ways)
     (λ c. search needs)
+    (λ c κs. search (facing-ways, decide-ways))
+    (λ c κs. search facing-ways)
     (λ c. search needs)
-    (λ c κs. (search facing-ways, search facing-ways))
-    (λ c. search facing-ways)
-    (λ c. search facing-ways))
+    (λ c κs. search (facing-ways, decide-ways))
+    (λ c κs. search (facing-ways, decide-ways))
+    (λ c κs. search (facing-ways, decide-ways))
+    (λ c. search needs)
+    (λ c κs. search (facing-ways, decide-ways))
+    (λ c κs. search (facing-ways, decide-ways))
+    (λ c κs. search (facing-ways, decide-ways))
+    (λ c. search needs)
+    (λ c κs. search (facing-ways, decide-ways))
+    (λ c κs. search needs)
+    (λ c. search (facing-ways, decide-ways))
+    (λ c. search (facing-ways, decide-ways))
+    (λ c. search (facing-ways, decide-ways))
+    (λ c. search (facing-ways, decide-ways))
+    (λ c. search (facing-ways, decide-ways))
+    (λ c. search (facing-ways, decide-ways))
+    (λ c. search (facing-ways, decide-ways)))
