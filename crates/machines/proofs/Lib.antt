@@ -6,6 +6,8 @@ pub mod Values
 pub mod Operands
 -- one law for each way through the walks that fill the jump table
 pub mod Jumping
+-- the jump table, body by body
+pub mod JumpingBodies
 -- the evaluator, way by way
 pub mod Evaluating
 -- finding a cell, way by way

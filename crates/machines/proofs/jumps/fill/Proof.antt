@@ -1,7 +1,7 @@
 -- `jumps::fill` meets its contract: the bodies before procedure `m` are done, and its own begins at `at`.
 use Prim.Native.Nat.{_-_}
 use borrow.Author.Needs.{needs}
-use Rattle.machines.proofs.Jumping.{Filled, bodies-ways}
+use Rattle.machines.proofs.JumpingBodies.{Filled, bodies-ways}
 use Rattle.machines.proofs.jumps.fill.Statement.{statement}
 use Rattle.machines.proofs.jumps.fill.Tie as tie
 
