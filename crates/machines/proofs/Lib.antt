@@ -34,14 +34,20 @@ pub mod Facing
 pub mod Calling
 -- carrying out a step of a thread, way by way
 pub mod Carrying
--- what is inside an atomic block, way by way
+-- an instruction of an atomic block, way by way
 pub mod Inside
+-- a block of an atomic block, and the whole of it
+pub mod InsideBlock
 -- the first frames of the threads of the concurrent machine
 pub mod Beginning
 -- the run of the concurrent machine, step by step
 pub mod ConcurrentRun
 -- the call of the concurrent machine, from the table to the answer
 pub mod ConcurrentCall
+-- a turn that is an atomic block
+pub mod TurningAtomic
+-- what any other turn asks for
+pub mod TurningAsked
 -- one step of a frame's code, way by way
 pub mod Turning
 -- where a thread goes on after a turn, way by way

@@ -1,316 +1,41 @@
 -- One step of a frame's code, way by way.
-use Prim.Native.Nat.{ℕ, _+_, _-_, _^_, _≤_, _<_}
+use Prim.Native.Nat.{ℕ, _+_, _-_, _≤_, _<_}
 use native.Mathlib.Omega.{arith}
 use mathlib.Core.Path.{_≡_, refl, sym, ap, subst, _∙_}
 use mathlib.Core.List.{List, [], _∷_, _++_, append-nil, append-assoc, map}
-use mathlib.Core.Bool.{Bool, true, false}
-use mathlib.Core.Bool as B
+use mathlib.Core.Bool.{Bool}
 use lib.ListN.{length, getD, replicate, length-append, replicate-append-replicate, List·getD-append}
-use lib.Dec.{eqb}
-use borrow.Author.Tests.{eqb-true, eqb-false}
 use types.Run.{OneOf, miss}
 use denote.Enum.Declared.{tagOf}
-use Rattle.value.specs.Maybe.{Maybe, is, nothing, _>>=_, when, either}
-use Rattle.value.specs.Lists.{at, all}
+use Rattle.value.specs.Maybe.{is, nothing}
 use Rattle.value.specs.declared.Value.{Value}
-use Rattle.value.specs.Laws.Maybes.{is-inj, missing, bind-is}
-use Rattle.value.specs.Laws.Tests.{by-test, never, both-passed}
-use Rattle.reader.specs.Syntax.{local, Instr, assign, write, read, while, if, call, atomic, select, Block, end, step, Proc, Program, Plain, concurrent}
+use Rattle.value.specs.Laws.Maybes.{is-inj, missing}
+use Rattle.reader.specs.Syntax.{Instr, Block, step}
 use Rattle.reader.specs.Labels.{labelled, first, endsOf}
 use Rattle.reader.specs.LabelMap as Map
-use Rattle.reader.specs.Rules.{allowed, allowedI, named, namedI, takes}
-use Rattle.reader.specs.Rules as Rules
-use Rattle.reader.specs.Laws.Stands as S′
-use Rattle.reader.specs.Laws.Grammar.{InstrAt, BlockAt, AtomicAt, atomic-here, block-inside, expr-inside, instr-inside}
-use Rattle.reader.specs.Laws.Names.{takes?}
-use Rattle.reader.specs.Laws.Procs.{bodyIn, takes-at}
 use Rattle.machines.proofs.decide.Step.{the-type}
 use Rattle.machines.specs.declared.decide.Step.{Step}
 use Rattle.machines.specs.declared.decide.Step.the-variants as S
 use Rattle.machines.specs.declared.atomic.Done.{Done}
 use Rattle.machines.specs.declared.atomic.Done.the-variants.{To, Blocked}
-use Rattle.machines.specs.declared.threads.Turn.{Turn}
 use Rattle.machines.specs.declared.threads.Turn.the-variants as T
 use Rattle.machines.specs.Memory.{Env, evals, Memory, Event}
-use Rattle.machines.specs.Step.{Stack, Moved, entered, quiet, runs}
-use Rattle.machines.specs.Step as F
-use Rattle.machines.specs.Threads as P
-use Rattle.machines.specs.Threads.{Atomic, size, toEnd}
+use Rattle.machines.specs.Step.{Stack}
+use Rattle.machines.specs.Threads.{Atomic}
 use Rattle.machines.specs.Work.{frameWords, localWords, Beside, Clears, Framed}
-use Rattle.machines.specs.Decided.{Act, assigns, writes, reads, tests, calls, returns, actOf, actEnd, argsOf, argsIn, branch, decided, targetOf, calleeOf, Right}
+use Rattle.machines.specs.Decided.{Act, assigns, writes, reads, tests, calls, returns, argsOf, decided, calleeOf, Right}
 use Rattle.machines.specs.Decided.{ActAt, Poised, Kept, Lies, DecidesAll}
 use Rattle.machines.specs.Decided as D
-use Rattle.machines.specs.Acts.{within, act}
-use Rattle.machines.specs.Doing.{Works, carried, StepFits, endOf, Past, Carrying, Carries, Doing, DoesWhole}
+use Rattle.machines.specs.Doing.{Works, carried, StepFits, endOf, Past, Carrying, Carries}
 use Rattle.machines.specs.Doing as W
-use Rattle.machines.specs.Turning.{Turning, codeOf, Went, Tested, Calls, Stays, Returns, Answers, Turns}
-use Rattle.machines.specs.Laws.Work.{framed-below, framed-entered, beside-same}
-use Rattle.machines.specs.Laws.Deciding.{does, decided-right, act-at, evals-length, target-below}
-use Rattle.machines.specs.Laws.Acting.{later, acts}
-use Rattle.machines.specs.Laws.Standing.{Standing, Running, at-end, at-instr}
+use Rattle.machines.specs.Turning.{Turning, codeOf, Turns}
+use Rattle.machines.specs.Laws.Work.{framed-below, framed-entered}
+use Rattle.machines.specs.Laws.Deciding.{decided-right, evals-length, target-below}
 use Rattle.machines.specs.Laws.Threading.{beside-wide}
-use Rattle.machines.specs.Laws.Leading.{labelAfter, Called, Leads, leads}
-use Rattle.machines.proofs.Inside.{bare, same-later, bind-none, came, stopped, beside-again}
-
--- ---- an atomic block
-
--- what an atomic block leaves, before code c of procedure m and above the frames s
-abbrev leaves : ℕ → Block ℕ → Stack ℕ → Atomic → Maybe (Moved ℕ)
-leaves m c s r = is (record { stack = record { proc = m; env = r .env; code = c } ∷ s; memory = r .memory; events = r .events })
-
--- a block that is a little less deep
-deeper : {t : List ℕ} {i : ℕ} {b : Block ℕ} {j : ℕ} → BlockAt t i 15 b j → BlockAt t i 16 b j
-deeper h = record { stands = h .stands; fits = (omega (arith, h .fits .0), h .fits .1) }
-
-module _ {t : List ℕ} {thread fb : ℕ} {bs : List ℕ} {i : ℕ} {ls cs o : List ℕ} {n : ℕ} where
-  -- there is a byte
-  pub turn-inside : Turning t thread fb bs i ls cs o n → i < length t
-  turn-inside h = omega (arith, block-inside (h .stands .here))
-
-  -- the atomic block that stands there
-  record Block′ (h : Turning t thread fb bs i ls cs o n) : Type 0 where
-    pub tag : ℕ
-    pub block : Block ℕ
-    pub rest : Block ℕ
-    pub code : h .c ≡ step tag (atomic block) rest
-    pub next : ℕ
-    pub here : BlockAt t (i + 1) 16 block next
-    pub named : named (labelled (h .p)) (length (h .a .env)) block ≡ true
-    pub allowed : allowed (within (h .m)) block ≡ true
-
-  atomic-block : (h : Turning t thread fb bs i ls cs o n) → getD t i 0 ≡ 0x26 → Block′ h
-  atomic-block h e =
-      let w : Running t (h .p) (h .m) i (h .c) = at-instr (h .stands) (λ z. omega arith) in
-      let v : AtomicAt t i 15 (w .instr) (w .next) = atomic-here (w .here) e in
-      record {
-        tag = w .tag;
-        block = v .b;
-        rest = w .rest;
-        code = w .code ∙ ap (λ j. step (w .tag) j (w .rest)) (v .is);
-        next = w .next;
-        here = deeper (v .body);
-        named = names (v .b) w (subst (λ j. namedI (labelled (h .p)) (w .proc .locals) j ≡ true) (v .is) (w .named));
-        allowed = subst (λ j. allowedI (bodyIn concurrent (h .m)) j ≡ true) (v .is) (w .allowed);
-      }
-    where
-      names : (b : Block ℕ) (w : Running t (h .p) (h .m) i (h .c)) → named (labelled (h .p)) (w .proc .locals) b ≡ true
-          → named (labelled (h .p)) (length (h .a .env)) b ≡ true
-      names b w k = rw (h .full (w .proc) (w .found)) k
-
-  -- it can be done
-  pub doing-atomic : getD t i 0 ≡ 0x26 → Turning t thread fb bs i ls cs o n → Doing t thread fb bs (i + 1) 16 ls cs o n
-  doing-atomic e h =
-      let b = atomic-block h e in
-      record {
-        a = h .a;
-        es = h .es;
-        works = h .works;
-        block = b .block;
-        j = b .next;
-        here = b .here;
-        p = labelled (h .p);
-        named = b .named;
-        m = h .m;
-        allowed = b .allowed;
-        few = omega (arith, h .few, block-inside (b .here));
-      }
-
-  module _ (h : Turning t thread fb bs i ls cs o n) (e : getD t i 0 ≡ 0x26) where
-    -- what the code does is what the block does
-    block-code : (s : Stack ℕ) → codeOf (h .p) thread (h .m) (h .c) (h .a) s
-        ≡ (act thread (atomic-block h e .block) (bare (h .a)) >>= leaves (h .m) (atomic-block h e .rest) s)
-    block-code s =
-        let b = atomic-block h e in
-        ap (λ c. codeOf (h .p) thread (h .m) c (h .a) s) (b .code)
-        ∙ ap (_>>= leaves (h .m) (b .rest) s) (acts (labelled (h .p) .procs) thread (h .m) (size (b .block)) (b .block) (omega arith) (b .allowed) (h .a .env) (h .a .memory) [])
-
-  module _ {ls′ cs′ o′ : List ℕ} {r : Done} (e : getD t i 0 ≡ 0x26) (D : DoesWhole t thread fb bs (i + 1) 16 ls cs o n ls′ cs′ o′ r) where
-    -- it blocks
-    pub turns-stopped : r ≡ Blocked → Turns t thread fb bs i ls cs o n ls′ cs′ o′ T.Blocked
-    unfolding doing-atomic
-    turns-stopped q = record {
-      beside = λ h. rw (D .still (doing-atomic e h) q .0) beside-same;
-      answers = λ h.
-          let b = atomic-block h e in
-          let w = D .still (doing-atomic e h) q in
-          let none = bind-none (act thread (b .block) (bare (h .a))) _
-          (sym (same-later thread (b .block) (h .a)) ∙ stopped q (D .does .does (doing-atomic e h)))
-          in
-          record {
-            code = λ s. block-code h e s ∙ ap (_>>= leaves (h .m) (b .rest) s) none;
-            works = rw (w .0, w .1, w .2) (h .works);
-          };
-    }
-
-    -- it is done
-    pub turns-done : {j k : ℕ} → r ≡ To j k → Turns t thread fb bs i ls cs o n ls′ cs′ o′ (T.Next k)
-    unfolding doing-atomic
-    turns-done {j} {k} q = record {
-      beside = λ h. beside-wide (came q (D .does .does (doing-atomic e h)) .worked .beside) (omega arith) (omega arith);
-      answers = λ h.
-          let b = atomic-block h e in
-          let w = came q (D .does .does (doing-atomic e h)) in
-          let v = bind-is (act thread (b .block) (bare (h .a))) _ (sym (same-later thread (b .block) (h .a)) ∙ w .is) in
-          let same : later (h .a .events) (v .0) ≡ w .a = is-inj (v .2) in
-          record {
-            b = later (h .a .events) (v .0);
-            new = v .0 .events;
-            rest = b .rest;
-            code = λ s. block-code h e s ∙ ap (_>>= leaves (h .m) (b .rest) s) (v .1);
-            label = ap (Map.next (endsOf (h .p) (h .m))) (sym (b .code));
-            tag = b .tag;
-            instr = atomic (b .block);
-            begins = b .code;
-            log = refl;
-            works = rw same (w .worked .works);
-            same = rw same (w .worked .same);
-            few = omega (arith, w .worked .few, block-inside (b .here));
-          };
-    }
-
--- ---- an act
-
--- the first instruction of code, if it is decided
-code-instr : (p : Program Plain) (thread m a : ℕ) (i : Instr ℕ) (c : Block ℕ) (x : Atomic) (s : Stack ℕ) {k : Act} → actOf i ≡ is k
-    → codeOf p thread m (step a i c) x s ≡ F.instr (labelled p .procs) thread m (x .env) a i c s (x .memory)
-code-instr p thread m a (assign x e) c y s q = refl
-code-instr p thread m a (write y o e) c z s q = refl
-code-instr p thread m a (read x y o) c z s q = refl
-code-instr p thread m a (while e b) c x s q = refl
-code-instr p thread m a (if e b d) c x s q = refl
-code-instr p thread m a (call n es) c x s q = refl
-code-instr p thread m a (atomic b) c x s q = missing q
-code-instr p thread m a (select x y) c z s q = missing q
-
--- what is not an atomic block is an act
-plain-act : {t : List ℕ} {i d : ℕ} (m : ℕ) (s : Instr ℕ) {j : ℕ} → InstrAt t i d s j → (getD t i 0 ≡ 0x26 → ⊥) → allowedI (bodyIn concurrent m) s ≡ true
-    → (k : Act) × (actOf s ≡ is k)
-plain-act m (assign x e) h z w = (assigns x e, refl)
-plain-act m (write y o e) h z w = (writes y o e, refl)
-plain-act m (read x y o) h z w = (reads x y o, refl)
-plain-act m (while e b) h z w = (tests e, refl)
-plain-act m (if e b c) h z w = (tests e, refl)
-plain-act m (call n es) h z w = (calls n es, refl)
-plain-act m (atomic b) h z w = absurd (z (S′.first (h .stands)))
-plain-act m (select x y) h z w = absurd (never w)
-
--- its arguments are those of the instruction, and few
-act-args : (p : Program Plain) (X : ℕ) → ((q : ℕ) (r : Proc ℕ) → at (labelled p .procs) q ≡ is r → (r .params ≤ r .locals) × (r .locals ≤ 16))
-    → (s : Instr ℕ) (k : Act) → actOf s ≡ is k → namedI (labelled p) X s ≡ true → (argsOf k ≡ argsIn s) × (length (argsOf k) ≤ frameWords)
-act-args p X few (assign x e) k q n = rw (← is-inj q) (refl, omega arith)
-act-args p X few (write y o e) k q n = rw (← is-inj q) (refl, omega arith)
-act-args p X few (read x y o) k q n = rw (← is-inj q) (refl, omega arith)
-act-args p X few (while e b) k q n = rw (← is-inj q) (refl, omega arith)
-act-args p X few (if e b c) k q n = rw (← is-inj q) (refl, omega arith)
-act-args p X few (call r es) k q n =
-    let names = both-passed (takes (labelled p .procs) r (length es)) (all (Rules.ex (labelled p) X) es) n in
-    let callee = takes-at (labelled p .procs) r (length es) (takes? (labelled p .procs) r (length es) .so (names .0)) in
-    let small : length es ≤ 16 = omega (arith, few r (callee .0) (callee .1), callee .2) in
-    rw (← is-inj q) (refl, omega arith)
-act-args p X few (atomic b) k q n = missing q
-act-args p X few (select x y) k q n = missing q
-
--- it ends behind where it begins
-act-past : (t : List ℕ) (i n : ℕ) (s : Instr ℕ) (k : Act) {j : ℕ} → actOf s ≡ is k → ActAt t i n k j → i < j
-act-past t i n (assign x e) k {j} q h = let w = subst (λ k. ActAt t i n k j) (sym (is-inj q)) h in omega (arith, expr-inside (w .source))
-act-past t i n (write y o e) k {j} q h =
-    let w = subst (λ k. ActAt t i n k j) (sym (is-inj q)) h in
-    omega (arith, expr-inside (w .source), expr-inside (w .offset))
-act-past t i n (read x y o) k {j} q h = let w = subst (λ k. ActAt t i n k j) (sym (is-inj q)) h in omega (arith, expr-inside (w .offset))
-act-past t i n (while e b) k {j} q h = let w = subst (λ k. ActAt t i n k j) (sym (is-inj q)) h in omega (arith, expr-inside (w .test))
-act-past t i n (if e b c) k {j} q h = let w = subst (λ k. ActAt t i n k j) (sym (is-inj q)) h in omega (arith, expr-inside (w .test))
-act-past t i n (call r es) k {j} q h = let w = subst (λ k. ActAt t i n k j) (sym (is-inj q)) h in omega (arith, w .args .stands .ends)
-act-past t i n (atomic b) k q h = missing q
-act-past t i n (select x y) k q h = missing q
-
-module _ {t : List ℕ} {thread fb : ℕ} {bs : List ℕ} {i : ℕ} {ls cs o : List ℕ} {n : ℕ} where
-  -- what a step of this code means: a return at its end, or a step of its first instruction
-  abbrev Means : (h : Turning t thread fb bs i ls cs o n) → ℕ → Instr ℕ → Block ℕ → Step → Type 0
-  Means h a s c S.Return = h .c ≡ end
-  Means h a s c (S.Assign x v j) = (h .c ≡ step a s c) × Leads (h .p) (h .m) (h .a .env) a s c (S.Assign x v j)
-  Means h a s c (S.Read x l k v j) = (h .c ≡ step a s c) × Leads (h .p) (h .m) (h .a .env) a s c (S.Read x l k v j)
-  Means h a s c (S.Write l k d v j) = (h .c ≡ step a s c) × Leads (h .p) (h .m) (h .a .env) a s c (S.Write l k d v j)
-  Means h a s c (S.Test q j) = (h .c ≡ step a s c) × Leads (h .p) (h .m) (h .a .env) a s c (S.Test q j)
-  Means h a s c (S.Call q j) = (h .c ≡ step a s c) × Leads (h .p) (h .m) (h .a .env) a s c (S.Call q j)
-  Means h a s c (S.Select k e j) = (h .c ≡ step a s c) × Leads (h .p) (h .m) (h .a .env) a s c (S.Select k e j)
-  Means h a s c S.Blocked = Unit {0}
-
-  -- what is asked there
-  record Asked (h : Turning t thread fb bs i ls cs o n) : Type 0 where
-    pub act : Act
-    pub j : ℕ
-    pub here : ActAt t i (length (h .a .env)) act j
-    pub few : length (argsOf act) ≤ frameWords
-    pub past : i < j
-    pub tag : ℕ
-    pub instr : Instr ℕ
-    pub rest : Block ℕ
-    pub args : argsOf act ≡ argsIn instr
-    pub code : (s : Stack ℕ) → codeOf (h .p) thread (h .m) (h .c) (h .a) s
-        ≡ D.carried (labelled (h .p) .procs) thread (h .m) (h .a .env) tag instr rest s (h .a .memory) (decided (h .a .env) (h .a .memory) act j)
-    pub means : Means h tag instr rest (decided (h .a .env) (h .a .memory) act j)
-
-  -- at the byte 00, a return
-  asked-end : (h : Turning t thread fb bs i ls cs o n) → getD t i 0 ≡ 0 → Asked h
-  asked-end h e =
-      let none : h .c ≡ end = at-end (h .stands) e in
-      record {
-        act = returns;
-        j = i + 1;
-        here = record { mark = e; inside = turn-inside h };
-        few = omega arith;
-        past = omega arith;
-        tag = 0;
-        instr = assign 0 (local 0);
-        rest = end;
-        args = refl;
-        code = λ s. ap (λ c. codeOf (h .p) thread (h .m) c (h .a) s) none;
-        means = none;
-      }
-
-  -- any step of the first instruction
-  means-first : (h : Turning t thread fb bs i ls cs o n) (a : ℕ) (s : Instr ℕ) (c : Block ℕ) (u : Step) → h .c ≡ step a s c
-      → Leads (h .p) (h .m) (h .a .env) a s c u → Means h a s c u
-  means-first h a s c S.Return e l = absurd l
-  means-first h a s c (S.Assign x v j) e l = (e, l)
-  means-first h a s c (S.Read x y k v j) e l = (e, l)
-  means-first h a s c (S.Write y k d v j) e l = (e, l)
-  means-first h a s c (S.Test q j) e l = (e, l)
-  means-first h a s c (S.Call q j) e l = (e, l)
-  means-first h a s c (S.Select k d j) e l = absurd l
-  means-first h a s c S.Blocked e l = tt
-
-  -- at any other, an instruction
-  asked-instr : (h : Turning t thread fb bs i ls cs o n) → (getD t i 0 ≡ 0 → ⊥) → (getD t i 0 ≡ 0x26 → ⊥) → Asked h
-  asked-instr h z y =
-      let w : Running t (h .p) (h .m) i (h .c) = at-instr (h .stands) z in
-      let X : ℕ = length (h .a .env) in
-      let full : X ≡ w .proc .locals = h .full (w .proc) (w .found) in
-      let k = plain-act (h .m) (w .instr) (w .here) y (w .allowed) in
-      let named : namedI (labelled (h .p)) X (w .instr) ≡ true = subst (λ X. namedI (labelled (h .p)) X (w .instr) ≡ true) (sym full) (w .named) in
-      let args = act-args (h .p) X (h .params) (w .instr) (k .0) (k .1) named in
-      let here = act-at t i X (labelled (h .p)) (w .instr) (k .0) (k .1) (w .here .stands) (w .here .fits .1) named (args .1) in
-      record {
-        act = k .0;
-        j = actEnd i (w .instr);
-        here = here;
-        few = args .1;
-        past = act-past t i X (w .instr) (k .0) (k .1) here;
-        tag = w .tag;
-        instr = w .instr;
-        rest = w .rest;
-        args = args .0;
-        code = λ s.
-            ap (λ c. codeOf (h .p) thread (h .m) c (h .a) s) (w .code)
-            ∙ code-instr (h .p) thread (h .m) (w .tag) (w .instr) (w .rest) (h .a) s (k .1)
-            ∙ does (labelled (h .p) .procs) thread (h .m) (h .a .env) (w .tag) (w .rest) s (h .a .memory) (w .instr) (actEnd i (w .instr)) (k .0) (k .1);
-        means = means-first h (w .tag) (w .instr) (w .rest) (decided (h .a .env) (h .a .memory) (k .0) (actEnd i (w .instr))) (w .code)
-            (leads (h .p) (h .m) (h .a .env) (h .a .memory) (w .tag) (w .rest) (w .instr) (k .0) (actEnd i (w .instr)) X (k .1) named (w .calls));
-      }
-
-  -- one or the other
-  asked : (h : Turning t thread fb bs i ls cs o n) → (getD t i 0 ≡ 0x26 → ⊥) → Asked h
-  asked h y = by-test (eqb (getD t i 0) 0) (λ e. asked-end h (eqb-true (getD t i 0) 0 e)) (λ e. asked-instr h (eqb-false (getD t i 0) 0 e) y)
+use Rattle.machines.specs.Laws.Leading.{labelAfter, Called}
+use Rattle.machines.proofs.Inside.{came, stopped, beside-again}
+use Rattle.machines.proofs.TurningAtomic.{turn-inside, doing-atomic, turns-stopped, turns-done}
+use Rattle.machines.proofs.TurningAsked.{Means, asked}
 
 -- ---- the step that was decided
 

@@ -4,7 +4,8 @@ use Prim.Native.Nat.{ℕ, _+_, _-_, _<_}
 use native.Mathlib.Omega.{arith}
 use mathlib.Core.Path.{_≡_, _∙_}
 use lib.ListN.{length}
-use Rattle.machines.proofs.Inside.{Going, going-deep, then-after, doing-else, does-else, instr-ways, block-ways}
+use Rattle.machines.proofs.Inside.{then-after, doing-else, does-else, instr-ways}
+use Rattle.machines.proofs.InsideBlock.{Going, going-deep, block-ways}
 use borrow.Fn.Kinds.{In}
 use borrow.Fn.PlainCycle.{Measures, is, falls, and}
 use Rattle.machines.proofs.atomic.do_block.Reads as do-block

@@ -1,6 +1,6 @@
 -- `machines::atomic::do_atomic` meets its contract.
 use borrow.Author.Needs.{needs}
-use Rattle.machines.proofs.Inside.{whole-ways}
+use Rattle.machines.proofs.InsideBlock.{whole-ways}
 use Rattle.machines.proofs.atomic.do_atomic.Statement.{statement}
 use Rattle.machines.proofs.atomic.do_atomic.Tie as tie
 
