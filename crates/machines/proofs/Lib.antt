@@ -18,6 +18,8 @@ pub mod Framing
 pub mod Standing
 -- one step of the definition, instruction by instruction
 pub mod Nexts
+-- a step that is due, and what it asks
+pub mod DueSteps
 -- carrying out a step, way by way
 pub mod CarryingOut
 -- deciding a step, way by way
@@ -26,6 +28,8 @@ pub mod Deciding
 pub mod Passing
 -- deciding a select
 pub mod Selecting
+-- the run of the definition
+pub mod RunSteps
 -- the run, step by step
 pub mod Running
 -- deciding the step of a run
