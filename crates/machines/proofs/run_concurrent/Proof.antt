@@ -13,26 +13,64 @@ run-concurrent-spec =
     (λ c κs. search needs)
     (λ c κs. search needs)
     (λ c.
-    let a = c .before .before .before .before .before .before .before .before .args in
-    call-refused (a .table .now) (slice-bytes (a .table .now) (c .before .before .before .before .before .before .before .shared-slice-known .given)) (a .schedule .now) (a .cells .now) (a .events .now) (c .before .before .before .read-concurrent .ensures) (c .before .if1 .taken) (c .refused .ensures))
+    let read = c .before .before .before in
+    let known = read .before .before .before .before in
+    let a = known .before .args in
+    let bytes = slice-bytes (a .table .now) (known .shared-slice-known .given) in
+    call-refused (a .table .now) bytes (a .schedule .now) (a .cells .now) (a .events .now) (read .read-concurrent .ensures)
+    (c .before .if1 .taken) (c .refused .ensures))
     (λ c κs. search needs)
     (λ c κs. search needs)
     (λ c.
-    let a = c .before .before .before .before .before .before .before .before .before .before .args in
-    call-unscheduled (a .table .now) (slice-bytes (a .table .now) (c .before .before .before .before .before .before .before .before .before .shared-slice-known .given)) (a .schedule .now) (a .cells .now) (a .events .now) (c .before .before .before .before .before .read-concurrent .ensures) (c .before .before .before .if1 .left) (c .before .before .scheduled .ensures) (c .before .if2 .taken) (c .refused2 .ensures))
+    let first = c .before .before .before in
+    let read = first .before .before in
+    let known = read .before .before .before .before in
+    let a = known .before .args in
+    let bytes = slice-bytes (a .table .now) (known .shared-slice-known .given) in
+    call-unscheduled (a .table .now) bytes (a .schedule .now) (a .cells .now) (a .events .now) (read .read-concurrent .ensures)
+    (first .if1 .left) (c .before .before .scheduled .ensures) (c .before .if2 .taken) (c .refused2 .ensures))
     (λ c.
-    let a = c .before .before .before .before .before .before .before .before .before .before .args in
-    let few = accepted-cells (read-accepted (a .table .now) (slice-bytes (a .table .now) (c .before .before .before .before .before .before .before .before .before .shared-slice-known .given)) (c .before .before .before .before .before .read-concurrent .ensures) (c .before .before .before .if1 .left)) in
+    let first = c .before .before .before in
+    let read = first .before .before in
+    let known = read .before .before .before .before in
+    let a = known .before .args in
+    let bytes = slice-bytes (a .table .now) (known .shared-slice-known .given) in
+    let few = accepted-cells (read-accepted (a .table .now) bytes (read .read-concurrent .ensures) (first .if1 .left)) in
     record { fits = omega arith })
     (λ c κs. search needs)
     (λ c.
-    let a = c .before .before .before .before .before .before .before .before .before .before .before .before .args in
-    call-short (a .table .now) (slice-bytes (a .table .now) (c .before .before .before .before .before .before .before .before .before .before .before .shared-slice-known .given)) (a .schedule .now) (a .cells .now) (a .events .now) (c .before .before .before .before .before .before .before .read-concurrent .ensures) (c .before .before .before .before .before .if1 .left) (c .before .before .before .before .scheduled .ensures) (c .before .before .before .if2 .left) (c .before .if3 .taken) (c .refused3 .ensures))
+    let second = c .before .before .before in
+    let listed = second .before in
+    let first = listed .before in
+    let read = first .before .before in
+    let known = read .before .before .before .before in
+    let a = known .before .args in
+    let bytes = slice-bytes (a .table .now) (known .shared-slice-known .given) in
+    call-short (a .table .now) bytes (a .schedule .now) (a .cells .now) (a .events .now) (read .read-concurrent .ensures) (first .if1 .left)
+    (listed .scheduled .ensures) (second .if2 .left) (c .before .if3 .taken) (c .refused3 .ensures))
     (λ c κs.
-    let a = c .before .before .before .before .before .before .before .before .before .before .before .before .before .args in
-    (read-accepted (a .table .now) (slice-bytes (a .table .now) (c .before .before .before .before .before .before .before .before .before .before .before .before .shared-slice-known .given)) (c .before .before .before .before .before .before .before .before .read-concurrent .ensures) (c .before .before .before .before .before .before .if1 .left), call-entries (a .table .now) (slice-bytes (a .table .now) (c .before .before .before .before .before .before .before .before .before .before .before .before .shared-slice-known .given)) (a .schedule .now) (a .cells .now) (a .events .now) (c .before .before .before .before .before .before .before .before .read-concurrent .ensures) (c .before .before .before .before .before .before .if1 .left) (c .before .before .before .before .before .scheduled .ensures) (c .before .before .before .before .if2 .left)))
+    let second = c .before .before .before .before in
+    let listed = second .before in
+    let first = listed .before in
+    let read = first .before .before in
+    let known = read .before .before .before .before in
+    let a = known .before .args in
+    let bytes = slice-bytes (a .table .now) (known .shared-slice-known .given) in (
+      read-accepted (a .table .now) bytes (read .read-concurrent .ensures) (first .if1 .left),
+      call-entries (a .table .now) bytes (a .schedule .now) (a .cells .now) (a .events .now) (read .read-concurrent .ensures) (first .if1 .left)
+          (listed .scheduled .ensures) (second .if2 .left),
+    ))
     (λ c. search needs)
     (λ c. search needs)
     (λ c.
-    let a = c .before .before .before .before .before .before .before .before .before .before .before .before .before .before .before .before .before .before .args in
-    call-ran (a .table .now) (slice-bytes (a .table .now) (c .before .before .before .before .before .before .before .before .before .before .before .before .before .before .before .before .before .shared-slice-known .given)) (a .schedule .now) (a .cells .now) (a .events .now) (c .before .before .before .before .before .before .before .before .before .before .before .before .before .read-concurrent .ensures) (c .before .before .before .before .before .before .before .before .before .before .before .if1 .left) (c .before .before .before .before .before .before .before .before .before .before .scheduled .ensures) (c .before .before .before .before .before .before .before .before .before .if2 .left) (c .before .before .before .before .before .before .before .if3 .left) (c .before .before .before .before .run .ensures)))
+    let ran = c .before .before .before .before in
+    let third = ran .before .before .before in
+    let second = third .before .before in
+    let listed = second .before in
+    let first = listed .before in
+    let read = first .before .before in
+    let known = read .before .before .before .before in
+    let a = known .before .args in
+    let bytes = slice-bytes (a .table .now) (known .shared-slice-known .given) in
+    call-ran (a .table .now) bytes (a .schedule .now) (a .cells .now) (a .events .now) (read .read-concurrent .ensures) (first .if1 .left)
+    (listed .scheduled .ensures) (second .if2 .left) (third .if3 .left) (ran .run .ensures)))

@@ -51,20 +51,39 @@ abbrev do-block-calls : ℕ → do-block-lts.Claims
 do-block-calls t = (do-instr-below t, do-instr.Post)
 
 abbrev do-instr-calls : ℕ → do-instr-lts.Claims
-do-instr-calls t = (decide-reads.Asked, decide-reads.Learnt, do-block-below t, do-block.Post, count-block-reads.Asked, count-block-reads.Learnt, carry-out-reads.Asked, carry-out-reads.Learnt)
+do-instr-calls t = (
+  decide-reads.Asked,
+  decide-reads.Learnt,
+  do-block-below t,
+  do-block.Post,
+  count-block-reads.Asked,
+  count-block-reads.Learnt,
+  carry-out-reads.Asked,
+  carry-out-reads.Learnt,
+)
 
 pub +do-block+do-instr-spec : {M : Type 1} → statement M
-+do-block+do-instr-spec = close μ-do-block μ-do-instr (λ t. do-block-lts.spec (do-block-calls t) (do-block-at t) do-block.Post do-block-Inv-loop do-block-μ-loop
++do-block+do-instr-spec =
+    close μ-do-block μ-do-instr (λ t. do-block-lts.spec (do-block-calls t) (do-block-at t) do-block.Post do-block-Inv-loop do-block-μ-loop
     (λ c. search (block-ways, needs))
     (λ c. search (block-ways, needs))
     (λ c. search (block-ways, needs))
-    (λ c κs. (omega (arith, going-deep (c .before .before .before .before .before .loop .inv .0), c .before .before .before .before .before .before .before .before .pre .0), search (block-ways, needs)))
+    (λ c κs. (
+      let start = c .before .before .before .before .before in
+          omega (arith, going-deep (start .loop .inv .0), start .before .before .before .pre .0),
+      search (block-ways, needs),
+    ))
     (λ c. search needs)
     (λ c. search needs)
     (λ c. search needs)
     (λ c. search (block-ways, needs))
     (λ c. search (block-ways, needs))
-    (λ c. (search (block-ways, needs), c .before .before .before .before .before .do-instr .kept .1 .1 .1 .1 .1 .1 .1 .1 .0 ∙ c .before .before .before .before .before .before .before .before .before .before .before .loop .inv .1))
+    (λ c. (
+      search (block-ways, needs),
+      let done = c .before .before .before .before .before in
+          let start = done .before .before .before .before .before .before in
+          done .do-instr .kept .1 .1 .1 .1 .1 .1 .1 .1 .0 ∙ start .loop .inv .1,
+    ))
     (λ c. search (block-ways, needs))
     (λ c. search needs)
     (λ c. search (block-ways, needs))) λ t. do-instr-lts.spec (do-instr-calls t) (do-instr-at t) do-instr.Post
@@ -75,13 +94,34 @@ pub +do-block+do-instr-spec : {M : Type 1} → statement M
     (λ c. search needs)
     (λ c. search needs)
     (λ c. search (instr-ways, needs))
-    (λ c κs. then-after (c .before .before .before .before .before .before .before .before .before .before .before .before .before .decide .ensures) (c .before .before .before .before .before .before .before .before .before .before .before .step .given .1) (c .before .before .before .before .before .before .before .before .before .if1 .taken) (c .before .before .before .before .before .do-block .ensures) (c .before .end .given .1) (c .before .before .before .before .before .before .before .before .before .before .before .before .before .before .before .before .before .before .pre .1))
+    (λ c κs.
+    let inner = c .before .before .before .before .before in
+    let first = inner .before .before .before .before in
+    let told = first .before .before in
+    let decided = told .before .before in
+    let entry = decided .before .before .before .before .before in
+    then-after (decided .decide .ensures) (told .step .given .1) (first .if1 .taken) (inner .do-block .ensures) (c .before .end .given .1)
+    (entry .pre .1))
     (λ c. search needs)
     (λ c. search (instr-ways, needs))
     (λ c κs. search (instr-ways, needs))
-    (λ c κs. (search needs, doing-else (c .before .before .before .before .before .before .before .before .decide .ensures) (c .before .before .before .before .before .before .step .given .1) (c .before .before .before .before .if1 .left) (c .before .before .before .count-block2 .ensures) (c .before .before .before .before .before .before .before .before .before .before .before .before .before .pre .1)))
+    (λ c κs. (
+      search needs,
+      let counted = c .before .before .before in
+          let first = counted .before in
+          let told = first .before .before in
+          let decided = told .before .before in
+          let entry = decided .before .before .before .before .before in
+          doing-else (decided .decide .ensures) (told .step .given .1) (first .if1 .left) (counted .count-block2 .ensures) (entry .pre .1),
+    ))
     (λ c. search needs)
-    (λ c. does-else (c .before .before .before .before .before .before .before .before .before .before .before .decide .ensures) (c .before .before .before .before .before .before .before .before .before .step .given .1) (c .before .before .before .before .before .before .before .if1 .left) (c .before .before .before .before .before .before .count-block2 .ensures) (c .before .before .do-block2 .ensures))
+    (λ c.
+    let inner = c .before .before in
+    let counted = inner .before .before .before .before in
+    let first = counted .before in
+    let told = first .before .before in
+    let decided = told .before .before in
+    does-else (decided .decide .ensures) (told .step .given .1) (first .if1 .left) (counted .count-block2 .ensures) (inner .do-block2 .ensures))
     (λ c κs. search (instr-ways, needs))
     (λ c. search needs)
     (λ c. search (instr-ways, needs))

@@ -34,8 +34,33 @@ go-spec =
     (λ c. search needs)
     (λ c. search needs)
     (λ c κs. search needs)
-    (λ c. stepped-long (c .before .before .before .before .before .before .before .before .before .before .before .before .before .before .before .before .loop .inv) (c .before .before .before .before .before .before .before .before .before .before .before .before .before .before .finished .ensures) (c .before .before .before .before .before .before .before .before .before .before .before .before .before .if1 .left) (c .before .before .before .before .before .before .before .before .before .before .before .before .if2 .left) (c .before .before .before .before .before .step .ensures))
-    (λ c. going-blocked (c .before .before .before .before .before .before .before .before .before .before .before .before .before .before .before .before .loop .inv) (c .before .before .before .before .before .before .before .before .before .before .before .before .before .before .finished .ensures) (c .before .before .before .before .before .before .before .before .before .before .before .before .before .if1 .left) (c .before .before .before .before .before .before .before .before .before .before .before .before .if2 .left) (c .before .before .before .before .before .step .ensures) (c .before .enum-told .given .1) (c .outcome3 .ensures))
-    (λ c. record { fits = omega (arith, c .before .before .before .before .before .before .before .before .before .before .before .before .before .before .before .before .loop .inv .low, c .before .before .before .before .before .before .before .before .before .before .before .before .before .before .before .before .loop .inv .start .entries .few) })
-    (λ c. omega (arith, c .before .before .before .before .before .before .before .before .before .before .before .before .before .before .before .before .loop .inv .low, c .before .before .before .before .before .before .before .before .before .before .before .before .if2 .left))
-    (λ c. going-on (c .before .before .before .before .before .before .before .before .before .before .before .before .before .before .before .before .loop .inv) (c .before .before .before .before .before .before .before .before .before .before .before .before .before .before .finished .ensures) (c .before .before .before .before .before .before .before .before .before .before .before .before .before .if1 .left) (c .before .before .before .before .before .before .before .before .before .before .before .before .if2 .left) (c .before .before .before .before .before .step .ensures) (c .before .after .given .1)))
+    (λ c.
+    let stepped = c .before .before .before .before .before in
+    let second = stepped .before .before .before .before .before .before .before in
+    let first = second .before in
+    let asked = first .before in
+    let start = asked .before .before in
+    stepped-long (start .loop .inv) (asked .finished .ensures) (first .if1 .left) (second .if2 .left) (stepped .step .ensures))
+    (λ c.
+    let stepped = c .before .before .before .before .before in
+    let second = stepped .before .before .before .before .before .before .before in
+    let first = second .before in
+    let asked = first .before in
+    let start = asked .before .before in
+    going-blocked (start .loop .inv) (asked .finished .ensures) (first .if1 .left) (second .if2 .left) (stepped .step .ensures)
+    (c .before .enum-told .given .1) (c .outcome3 .ensures))
+    (λ c.
+    let start = c .before .before .before .before .before .before .before .before .before .before .before .before .before .before .before .before in
+    record { fits = omega (arith, start .loop .inv .low, start .loop .inv .start .entries .few) })
+    (λ c.
+    let second = c .before .before .before .before .before .before .before .before .before .before .before .before in
+    let start = second .before .before .before .before in
+    omega (arith, start .loop .inv .low, second .if2 .left))
+    (λ c.
+    let stepped = c .before .before .before .before .before in
+    let second = stepped .before .before .before .before .before .before .before in
+    let first = second .before in
+    let asked = first .before in
+    let start = asked .before .before in
+    going-on (start .loop .inv) (asked .finished .ensures) (first .if1 .left) (second .if2 .left) (stepped .step .ensures)
+    (c .before .after .given .1)))

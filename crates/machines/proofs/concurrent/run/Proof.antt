@@ -17,9 +17,33 @@ run-spec =
     (λ c. search needs)
     (λ c κs. search needs)
     (λ c κs. (accepted-mains (c .before .before .before .before .before .before .before .before .before .before .before .before .pre .0), refl, refl))
-    (λ c κs. accepted-starting (c .before .before .before .before .before .before .before .before .before .before .before .before .before .before .before .before .before .before .before .before .before .pre .0) (c .before .before .before .before .before .before .before .before .before .before .before .before .before .before .before .before .before .before .before .before .before .pre .1) (c .before .before .before .before .before .before .before .before .before .before .before .before .before .before .fill-labels .ensures) (c .before .before .before .before .before .before .before .before .before .before .before .before .set-starts .ensures) (c .before .before .before .before .before .before .before .before .begin .ensures))
-    (λ c κs. accepted-cells (c .before .before .before .before .before .before .before .before .before .before .before .before .before .before .before .before .before .before .before .before .before .before .before .before .before .before .pre .0))
-    (λ c. run-taken (accepted-starting (c .before .before .before .before .before .before .before .before .before .before .before .before .before .before .before .before .before .before .before .before .before .before .before .before .before .before .before .before .before .before .pre .0) (c .before .before .before .before .before .before .before .before .before .before .before .before .before .before .before .before .before .before .before .before .before .before .before .before .before .before .before .before .before .before .pre .1) (c .before .before .before .before .before .before .before .before .before .before .before .before .before .before .before .before .before .before .before .before .before .before .before .fill-labels .ensures) (c .before .before .before .before .before .before .before .before .before .before .before .before .before .before .before .before .before .before .before .before .before .set-starts .ensures) (c .before .before .before .before .before .before .before .before .before .before .before .before .before .before .before .before .before .begin .ensures)) (c .before .before .before .before .before .before .before .before .go .ensures))
+    (λ c κs.
+    let begun = c .before .before .before .before .before .before .before .before in
+    let placed = begun .before .before .before .before in
+    let labelled = placed .before .before in
+    let entry = labelled .before .before .before .before .before .before .before in
+    accepted-starting (entry .pre .0) (entry .pre .1) (labelled .fill-labels .ensures) (placed .set-starts .ensures) (begun .begin .ensures))
+    (λ c κs.
+    let ran = c .before .before .before .before in
+    let begun = ran .before .before .before .before .before .before .before .before .before in
+    let entry = begun .before .before .before .before .before .before .before .before .before .before .before .before .before in
+    accepted-cells (entry .pre .0))
+    (λ c.
+    let ran = c .before .before .before .before .before .before .before .before in
+    let begun = ran .before .before .before .before .before .before .before .before .before in
+    let placed = begun .before .before .before .before in
+    let labelled = placed .before .before in
+    let entry = labelled .before .before .before .before .before .before .before in
+    run-taken
+    (accepted-starting (entry .pre .0) (entry .pre .1) (labelled .fill-labels .ensures) (placed .set-starts .ensures) (begun .begin .ensures))
+    (ran .go .ensures))
     (λ c. search needs)
     (λ c. search needs)
-    (λ c. run-outcome (c .before .before .before .before .before .before .before .before .before .before .before .before .before .before .before .before .before .before .before .before .before .before .before .fill-labels .ensures) (c .before .before .before .before .before .before .before .before .before .before .before .before .before .before .before .before .before .before .before .before .before .set-starts .ensures) (c .before .before .before .before .before .before .before .before .before .before .before .before .before .before .before .before .before .begin .ensures) (c .before .before .before .before .before .before .before .before .go .ensures) (c .before .before .before .write-cells .ensures)))
+    (λ c.
+    let written = c .before .before .before in
+    let ran = written .before .before .before .before .before in
+    let begun = ran .before .before .before .before .before .before .before .before .before in
+    let placed = begun .before .before .before .before in
+    let labelled = placed .before .before in
+    run-outcome (labelled .fill-labels .ensures) (placed .set-starts .ensures) (begun .begin .ensures) (ran .go .ensures)
+    (written .write-cells .ensures)))

@@ -50,10 +50,21 @@ abbrev fill-block-calls : ℕ → fill-block-lts.Claims
 fill-block-calls t = (count-instr-reads.Asked, count-instr-reads.Learnt, onward-reads.Asked, onward-reads.Learnt, fill-instr-below t, fill-instr.Post)
 
 abbrev fill-instr-calls : ℕ → fill-instr-lts.Claims
-fill-instr-calls t = (after-expr-reads.Asked, after-expr-reads.Learnt, fill-block-below t, fill-block.Post, count-block-reads.Asked, count-block-reads.Learnt, onward-reads.Asked, onward-reads.Learnt)
+fill-instr-calls t = (
+  after-expr-reads.Asked,
+  after-expr-reads.Learnt,
+  fill-block-below t,
+  fill-block.Post,
+  count-block-reads.Asked,
+  count-block-reads.Learnt,
+  onward-reads.Asked,
+  onward-reads.Learnt,
+)
 
 pub +fill-block+fill-instr-spec : {M : Type 1} → statement M
-+fill-block+fill-instr-spec = close μ-fill-block μ-fill-instr (λ t. fill-block-lts.spec (fill-block-calls t) (fill-block-at t) fill-block.Post fill-block-Inv-loop fill-block-μ-loop
++fill-block+fill-instr-spec =
+    close μ-fill-block μ-fill-instr (λ t. fill-block-lts.spec (fill-block-calls t) (fill-block-at t) fill-block.Post
+    fill-block-Inv-loop fill-block-μ-loop
     (λ c. search fill-ways)
     (λ c. search needs)
     (λ c. search needs)

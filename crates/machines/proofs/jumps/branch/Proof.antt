@@ -7,4 +7,10 @@ use Rattle.machines.proofs.jumps.branch.Tie as tie
 pub branch-spec : {M : Type 1} → statement M
 branch-spec =
     tie.close
-    (tie.spec (λ c κs. search needs) (λ c. search needs) (λ c. search needs) (λ c κs. search needs) (λ c. search settle-ways) (λ c. search settle-ways))
+    (tie.spec
+    (λ c κs. search needs)
+    (λ c. search needs)
+    (λ c. search needs)
+    (λ c κs. search needs)
+    (λ c. search settle-ways)
+    (λ c. search settle-ways))

@@ -6,4 +6,11 @@ use Rattle.machines.proofs.jumps.settle.Tie as tie
 
 pub settle-spec : {M : Type 1} → statement M
 settle-spec =
-    tie.close (tie.spec (λ c. search needs) (λ c. search needs) (λ c. search needs) (λ c κs. search needs) (λ c. search settle-ways) (λ c. search settle-ways))
+    tie.close
+    (tie.spec
+    (λ c. search needs)
+    (λ c. search needs)
+    (λ c. search needs)
+    (λ c κs. search needs)
+    (λ c. search settle-ways)
+    (λ c. search settle-ways))

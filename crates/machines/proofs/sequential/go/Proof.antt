@@ -38,7 +38,34 @@ go-spec =
     (λ c κs. search needs)
     (λ c. search going-ways)
     (λ c. search going-ways)
-    (λ c κs. going-due (c .before .before .before .before .before .before .before .before .before .before .before .before .before .loop .inv) (c .before .before .before .before .before .before .before .before .before .before .before .if1 .left) (c .before .before .before .before .before .before .before .before .before .before .if2 .left) (c .before .before .before .before .before .before .before .before .before .used-up .ensures) (c .before .before .before .before .before .before .before .before .if3 .left) (c .before .before .before .before .before .due .ensures) (c .before .before .before .before .match .keys2) (omega (arith, c .before .before .before .before .before .before .before .before .before .before .before .before .before .before .before .before .before .before .before .good .1 .1 .0)) (omega (arith, c .before .before .before .before .before .before .before .before .before .before .before .before .before .before .before .before .before .before .before .fits .budget)))
-    (λ c. record { fits = omega (arith, c .before .before .before .before .before .before .before .before .before .before .before .before .before .before .before .before .loop .inv .low, c .before .before .before .before .before .before .before .before .before .before .before .before .before .if2 .left, c .before .before .before .before .before .before .before .before .before .before .before .before .before .before .before .before .before .before .before .before .before .before .fits .budget) })
-    (λ c. omega (arith, c .before .before .before .before .before .before .before .before .before .before .before .before .before .before .before .before .loop .inv .low, c .before .before .before .before .before .before .before .before .before .before .before .before .before .if2 .left))
-    (λ c. going-on (c .before .before .before .before .before .before .before .before .before .before .before .before .before .before .before .before .loop .inv) (c .before .before .before .before .before .before .before .before .before .before .before .before .before .before .if1 .left) (c .before .before .before .before .before .before .before .before .before .before .before .before .before .if2 .left) (c .before .before .before .before .before .before .before .before .before .before .before .before .used-up .ensures) (c .before .before .before .before .before .before .before .before .before .before .before .if3 .left) (c .before .before .before .before .before .before .before .before .due .ensures) (c .before .before .before .before .before .before .before .match .keys2) (omega (arith, c .before .before .before .before .before .before .before .before .before .before .before .before .before .before .before .before .before .before .before .before .before .before .good .1 .1 .0)) (omega (arith, c .before .before .before .before .before .before .before .before .before .before .before .before .before .before .before .before .before .before .before .before .before .before .fits .budget)) (c .before .before .carry-out .ensures)))
+    (λ c κs.
+    let told = c .before .before .before .before in
+    let faced = told .before in
+    let third = faced .before .before .before in
+    let used = third .before in
+    let second = used .before in
+    let first = second .before in
+    let start = first .before .before in
+    let entry = start .before .before .before .before .before .before in
+    going-due (start .loop .inv) (first .if1 .left) (second .if2 .left) (used .used-up .ensures) (third .if3 .left) (faced .due .ensures)
+    (told .match .keys2) (omega (arith, entry .good .1 .1 .0)) (omega (arith, entry .fits .budget)))
+    (λ c.
+    let second = c .before .before .before .before .before .before .before .before .before .before .before .before .before in
+    let start = second .before .before .before in
+    let entry = start .before .before .before .before .before .before in
+    record { fits = omega (arith, start .loop .inv .low, second .if2 .left, entry .fits .budget) })
+    (λ c.
+    let second = c .before .before .before .before .before .before .before .before .before .before .before .before .before in
+    let start = second .before .before .before in
+    omega (arith, start .loop .inv .low, second .if2 .left))
+    (λ c.
+    let told = c .before .before .before .before .before .before .before in
+    let faced = told .before in
+    let third = faced .before .before .before in
+    let used = third .before in
+    let second = used .before in
+    let first = second .before in
+    let start = first .before .before in
+    let entry = start .before .before .before .before .before .before in
+    going-on (start .loop .inv) (first .if1 .left) (second .if2 .left) (used .used-up .ensures) (third .if3 .left) (faced .due .ensures)
+    (told .match .keys2) (omega (arith, entry .good .1 .1 .0)) (omega (arith, entry .fits .budget)) (c .before .before .carry-out .ensures)))

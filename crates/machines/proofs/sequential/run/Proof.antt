@@ -20,9 +20,28 @@ run-spec =
     (λ c. search needs)
     (λ c. search needs)
     (λ c κs. search needs)
-    (λ c κs. accepted-starting (c .before .before .before .before .before .before .before .before .before .before .before .before .before .before .pre) (length-replicate {A = ℕ} positions 0) (c .before .before .before .before .before .before .before .before .fill .ensures) (c .before .before .before .before .before .before .set-starts .ensures))
-    (λ c κs. accepted-cells (c .before .before .before .before .before .before .before .before .before .before .before .before .before .before .before .before .before .before .before .pre))
-    (λ c. run-taken (accepted-starting (c .before .before .before .before .before .before .before .before .before .before .before .before .before .before .before .before .before .before .before .before .before .before .before .pre) (length-replicate {A = ℕ} positions 0) (c .before .before .before .before .before .before .before .before .before .before .before .before .before .before .before .before .before .fill .ensures) (c .before .before .before .before .before .before .before .before .before .before .before .before .before .before .before .set-starts .ensures)) (c .before .before .before .before .before .before .before .before .go .ensures))
+    (λ c κs.
+    let placed = c .before .before .before .before .before .before in
+    let filled = placed .before .before in
+    let entry = filled .before .before .before .before .before .before in
+    accepted-starting (entry .pre) (length-replicate {A = ℕ} positions 0) (filled .fill .ensures) (placed .set-starts .ensures))
+    (λ c κs.
+    let ran = c .before .before .before .before in
+    let entry = ran .before .before .before .before .before .before .before .before .before .before .before .before .before .before .before in
+    accepted-cells (entry .pre))
+    (λ c.
+    let ran = c .before .before .before .before .before .before .before .before in
+    let placed = ran .before .before .before .before .before .before .before in
+    let filled = placed .before .before in
+    let entry = filled .before .before .before .before .before .before in
+    run-taken (accepted-starting (entry .pre) (length-replicate {A = ℕ} positions 0) (filled .fill .ensures) (placed .set-starts .ensures))
+    (ran .go .ensures))
     (λ c. search needs)
     (λ c. search needs)
-    (λ c. run-outcome (length-replicate {A = ℕ} positions 0) (c .before .before .before .before .before .before .before .before .before .before .before .before .before .before .before .before .before .fill .ensures) (c .before .before .before .before .before .before .before .before .before .before .before .before .before .before .before .set-starts .ensures) (c .before .before .before .before .before .before .before .before .go .ensures) (c .before .before .before .write-cells .ensures)))
+    (λ c.
+    let written = c .before .before .before in
+    let ran = written .before .before .before .before .before in
+    let placed = ran .before .before .before .before .before .before .before in
+    let filled = placed .before .before in
+    run-outcome (length-replicate {A = ℕ} positions 0) (filled .fill .ensures) (placed .set-starts .ensures) (ran .go .ensures)
+    (written .write-cells .ensures)))

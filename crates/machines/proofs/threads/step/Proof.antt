@@ -22,8 +22,18 @@ step-spec =
     (λ c. record { fits = omega (arith, step-small (c .before .before .before .before .before .before .pre) (c .before .before .if1 .left)) })
     (λ c. record { fits = omega (arith, step-small (c .before .before .before .before .before .before .pre) (c .before .before .if1 .left)) })
     (λ c. omega (arith, step-small (c .before .before .before .before .before .before .pre) (c .before .before .if1 .left)))
-    (λ c. record { fits = omega (arith, step-small (c .before .before .before .before .before .before .before .pre) (c .before .before .before .if1 .left)) })
+    (λ c.
+    let first = c .before .before .before in
+    let entry = first .before .before .before .before in
+    record { fits = omega (arith, step-small (entry .pre) (first .if1 .left)) })
     (λ c κs. search (step-ways, needs))
-    (λ c κs. step-moving (c .before .before .before .before .before .before .before .before .before .before .before .if1 .left) (c .before .before .before .before .take-turn .ensures) (c .before .before .before .before .before .before .before .before .before .before .before .before .before .before .before .pre))
+    (λ c κs.
+    let turned = c .before .before .before .before in
+    let first = turned .before .before .before .before .before .before .before in
+    let entry = first .before .before .before .before in
+    step-moving (first .if1 .left) (turned .take-turn .ensures) (entry .pre))
     (λ c. search needs)
-    (λ c. step-moves (c .before .before .before .before .before .before .before .before .before .before .before .before .if1 .left) (c .before .before .before .before .before .take-turn .ensures) (c .move-on .ensures)))
+    (λ c.
+    let turned = c .before .before .before .before .before in
+    let first = turned .before .before .before .before .before .before .before in
+    step-moves (first .if1 .left) (turned .take-turn .ensures) (c .move-on .ensures)))
