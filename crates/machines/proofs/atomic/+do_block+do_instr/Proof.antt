@@ -68,22 +68,18 @@ pub +do-block+do-instr-spec : {M : Type 1} → statement M
     (λ c. search (block-ways, needs))
     (λ c. search (block-ways, needs))
     (λ c. search (block-ways, needs))
-    (λ c κs. (
-      let start = c .before .before .before .before .before in
-          omega (arith, going-deep (start .loop .inv .0), start .before .before .before .pre .0),
-      search (block-ways, needs),
-    ))
+    (λ c κs.
+    let start = c .before .before .before .before .before in
+    (omega (arith, going-deep (start .loop .inv .0), start .before .before .before .pre .0), search (block-ways, needs)))
     (λ c. search needs)
     (λ c. search needs)
     (λ c. search needs)
     (λ c. search (block-ways, needs))
     (λ c. search (block-ways, needs))
-    (λ c. (
-      search (block-ways, needs),
-      let done = c .before .before .before .before .before in
-          let start = done .before .before .before .before .before .before in
-          done .do-instr .kept .1 .1 .1 .1 .1 .1 .1 .1 .0 ∙ start .loop .inv .1,
-    ))
+    (λ c.
+    let done = c .before .before .before .before .before in
+    let start = done .before .before .before .before .before .before in
+    (search (block-ways, needs), done .do-instr .kept .1 .1 .1 .1 .1 .1 .1 .1 .0 ∙ start .loop .inv .1))
     (λ c. search (block-ways, needs))
     (λ c. search needs)
     (λ c. search (block-ways, needs))) λ t. do-instr-lts.spec (do-instr-calls t) (do-instr-at t) do-instr.Post
@@ -105,14 +101,14 @@ pub +do-block+do-instr-spec : {M : Type 1} → statement M
     (λ c. search needs)
     (λ c. search (instr-ways, needs))
     (λ c κs. search (instr-ways, needs))
-    (λ c κs. (
+    (λ c κs.
+    let counted = c .before .before .before in
+    let first = counted .before in
+    let told = first .before .before in
+    let decided = told .before .before in
+    let entry = decided .before .before .before .before .before in (
       search needs,
-      let counted = c .before .before .before in
-          let first = counted .before in
-          let told = first .before .before in
-          let decided = told .before .before in
-          let entry = decided .before .before .before .before .before in
-          doing-else (decided .decide .ensures) (told .step .given .1) (first .if1 .left) (counted .count-block2 .ensures) (entry .pre .1),
+      doing-else (decided .decide .ensures) (told .step .given .1) (first .if1 .left) (counted .count-block2 .ensures) (entry .pre .1),
     ))
     (λ c. search needs)
     (λ c.
