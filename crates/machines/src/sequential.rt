@@ -26,7 +26,7 @@ ghost use Rattle.machines.specs.Sequential.{mostFrames, eventIn, Recorde
 pub const FRAMES: usize = 513;
 
 // The bytes of a procedure's record.
-pub const RECORD: usize = 6;
+const RECORD: usize = 6;
 
 // The bytes of a location's size, and of the trailer.
 pub const SIZE: usize = 2;
