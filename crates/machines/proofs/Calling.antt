@@ -31,7 +31,8 @@ use Rattle.machines.specs.Memory.{Memory, fresh}
 use Rattle.machines.specs.Copy as C
 use Rattle.machines.specs.Buffers.{cellSize, cells, log}
 use Rattle.machines.specs.declared.RunAnswer.{RunAnswer}
-use Rattle.machines.specs.Calls.{Outcome, refusal, untouched, maxEntries, scheduled, roomy, runAs, sequentialRun, sequentialOutcome, sequentialCall, result}
+use Rattle.machines.specs.Calls.{Outcome, refusal, untouched, maxEntries, scheduled, roomy}
+use Rattle.machines.specs.Calls.{runAs, sequentialRun, sequentialOutcome, sequentialCall, result}
 use Rattle.machines.specs.Work.{localWords, cellWords, flat, Bases, sizesAt, Starts, Writes}
 use Rattle.machines.specs.Jumps.{positions, Jumps, FillsJumps}
 use Rattle.machines.specs.Sequential.{mostFrames, Loaded, Starting, RanAs, Runs, Accepted, Outcomes}
@@ -52,7 +53,11 @@ module _ {t : List ℕ} {P M c : ℕ} (a : Accepted t P M c) where
 
   -- its bodies stand first
   bodies-at : BodiesAt t 0 P (a .program .procs) (recordsAt (a .program))
-  bodies-at = record { stands = all-bodies sequential (a .program) (a .same); count = sym (a .procs); fits = bodies-fit sequential (a .program) (a .sound) }
+  bodies-at = record {
+    stands = all-bodies sequential (a .program) (a .same);
+    count = sym (a .procs);
+    fits = bodies-fit sequential (a .program) (a .sound);
+  }
 
   pub accepted-bodies : BodiesIn t 0 P
   accepted-bodies = record { procs = a .program .procs; next = recordsAt (a .program); there = bodies-at }
@@ -63,7 +68,8 @@ module _ {t : List ℕ} {P M c : ℕ} (a : Accepted t P M c) where
 
   -- where its records begin
   records-at : length t - 16 - 6 * P - 2 * M ≡ recordsAt (a .program)
-  records-at = omega (arith, trailer-at sequential (a .program) (a .same), length-table sequential (a .program) (a .same), a .procs, a .places, no-mains)
+  records-at =
+      omega (arith, trailer-at sequential (a .program) (a .same), length-table sequential (a .program) (a .same), a .procs, a .places, no-mains)
 
   -- its sizes stand behind the records
   sizes-at : sizesAt t (length t - 16 - 6 * P - 2 * M + 6 * P) M ≡ a .program .sizes
@@ -74,9 +80,13 @@ module _ {t : List ℕ} {P M c : ℕ} (a : Accepted t P M c) where
       let sizes : List ℕ = each (bytes 2) (p .sizes) in
       let mains : List ℕ = each (bytes 2) (p .mains) in
       let all : Stands t 0 (bodies ++ (records ++ (sizes ++ mains))) _ = front (E.front p) (trailer (trailerOf sequential p)) (whole (a .same)) in
-      let numbers : Stands t (0 + length bodies + length records) (sizes ++ mains) _ = back records (sizes ++ mains) (back bodies (records ++ (sizes ++ mains)) all) in
+      let numbers : Stands t (0 + length bodies + length records) (sizes ++ mains) _ =
+      back records (sizes ++ mains) (back bodies (records ++ (sizes ++ mains)) all)
+      in
       let long : length records ≡ 6 * length (heads 0 (p .procs)) = length-each head 6 (λ h. refl) (heads 0 (p .procs)) in
-      let place : length t - 16 - 6 * P - 2 * M + 6 * P ≡ 0 + length bodies + length records = omega (arith, records-at, length-heads 0 (p .procs), a .procs) in
+      let place : length t - 16 - 6 * P - 2 * M + 6 * P ≡ 0 + length bodies + length records =
+      omega (arith, records-at, length-heads 0 (p .procs), a .procs)
+      in
       let low : Each (λ n. n < 2 ^ 16) (p .sizes) = each-so (λ n w. omega (arith, w .high)) (p .sizes) (a .sound .sizes) in
       rw (place, a .places) (sizes-stand t (0 + length bodies + length records) (p .sizes) (front sizes mains numbers) low)
 
@@ -115,7 +125,8 @@ run-taken q R = R .ran q .taken
 
 -- the answer, the cells and the events of a run
 outcome-of : {t : List ℕ} {P M c : ℕ} {records : ℕ} {ts js ss ls bs ks : List ℕ} {h n : ℕ} {cs es ms os es′ : List ℕ} {r : Ran} (a : Accepted t P M c)
-    → cellSize * c ≤ length cs → (q : Starting t records js ss ls bs ks) → q .loaded .program ≡ a .program → RanAs q ts h n es ms es′ r → Writes ms c cs os
+    → cellSize * c ≤ length cs → (q : Starting t records js ss ls bs ks) → q .loaded .program ≡ a .program → RanAs q ts h n es ms es′ r
+    → Writes ms c cs os
     → _≡_ {A = Outcome} (record {
       answer = record { number = 0; end = r .end; steps = r .steps; unused = length ts - r .taken; events = r .events };
       cells = os;
@@ -133,7 +144,8 @@ outcome-of {c = c} {ts = ts} {h = h} {n} {cs} {es} {os = os} {es′} {r} a room 
 -- of the whole call
 pub run-outcome : {t : List ℕ} {P M c : ℕ} {ts js js′ ss : List ℕ} {h n k : ℕ} {cs es ms os es′ : List ℕ} {r : Ran} → length js ≡ positions
     → FillsJumps t P js js′ → Starts (sizesAt t (length t - 16 - 6 * P - 2 * M + 6 * P) M) ss k
-    → Runs t (length t - 16 - 6 * P - 2 * M) ts js′ ss (replicate localWords 0) (replicate (mostFrames + 1) 0) (replicate cellWords (2 ^ 32)) h n es ms es′ r
+    → Runs t (length t - 16 - 6 * P - 2 * M) ts js′ ss (replicate localWords 0) (replicate (mostFrames + 1) 0) (replicate cellWords (2 ^ 32))
+    h n es ms es′ r
     → Writes ms c cs os
     → Outcomes t P M c ts n h cs es (record { number = 0; end = r .end; steps = r .steps; unused = length ts - r .taken; events = r .events }) os es′
 unfolding accepted-starting

@@ -55,7 +55,11 @@ module _ {t : List ℕ} {P M T c : ℕ} (a : Accepted t P M T c) where
   accepted-bodies = record {
     procs = a .program .procs;
     next = recordsAt (a .program);
-    there = record { stands = all-bodies concurrent (a .program) (a .same); count = sym (a .procs); fits = bodies-fit concurrent (a .program) (a .sound) };
+    there = record {
+      stands = all-bodies concurrent (a .program) (a .same);
+      count = sym (a .procs);
+      fits = bodies-fit concurrent (a .program) (a .sound);
+    };
   }
 
   -- the label map is that of its program
@@ -84,7 +88,9 @@ module _ {t : List ℕ} {P M T c : ℕ} (a : Accepted t P M T c) where
     below = λ k l.
         let there = at-getD (a .program .mains) k 0 (omega (arith, a .threads)) in
         let found = main-at (a .sound) k (getD (a .program .mains) k 0) there in
-        let low : getD (a .program .mains) k 0 < length (a .program .procs) = at-below (a .program .procs) (getD (a .program .mains) k 0) (found .1) in
+        let low : getD (a .program .mains) k 0 < length (a .program .procs) =
+        at-below (a .program .procs) (getD (a .program .mains) k 0) (found .1)
+        in
         omega (arith, main-read k (getD (a .program .mains) k 0) there, a .sound .procs .high);
   }
 
@@ -101,7 +107,9 @@ module _ {t : List ℕ} {P M T c : ℕ} (a : Accepted t P M T c) where
       back records (sizes ++ mains) (back bodies (records ++ (sizes ++ mains)) all)
       in
       let long : length records ≡ 6 * length (heads 0 (p .procs)) = length-each head 6 (λ h. refl) (heads 0 (p .procs)) in
-      let place : length t - 16 - 2 * T - 2 * M ≡ 0 + length bodies + length records = omega (arith, mains-at, length-heads 0 (p .procs), a .places) in
+      let place : length t - 16 - 2 * T - 2 * M ≡ 0 + length bodies + length records =
+      omega (arith, mains-at, length-heads 0 (p .procs), a .places)
+      in
       let low : Each (λ n. n < 2 ^ 16) (p .sizes) = each-so (λ n w. omega (arith, w .high)) (p .sizes) (a .sound .sizes) in
       rw (place, a .places) (sizes-stand t (0 + length bodies + length records) (p .sizes) (front sizes mains numbers) low)
 
@@ -158,7 +166,8 @@ outcome-of {p} {c} {ts} {cs} {es} {os = os} {es′} {r} size room z W =
 
 -- of the whole call
 pub run-outcome : {t : List ℕ} {P M T c n l : ℕ} {ts map bounds ss labels depths cs es ms os es′ : List ℕ} {r : Ran}
-    → MapsLabels t P map bounds l → Starts (sizesAt t (length t - 16 - 2 * T - 2 * M) M) ss n → Begins t (length t - 16 - 2 * T) T bounds labels depths
+    → MapsLabels t P map bounds l → Starts (sizesAt t (length t - 16 - 2 * T - 2 * M) M) ss n
+    → Begins t (length t - 16 - 2 * T) T bounds labels depths
     → Runs t T ts map bounds ss labels depths (replicate localWords 0) (replicate cellWords (2 ^ 32)) es ms es′ r → Writes ms c cs os
     → Outcomes t P M T c ts cs es (record { number = 0; end = r .end; steps = r .taken; unused = length ts - r .taken; events = r .events }) os es′
 unfolding accepted-starting

@@ -46,8 +46,8 @@ pub data Doing (p : Program Plain) (c : C.Config) (f : Frame Plain) (k : ℕ) : 
   assigning : {x n : ℕ} {v : Value} (e : Expr) (d r : Block Plain) → CodeAt (p .procs) (f .proc) k (step tt (assign x e) d) r
       → f .code ≡ step tt (assign x e) (d ⊕ r) → n ≡ actEnd {A = Plain} k (assign x e) → eval (f .env) e ≡ is v → Doing p c f k (Assign x v n)
   reading : {x l i n : ℕ} {v : Value} (y : ℕ) (o : Expr) (d r : Block Plain) → CodeAt (p .procs) (f .proc) k (step tt (read x y o) d) r
-      → f .code ≡ step tt (read x y o) (d ⊕ r) → n ≡ actEnd {A = Plain} k (read x y o) → (eval (f .env) o >>= index) ≡ is i → (lookup (f .env) y >>= place) ≡ is l
-      → cell (c .memory) l i ≡ is v → Doing p c f k (Read x l i v n)
+      → f .code ≡ step tt (read x y o) (d ⊕ r) → n ≡ actEnd {A = Plain} k (read x y o) → (eval (f .env) o >>= index) ≡ is i
+      → (lookup (f .env) y >>= place) ≡ is l → cell (c .memory) l i ≡ is v → Doing p c f k (Read x l i v n)
   writing : {l i q n : ℕ} {v : Value} (y : ℕ) (o e : Expr) (d r : Block Plain) (u : Value) → CodeAt (p .procs) (f .proc) k (step tt (write y o e) d) r
       → f .code ≡ step tt (write y o e) (d ⊕ r) → n ≡ actEnd {A = Plain} k (write y o e) → eval (f .env) e ≡ is v → (eval (f .env) o >>= index) ≡ is i
       → (lookup (f .env) y >>= place) ≡ is l → cell (c .memory) l i ≡ is u → q ≡ numberOf (c .memory) l i → Doing p c f k (Write l i q v n)
@@ -58,42 +58,46 @@ pub data Doing (p : Program Plain) (c : C.Config) (f : Frame Plain) (k : ℕ) : 
   calling : {m n : ℕ} (es : List Expr) (d r : Block Plain) (vs : List Value) → CodeAt (p .procs) (f .proc) k (step tt (call m es) d) r
       → f .code ≡ step tt (call m es) (d ⊕ r) → n ≡ actEnd {A = Plain} k (call m es) → evals (f .env) es ≡ is vs → Doing p c f k (Call m n)
   selecting : {q t n : ℕ} (a b : ℕ) (ts : List ℕ) (d r : Block Plain) (v : Value) → CodeAt (p .procs) (f .proc) k (step tt (select a b) d) r
-      → f .code ≡ step tt (select a b) (d ⊕ r) → n ≡ actEnd {A = Plain} k (select a b) → c .todo ≡ t ∷ ts → cell (c .memory) b t ≡ is v → C.running v ≡ true
-      → q ≡ numberOf (c .memory) a 0 → Doing p c f k (Select q t n)
+      → f .code ≡ step tt (select a b) (d ⊕ r) → n ≡ actEnd {A = Plain} k (select a b) → c .todo ≡ t ∷ ts → cell (c .memory) b t ≡ is v
+      → C.running v ≡ true → q ≡ numberOf (c .memory) a 0 → Doing p c f k (Select q t n)
 
 module _ {p : Program Plain} {c : C.Config} {f : Frame Plain} {k : ℕ} {x : Step} (on : x ≡ Blocked → ⊥) where
   -- a step that is known
   known : {y : Step} → x ≡ y → Doing p c f k y → Doing p c f k x
   known e d = subst (Doing p c f k) (sym e) d
 
-  do-assign : {y : ℕ} (e : Expr) (d r : Block Plain) → CodeAt (p .procs) (f .proc) k (step tt (assign y e) d) r → f .code ≡ step tt (assign y e) (d ⊕ r)
+  do-assign : {y : ℕ} (e : Expr) (d r : Block Plain) → CodeAt (p .procs) (f .proc) k (step tt (assign y e) d) r
+      → f .code ≡ step tt (assign y e) (d ⊕ r)
       → (m : Maybe Value) → eval (f .env) e ≡ m → x ≡ orBlocked (m >>= λ v. is (Assign y v (actEnd {A = Plain} k (assign y e)))) → Doing p c f k x
   do-assign e d r o q nothing w z = absurd (on z)
   do-assign e d r o q (is v) w z = known z (assigning e d r o q refl w)
 
   do-read : {y y′ : ℕ} (e : Expr) (d r : Block Plain) → CodeAt (p .procs) (f .proc) k (step tt (read y y′ e) d) r
-      → f .code ≡ step tt (read y y′ e) (d ⊕ r) → (m : Maybe ℕ) → (eval (f .env) e >>= index) ≡ m → (m′ : Maybe ℕ) → (lookup (f .env) y′ >>= place) ≡ m′
+      → f .code ≡ step tt (read y y′ e) (d ⊕ r) → (m : Maybe ℕ) → (eval (f .env) e >>= index) ≡ m → (m′ : Maybe ℕ)
+      → (lookup (f .env) y′ >>= place) ≡ m′
       → x ≡ orBlocked (m >>= λ i. m′ >>= λ l. cell (c .memory) l i >>= λ v. is (Read y l i v (actEnd {A = Plain} k (read y y′ e)))) → Doing p c f k x
   do-read {y} {y′} e d r o q nothing w m′ w′ z = absurd (on z)
   do-read {y} {y′} e d r o q (is i) w nothing w′ z = absurd (on z)
   do-read {y} {y′} e d r o q (is i) w (is l) w′ z = at (cell (c .memory) l i) refl z
     where
-      at : (m : Maybe Value) → cell (c .memory) l i ≡ m → x ≡ orBlocked (m >>= λ v. is (Read y l i v (actEnd {A = Plain} k (read y y′ e)))) → Doing p c f k x
+      at : (m : Maybe Value) → cell (c .memory) l i ≡ m → x ≡ orBlocked (m >>= λ v. is (Read y l i v (actEnd {A = Plain} k (read y y′ e))))
+          → Doing p c f k x
       at nothing u z = absurd (on z)
       at (is v) u z = known z (reading y′ e d r o q refl w w′ u)
 
   do-write : {y : ℕ} (e a : Expr) (d r : Block Plain) → CodeAt (p .procs) (f .proc) k (step tt (write y e a) d) r
       → f .code ≡ step tt (write y e a) (d ⊕ r) → (m₀ : Maybe Value) → eval (f .env) a ≡ m₀ → (m : Maybe ℕ) → (eval (f .env) e >>= index) ≡ m
       → (m′ : Maybe ℕ) → (lookup (f .env) y >>= place) ≡ m′
-      → x ≡ orBlocked (m₀ >>= λ v. m >>= λ i. m′ >>= λ l. cell (c .memory) l i >>= λ _. is (Write l i (numberOf (c .memory) l i) v (actEnd {A = Plain} k (write y e a))))
+      → x ≡ orBlocked (m₀ >>= λ v. m >>= λ i. m′ >>= λ l. cell (c .memory) l i >>= λ _.
+      is (Write l i (numberOf (c .memory) l i) v (actEnd {A = Plain} k (write y e a))))
       → Doing p c f k x
   do-write {y} e a d r o q nothing w₀ m w m′ w′ z = absurd (on z)
   do-write {y} e a d r o q (is v) w₀ nothing w m′ w′ z = absurd (on z)
   do-write {y} e a d r o q (is v) w₀ (is i) w nothing w′ z = absurd (on z)
   do-write {y} e a d r o q (is v) w₀ (is i) w (is l) w′ z = at (cell (c .memory) l i) refl z
     where
-      at : (m : Maybe Value) → cell (c .memory) l i ≡ m → x ≡ orBlocked (m >>= λ _. is (Write l i (numberOf (c .memory) l i) v (actEnd {A = Plain} k (write y e a))))
-          → Doing p c f k x
+      at : (m : Maybe Value) → cell (c .memory) l i ≡ m
+          → x ≡ orBlocked (m >>= λ _. is (Write l i (numberOf (c .memory) l i) v (actEnd {A = Plain} k (write y e a)))) → Doing p c f k x
       at nothing u z = absurd (on z)
       at (is was) u z = known z (writing y e a d r was o q refl w₀ w w′ u refl)
 
@@ -102,8 +106,10 @@ module _ {p : Program Plain} {c : C.Config} {f : Frame Plain} {k : ℕ} {x : Ste
   do-test nothing g z = absurd (on z)
   do-test (is q) g z = known z (g q refl)
 
-  do-call : {m : ℕ} (es : List Expr) (d r : Block Plain) → CodeAt (p .procs) (f .proc) k (step tt (call m es) d) r → f .code ≡ step tt (call m es) (d ⊕ r)
-      → (vs : Maybe (List Value)) → evals (f .env) es ≡ vs → x ≡ orBlocked (vs >>= λ _. is (Call m (actEnd {A = Plain} k (call m es)))) → Doing p c f k x
+  do-call : {m : ℕ} (es : List Expr) (d r : Block Plain) → CodeAt (p .procs) (f .proc) k (step tt (call m es) d) r
+      → f .code ≡ step tt (call m es) (d ⊕ r)
+      → (vs : Maybe (List Value)) → evals (f .env) es ≡ vs → x ≡ orBlocked (vs >>= λ _. is (Call m (actEnd {A = Plain} k (call m es))))
+      → Doing p c f k x
   do-call es d r o q nothing w z = absurd (on z)
   do-call es d r o q (is vs) w z = known z (calling es d r vs o q refl w)
 
@@ -113,13 +119,14 @@ module _ {p : Program Plain} {c : C.Config} {f : Frame Plain} {k : ℕ} {x : Ste
   do-select {a} {b} {t} ts d r o q u nothing w z = absurd (on z)
   do-select {a} {b} {t} ts d r o q u (is v) w z = at (C.running v) refl z
     where
-      at : (g : Bool) → C.running v ≡ g → x ≡ orBlocked (when g (is (Select (numberOf (c .memory) a 0) t (actEnd {A = Plain} k (select a b))))) → Doing p c f k x
+      at : (g : Bool) → C.running v ≡ g → x ≡ orBlocked (when g (is (Select (numberOf (c .memory) a 0) t (actEnd {A = Plain} k (select a b)))))
+          → Doing p c f k x
       at true h z = known z (selecting a b ts d r v o q refl u w h refl)
       at false h z = absurd (on z)
 
   -- an instruction
-  do-act : (i : Instr Plain) (d r : Block Plain) (a : Act) → CodeAt (p .procs) (f .proc) k (step tt i d) r → f .code ≡ step tt i (d ⊕ r) → actOf i ≡ is a
-      → x ≡ decided (f .env) (c .memory) a (actEnd {A = Plain} k i) → Doing p c f k x
+  do-act : (i : Instr Plain) (d r : Block Plain) (a : Act) → CodeAt (p .procs) (f .proc) k (step tt i d) r → f .code ≡ step tt i (d ⊕ r)
+      → actOf i ≡ is a → x ≡ decided (f .env) (c .memory) a (actEnd {A = Plain} k i) → Doing p c f k x
   do-act (assign y e) d r a o q w z = do-assign e d r o q (eval (f .env) e) refl (rw (← is-inj w) at z)
   do-act (write y e g) d r a o q w z =
       do-write e g d r o q (eval (f .env) g) refl (eval (f .env) e >>= index) refl (lookup (f .env) y >>= place) refl (rw (← is-inj w) at z)
@@ -150,11 +157,13 @@ module _ {p : Program Plain} {lent ts ls bs cs es : List ℕ} {s : State} {c : C
   deep-of = present .depth ∙ ap length stack
 
 -- the top of a stack
-pub top-frame : {ps : List (Proc Plain)} {ls bs : List ℕ} {k : ℕ} {f : Frame Plain} {s : Stack Plain} → Stacked ps ls bs k (f ∷ s) → FrameAt ps ls (length s) k f
+pub top-frame : {ps : List (Proc Plain)} {ls bs : List ℕ} {k : ℕ} {f : Frame Plain} {s : Stack Plain} → Stacked ps ls bs k (f ∷ s)
+    → FrameAt ps ls (length s) k f
 top-frame (more F c S) = F
 
 -- is called by the frame below
-top-called : {ps : List (Proc Plain)} {ls bs : List ℕ} {k : ℕ} {f : Frame Plain} {s : Stack Plain} → Stacked ps ls bs k (f ∷ s) → Called ps (f .proc) s
+top-called : {ps : List (Proc Plain)} {ls bs : List ℕ} {k : ℕ} {f : Frame Plain} {s : Stack Plain} → Stacked ps ls bs k (f ∷ s)
+    → Called ps (f .proc) s
 top-called (more F c S) = c
 
 -- the rest of it
@@ -178,13 +187,14 @@ pub code-after : {ps : List (Proc Plain)} {m k n : ℕ} {i : Instr Plain} {d r :
 code-after {ps} {m} {d = d} {r} c e = subst (λ (z : ℕ). CodeAt ps m z d r) (sym e) (code-in c (later itself))
 
 -- the body of a loop
-pub code-body : {ps : List (Proc Plain)} {m k n : ℕ} {e : Expr} {b d r : Block Plain} → CodeAt ps m k (step tt (while e b) d) r → n ≡ k + 1 + length (expr e)
-    → CodeAt ps m n b (step tt (while e b) (d ⊕ r))
-code-body {ps} {m} {e = e} {b} {d} {r} c q = subst (λ (z : ℕ). CodeAt ps m z b (step tt (while e b) (d ⊕ r))) (sym q) (code-in c (inner (body itself)))
+pub code-body : {ps : List (Proc Plain)} {m k n : ℕ} {e : Expr} {b d r : Block Plain} → CodeAt ps m k (step tt (while e b) d) r
+    → n ≡ k + 1 + length (expr e) → CodeAt ps m n b (step tt (while e b) (d ⊕ r))
+code-body {ps} {m} {e = e} {b} {d} {r} c q =
+    subst (λ (z : ℕ). CodeAt ps m z b (step tt (while e b) (d ⊕ r))) (sym q) (code-in c (inner (body itself)))
 
 -- the first branch
-pub code-then : {ps : List (Proc Plain)} {m k n : ℕ} {e : Expr} {b f d r : Block Plain} → CodeAt ps m k (step tt (if e b f) d) r → n ≡ k + 1 + length (expr e)
-    → CodeAt ps m n b (d ⊕ r)
+pub code-then : {ps : List (Proc Plain)} {m k n : ℕ} {e : Expr} {b f d r : Block Plain} → CodeAt ps m k (step tt (if e b f) d) r
+    → n ≡ k + 1 + length (expr e) → CodeAt ps m n b (d ⊕ r)
 code-then {ps} {m} {b = b} {d = d} {r} c q = subst (λ (z : ℕ). CodeAt ps m z b (d ⊕ r)) (sym q) (code-in c (inner (thens itself)))
 
 module _ {t : List ℕ} {records : ℕ} {js ls bs cs es : List ℕ} {s : State} {x : Step} (d : Due t records js ls bs cs es s x) where
@@ -290,8 +300,12 @@ module _ {t : List ℕ} {records : ℕ} {js ls bs cs es : List ℕ} {s : State} 
       go (calling as′ b r vs o q z u) =
           let F = top-frame (tower d) in
           let callee = takes-at (d .loaded .program .procs) m (length as′) (code-named (d .loaded .same) (d .loaded .sound) (F .found) o .0) in
-          let H : HeadAt t records (d .loaded .program .procs) m (callee .0) = head-at (d .loaded .same) (d .loaded .sound) (d .loaded .place) (callee .1) in
-          let right : LocalsRight frameWords (callee .0) = each-at (LocalsRight frameWords) (d .loaded .program .procs) m (d .loaded .sound .locals) (callee .1) in
+          let H : HeadAt t records (d .loaded .program .procs) m (callee .0) =
+          head-at (d .loaded .same) (d .loaded .sound) (d .loaded .place) (callee .1)
+          in
+          let right : LocalsRight frameWords (callee .0) =
+          each-at (LocalsRight frameWords) (d .loaded .program .procs) m (d .loaded .sound .locals) (callee .1)
+          in
           record {
             inside = H .inside;
             params = omega (arith, H .params, H .locals, right .params);

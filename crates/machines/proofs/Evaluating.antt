@@ -170,7 +170,8 @@ module _ {t ls : List ℕ} {fb i d : ℕ} where
         let o = s .0 in
         let w = s .2 in
         let v = X .value (only h l (λ q. n (c ∙ q))) in
-        g ∙ ap₂ (λ a m. a >>= applied₁ (markOf m)) v (s .1) ∙ ap (λ k. eval (h .env) (w .a) >>= applied₁ k) (mark₁-marks o) ∙ sym (ap (eval (h .env)) (w .is));
+        g ∙ ap₂ (λ a m. a >>= applied₁ (markOf m)) v (s .1) ∙ ap (λ k. eval (h .env) (w .a) >>= applied₁ k) (mark₁-marks o)
+        ∙ sym (ap (eval (h .env)) (w .is));
     next = λ h. X .next (only h l (λ q. n (c ∙ q)));
   }
 
@@ -209,10 +210,12 @@ module _ {t ls : List ℕ} {fb i : ℕ} where
   local-room h n₁ n₂ n₃ n₄ = omega (arith, local-here h n₁ n₂ n₃ n₄ .1, expr-inside (h .here))
 
   -- a local is one of its frame
-  local-below : (h : Ready t ls fb i 1) → (getD t i 0 ≡ 1 → ⊥) → (getD t i 0 ≡ 2 → ⊥) → (getD t i 0 ≡ 3 → ⊥) → (getD t i 0 ≡ 4 → ⊥) → getD t (i + 1) 0 < length (h .env)
+  local-below : (h : Ready t ls fb i 1) → (getD t i 0 ≡ 1 → ⊥) → (getD t i 0 ≡ 2 → ⊥) → (getD t i 0 ≡ 3 → ⊥) → (getD t i 0 ≡ 4 → ⊥)
+      → getD t (i + 1) 0 < length (h .env)
   local-below h n₁ n₂ n₃ n₄ = subst (Below (length (h .env))) (local-here h n₁ n₂ n₃ n₄ .0) (h .below)
 
-  pub local-word : Ready t ls fb i 1 → (getD t i 0 ≡ 1 → ⊥) → (getD t i 0 ≡ 2 → ⊥) → (getD t i 0 ≡ 3 → ⊥) → (getD t i 0 ≡ 4 → ⊥) → fb + getD t (i + 1) 0 < localWords
+  pub local-word : Ready t ls fb i 1 → (getD t i 0 ≡ 1 → ⊥) → (getD t i 0 ≡ 2 → ⊥) → (getD t i 0 ≡ 3 → ⊥) → (getD t i 0 ≡ 4 → ⊥)
+      → fb + getD t (i + 1) 0 < localWords
   local-word h n₁ n₂ n₃ n₄ = framed-get (h .framed) (getD t (i + 1) 0) (local-below h n₁ n₂ n₃ n₄) .0
 
   -- what they give

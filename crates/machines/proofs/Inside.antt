@@ -43,7 +43,8 @@ beside-again p q = record {
 
 module _ {fb : ℕ} {bs es ls ls₁ : List ℕ} {n X : ℕ} {ls′ cs′ o′ : List ℕ} {m : Maybe Atomic} {r : Done} where
   -- over a part, from words of which those of the frame were others before
-  wider : {i i₁ j : ℕ} → Beside ls ls₁ fb (fb + frameWords) → i ≤ i₁ → Went fb i₁ j bs es ls₁ n X ls′ cs′ o′ m r → Went fb i j bs es ls n X ls′ cs′ o′ m r
+  wider : {i i₁ j : ℕ} → Beside ls ls₁ fb (fb + frameWords) → i ≤ i₁ → Went fb i₁ j bs es ls₁ n X ls′ cs′ o′ m r
+      → Went fb i j bs es ls n X ls′ cs′ o′ m r
   wider B h (stops e q) = stops e q
   wider B h (goes a k e q w) = goes a k e q (record {
     works = w .works;
@@ -53,8 +54,8 @@ module _ {fb : ℕ} {bs es ls ls₁ : List ℕ} {n X : ℕ} {ls′ cs′ o′ : 
   })
 
 -- what blocks, blocks anywhere
-pub none : {fb i j i₁ j₁ : ℕ} {bs es ls ls₁ : List ℕ} {n X : ℕ} {ls′ cs′ o′ ls″ cs″ o″ : List ℕ} {r : Done} → Went fb i₁ j₁ bs es ls₁ n X ls″ cs″ o″ nothing r
-    → Went fb i j bs es ls n X ls′ cs′ o′ nothing r
+pub none : {fb i j i₁ j₁ : ℕ} {bs es ls ls₁ : List ℕ} {n X : ℕ} {ls′ cs′ o′ ls″ cs″ o″ : List ℕ} {r : Done}
+    → Went fb i₁ j₁ bs es ls₁ n X ls″ cs″ o″ nothing r → Went fb i j bs es ls n X ls′ cs′ o′ nothing r
 none (stops e q) = stops e q
 none (goes a k e q w) = missing e
 
@@ -87,7 +88,8 @@ module _ {fb i j : ℕ} {bs es ls : List ℕ} {n X : ℕ} {ls′ cs′ o′ : Li
 
 -- something was done before
 pub before : {fb i j k e m n X : ℕ} {bs es ls ls₁ cs₁ o₁ ls′ cs′ o′ : List ℕ} {a : Atomic} {M : Maybe Atomic} {r : Done}
-    → Worked fb i e bs es ls n X a ls₁ cs₁ o₁ m → k ≡ e → Went fb k j bs es ls₁ m (length (a .env)) ls′ cs′ o′ M r → Went fb i j bs es ls n X ls′ cs′ o′ M r
+    → Worked fb i e bs es ls n X a ls₁ cs₁ o₁ m → k ≡ e → Went fb k j bs es ls₁ m (length (a .env)) ls′ cs′ o′ M r
+    → Went fb i j bs es ls n X ls′ cs′ o′ M r
 before w q (stops e b) = stops e b
 before w q (goes a k e b v) = goes a k e b (record {
   works = v .works;
@@ -257,19 +259,20 @@ module _ {t : List ℕ} {thread fb : ℕ} {bs : List ℕ} {i d : ℕ} {ls cs o :
         }
 
     -- the second follows it
-    pub then-after : {q : Bool} {k e m : ℕ} {ls′ cs′ o′ : List ℕ} {r : Done} → u ≡ S.Test q k → q ≡ true → Does t thread fb bs k d ls₁ cs o n ls′ cs′ o′ r → r ≡ To e m
-        → DoingI t thread fb bs i d ls cs o n → BlockIn t e d
+    pub then-after : {q : Bool} {k e m : ℕ} {ls′ cs′ o′ : List ℕ} {r : Done} → u ≡ S.Test q k → q ≡ true
+        → Does t thread fb bs k d ls₁ cs o n ls′ cs′ o′ r → r ≡ To e m → DoingI t thread fb bs i d ls cs o n → BlockIn t e d
     unfolding doing-then
     then-after e f D r h = rw (came r (D .does (doing-then e f h)) .ends) (plain-in (branching (told e f) h .second))
 
     -- the first block blocks
-    pub does-then-blocked : {q : Bool} {k : ℕ} {ls′ cs′ o′ : List ℕ} {r : Done} → u ≡ S.Test q k → q ≡ true → Does t thread fb bs k d ls₁ cs o n ls′ cs′ o′ r → r ≡ Blocked
-        → DoesI t thread fb bs i d ls cs o n ls′ cs′ o′ Blocked
+    pub does-then-blocked : {q : Bool} {k : ℕ} {ls′ cs′ o′ : List ℕ} {r : Done} → u ≡ S.Test q k → q ≡ true
+        → Does t thread fb bs k d ls₁ cs o n ls′ cs′ o′ r → r ≡ Blocked → DoesI t thread fb bs i d ls cs o n ls′ cs′ o′ Blocked
     unfolding doing-then
     does-then-blocked e f D r = record { does = λ h. stops (branching (told e f) h .same ∙ stopped r (D .does (doing-then e f h))) refl }
 
     -- the first block is done, and the second passed over
-    pub does-then : {q : Bool} {k e m : ℕ} {ls′ cs′ o′ : List ℕ} {r : Done} {c : Counted} → u ≡ S.Test q k → q ≡ true → Does t thread fb bs k d ls₁ cs o n ls′ cs′ o′ r
+    pub does-then : {q : Bool} {k e m : ℕ} {ls′ cs′ o′ : List ℕ} {r : Done} {c : Counted} → u ≡ S.Test q k → q ≡ true
+        → Does t thread fb bs k d ls₁ cs o n ls′ cs′ o′ r
         → r ≡ To e m → CountsBlock t e d c → DoesI t thread fb bs i d ls cs o n ls′ cs′ o′ (To (c .next) m)
     unfolding doing-then
     does-then {k = k} {e} {m} {c = c} g f D r C = record {
@@ -312,10 +315,11 @@ module _ {t : List ℕ} {thread fb : ℕ} {bs : List ℕ} {i d : ℕ} {ls cs o :
     pub does-else : {q : Bool} {k : ℕ} {c : Counted} {ls′ cs′ o′ : List ℕ} {r : Done} → u ≡ S.Test q k → q ≡ false → CountsBlock t k d c
         → Does t thread fb bs (c .next) d ls₁ cs o n ls′ cs′ o′ r → DoesI t thread fb bs i d ls cs o n ls′ cs′ o′ r
     unfolding doing-else
-    does-else e f C D = record {
+    does-else {c = c} e f C D = record {
       does = λ h.
           let b = branching (told e f) h in
-          rw (b .same) (wider (frame-only h) (omega (arith, b .past, counted-end (b .first) C, block-inside (b .first))) (D .does (doing-else e f C h)));
+          let low : i ≤ c .next = omega (arith, b .past, counted-end (b .first) C, block-inside (b .first)) in
+          rw (b .same) (wider (frame-only h) low (D .does (doing-else e f C h)));
     }
 
 -- one law for each way through an instruction

@@ -40,7 +40,8 @@ module _ {t : List ℕ} {thread fb : ℕ} {bs : List ℕ} {d : ℕ} where
   module _ {i : ℕ} {ls cs o : List ℕ} {n : ℕ} where
     -- the names of the first instruction and of the rest
     names : (z : getD t i 0 ≡ 0 → ⊥) (h : Doing t thread fb bs i d ls cs o n)
-        → (namedI (h .p) (length (h .a .env)) (step-here (h .here) z .s) ≡ true) × (named (h .p) (length (h .a .env)) (step-here (h .here) z .rest) ≡ true)
+        → (namedI (h .p) (length (h .a .env)) (step-here (h .here) z .s) ≡ true)
+        × (named (h .p) (length (h .a .env)) (step-here (h .here) z .rest) ≡ true)
     names z h =
         let w : StepAt t i d (h .block) (h .j) = step-here (h .here) z in
         both-passed (namedI (h .p) (length (h .a .env)) (w .s)) (named (h .p) (length (h .a .env)) (w .rest))
@@ -51,7 +52,8 @@ module _ {t : List ℕ} {thread fb : ℕ} {bs : List ℕ} {d : ℕ} where
         → (allowedI (within (h .m)) (step-here (h .here) z .s) ≡ true) × (allowed (within (h .m)) (step-here (h .here) z .rest) ≡ true)
     mays z h =
         let w : StepAt t i d (h .block) (h .j) = step-here (h .here) z in
-        both-passed (allowedI (within (h .m)) (w .s)) (allowed (within (h .m)) (w .rest)) (subst (λ b. allowed (within (h .m)) b ≡ true) (w .is) (h .allowed))
+        both-passed (allowedI (within (h .m)) (w .s)) (allowed (within (h .m)) (w .rest))
+        (subst (λ b. allowed (within (h .m)) b ≡ true) (w .is) (h .allowed))
 
     -- an instruction is to be done
     pub doing-one : (getD t i 0 ≡ 0 → ⊥) → Doing t thread fb bs i d ls cs o n → DoingI t thread fb bs i (d - 1) ls cs o n
@@ -149,13 +151,13 @@ module _ {t : List ℕ} {thread fb : ℕ} {bs : List ℕ} {d : ℕ} where
     going-one z = doing-one z (G .ready)
 
     -- it is done, and the block goes on
-    pub going-on : {ls₁ cs₁ o₁ : List ℕ} {r : Done} {k m : ℕ} → (getD t i 0 ≡ 0 → ⊥) → DoesI t thread fb bs i (d - 1) ls cs o n ls₁ cs₁ o₁ r → r ≡ To k m
-        → Going t thread fb bs d i₀ ls₀ cs₀ o₀ n₀ k ls₁ cs₁ o₁ m
+    pub going-on : {ls₁ cs₁ o₁ : List ℕ} {r : Done} {k m : ℕ} → (getD t i 0 ≡ 0 → ⊥) → DoesI t thread fb bs i (d - 1) ls cs o n ls₁ cs₁ o₁ r
+        → r ≡ To k m → Going t thread fb bs d i₀ ls₀ cs₀ o₀ n₀ k ls₁ cs₁ o₁ m
     going-on z E q = record { ready = doing-rest z E q (G .ready); back = λ ls′ cs′ o′ x D. G .back ls′ cs′ o′ x (does-on z E q D) }
 
     -- fewer bytes are left
-    pub going-less : {ls₁ cs₁ o₁ : List ℕ} {r : Done} {k m : ℕ} → (getD t i 0 ≡ 0 → ⊥) → DoesI t thread fb bs i (d - 1) ls cs o n ls₁ cs₁ o₁ r → r ≡ To k m
-        → length t - k < length t - i
+    pub going-less : {ls₁ cs₁ o₁ : List ℕ} {r : Done} {k m : ℕ} → (getD t i 0 ≡ 0 → ⊥) → DoesI t thread fb bs i (d - 1) ls cs o n ls₁ cs₁ o₁ r
+        → r ≡ To k m → length t - k < length t - i
     going-less z E q = omega (arith, rest-less z E q (G .ready), block-inside (G .ready .here))
 
     -- it blocks
@@ -225,7 +227,11 @@ module _ {t : List ℕ} {thread fb : ℕ} {bs : List ℕ} {i d : ℕ} {ls cs o :
     pub whole-blocked : r₁ ≡ Blocked → DoesWhole t thread fb bs i d ls cs o n ls cs o Blocked
     unfolding doing-tried
     whole-blocked q = record {
-      does = record { does = λ h. stops (same-later thread (h .block) (h .a) ∙ ap (_>>= λ r. is (later (h .a .events) r)) (stopped q (T .does (doing-tried e h)))) refl };
+      does = record {
+        does = λ h.
+            let none = stopped q (T .does (doing-tried e h)) in
+            stops (same-later thread (h .block) (h .a) ∙ ap (_>>= λ r. is (later (h .a .events) r)) none) refl;
+      };
       still = λ h b. (refl, refl, refl);
     }
 

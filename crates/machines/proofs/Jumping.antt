@@ -117,7 +117,11 @@ module _ {t : List ℕ} {i d n : ℕ} {js : List ℕ} where
     where
       plain : (s : Instr Plain) (j : ℕ) → ((b c : Block Plain) → beyond (step tt s b) c ≡ nothing)
           → (Holding s → ⊥) → FilledInstr i s j n js js
-      plain s j f g = record { beside = beside-same; itself = λ ps m b c h l. entry-none (f b c); inner = λ ps m b c h l k d r p. absurd (g (holding p)) }
+      plain s j f g = record {
+        beside = beside-same;
+        itself = λ ps m b c h l. entry-none (f b c);
+        inner = λ ps m b c h l k d r p. absurd (g (holding p));
+      }
 
       go : (s : Instr Plain) (j : ℕ) → Grammar.InstrAt t i d s j → FilledInstr i s j n js js
       go (assign x e) j h = plain (assign x e) j (λ b c. refl) (λ z. z)
@@ -270,7 +274,9 @@ module _ {t : List ℕ} {i d n : ℕ} {js : List ℕ} where
           let v = Grammar.step-here a q in
           let at : x .next ≡ v .k = ap (λ (z : Counted). z .next) (X .gives (v .s) (v .k) (v .here)) in
           let rest : Grammar.BlockAt t (x .next) d (v .rest) j = subst (λ (z : ℕ). Grammar.BlockAt t z d (v .rest) j) (sym at) (v .after) in
-          let one : FilledInstr i′ (v .s) (x .next) f js′ js″ = subst (λ (z : ℕ). FilledInstr i′ (v .s) z f js′ js″) (sym at) (I .gives long small (v .s) (v .k) (v .here)) in
+          let one : FilledInstr i′ (v .s) (x .next) f js′ js″ =
+          subst (λ (z : ℕ). FilledInstr i′ (v .s) z f js′ js″) (sym at) (I .gives long small (v .s) (v .k) (v .here))
+          in
           subst (λ (z : Block Plain). FilledBlock i′ z j n js′ js‴) (sym (v .is))
           (filled-step (at ∙ v .here .stands .ends) (omega (arith, Grammar.block-inside rest)) (O .gives d (v .rest) j rest) one
           (R .gives (one .beside .long ∙ long) small (v .rest) j rest));
@@ -295,7 +301,8 @@ module _ {t : List ℕ} {i d n : ℕ} {js : List ℕ} where
       only v ps m c l k y r (here e f g) = rw (← e, ← f, ← g) (entry-to refl l)
 
 -- the second branch
-pub else-inside : {t : List ℕ} {i d k : ℕ} {x : Counted} → InstrIn t i d → getD t i 0 ≡ 0x24 → ExprEnds t (i + 1) k → CountsBlock t k d x → x .next < length t
+pub else-inside : {t : List ℕ} {i d k : ℕ} {x : Counted} → InstrIn t i d → getD t i 0 ≡ 0x24 → ExprEnds t (i + 1) k → CountsBlock t k d x
+    → x .next < length t
 else-inside h q K X = else-in h q K X .inside
 
 -- where code goes on there is an entry
@@ -303,7 +310,22 @@ pub onward-below : {t : List ℕ} {i n f : ℕ} → Onward t i n f → n < posit
 onward-below O h l = O .below h l
 
 -- one law for each way
-pub ruleset fill-ways = (else-inside, onward-below, fill-rest-inside, body-in, then-in, else-in, fills-plain, fills-while, fills-if, fill-start, fill-instr-in, fill-rest-in, fill-next, fill-end)
+pub ruleset fill-ways = (
+  else-inside,
+  onward-below,
+  fill-rest-inside,
+  body-in,
+  then-in,
+  else-in,
+  fills-plain,
+  fills-while,
+  fills-if,
+  fill-start,
+  fill-instr-in,
+  fill-rest-in,
+  fill-next,
+  fill-end,
+)
 
 -- ---- going on
 

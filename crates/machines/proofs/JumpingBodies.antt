@@ -58,7 +58,10 @@ body-of {t} {m = m} {i} {ps = ps} A h e =
     record {
       proc = q;
       found = there;
-      there = rw e (record { stands = body-stands ps m (A .stands) there; fits = each-at (BlockFits 16) (bodiesOf ps) m (A .fits) (body-at ps m there) });
+      there = rw e (record {
+        stands = body-stands ps m (A .stands) there;
+        fits = each-at (BlockFits 16) (bodiesOf ps) m (A .fits) (body-at ps m there);
+      });
       next = rw (one, e) (body-next ps 0 m there);
     }
 
@@ -93,7 +96,9 @@ module _ {t : List ℕ} {c : ℕ} {js : List ℕ} where
         B .gives (F .long e l) l (w .proc .body) _ (w .there) .beside .long ∙ F .long e l;
     entries = λ e l ps j a q k d r z o.
         let w = one ps j a in
-        let G : FilledBlock i (w .proc .body) (i + length (block (w .proc .body))) (x .next - 1) js′ js″ = B .gives (F .long e l) l (w .proc .body) _ (w .there) in
+        let G : FilledBlock i (w .proc .body) (i + length (block (w .proc .body))) (x .next - 1) js′ js″ =
+        B .gives (F .long e l) l (w .proc .body) _ (w .there)
+        in
         by-test (ltb q m)
         (λ before.
         let old = F .entries e l ps j a q k d r (ltb-true q m before) o in

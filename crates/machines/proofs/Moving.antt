@@ -53,7 +53,8 @@ module _ {turn : Turn} {map bounds : List ℕ} {i top : ℕ} {labels depths : Li
   -- a procedure is called
   pub moves-call : {m : ℕ} → turn ≡ T.Call m
       → Moves turn map bounds i top labels depths n
-      (set (set labels top (getD map (4 * getD labels top 0 + 2) 0)) (top + 1) (getD bounds (2 * m + 0) 0)) (set depths i (getD depths i 0 + 1)) (To n)
+      (set (set labels top (getD map (4 * getD labels top 0 + 2) 0)) (top + 1) (getD bounds (2 * m + 0) 0))
+      (set depths i (getD depths i 0 + 1)) (To n)
   moves-call {m} e =
       let same : 2 * m + 0 ≡ 2 * m = omega arith in
       record { moved = rw (e, same); deep = rw e; answer = rw e }

@@ -53,15 +53,27 @@ module _ (h : ℕ) (procs : List (Proc Plain)) (c : C.Config) where
     next-assign q w = rw (e, q, w)
 
     -- x := y[o]
-    pub next-read : {x y : ℕ} {o : Expr} {b : Block Plain} {i l : ℕ} {v : Value} → f .code ≡ step tt (read x y o) b → (eval (f .env) o >>= index) ≡ is i
-        → (lookup (f .env) y >>= place) ≡ is l → cell (c .memory) l i ≡ is v
-        → C.next h procs c ≡ C.goes (record { stack = rebound f x v b ∷ s; memory = c .memory; todo = c .todo; last = c .last; events = eventsWith h c (eventAt c false l i v) })
+    pub next-read : {x y : ℕ} {o : Expr} {b : Block Plain} {i l : ℕ} {v : Value} → f .code ≡ step tt (read x y o) b
+        → (eval (f .env) o >>= index) ≡ is i → (lookup (f .env) y >>= place) ≡ is l → cell (c .memory) l i ≡ is v
+        → C.next h procs c ≡ C.goes (record {
+          stack = rebound f x v b ∷ s;
+          memory = c .memory;
+          todo = c .todo;
+          last = c .last;
+          events = eventsWith h c (eventAt c false l i v);
+        })
     next-read q u w z = rw (e, q, u, w, z)
 
     -- y[o] := e
     pub next-write : {y : ℕ} {o a : Expr} {b : Block Plain} {i l : ℕ} {v u : Value} → f .code ≡ step tt (write y o a) b → eval (f .env) a ≡ is v
         → (eval (f .env) o >>= index) ≡ is i → (lookup (f .env) y >>= place) ≡ is l → cell (c .memory) l i ≡ is u
-        → C.next h procs c ≡ C.goes (record { stack = recoded f b ∷ s; memory = stored (c .memory) l i v; todo = c .todo; last = c .last; events = eventsWith h c (eventAt c true l i v) })
+        → C.next h procs c ≡ C.goes (record {
+          stack = recoded f b ∷ s;
+          memory = stored (c .memory) l i v;
+          todo = c .todo;
+          last = c .last;
+          events = eventsWith h c (eventAt c true l i v);
+        })
     next-write q r u w z = rw (e, q, r, u, w, z)
 
     -- while
@@ -75,14 +87,21 @@ module _ (h : ℕ) (procs : List (Proc Plain)) (c : C.Config) where
     next-if q u = rw (e, q, u)
 
     -- call
-    pub next-call : {m : ℕ} {es : List Expr} {b : Block Plain} {vs : List Value} {p : Proc Plain} → f .code ≡ step tt (call m es) b → evals (f .env) es ≡ is vs
-        → at procs m ≡ is p → runs m (f ∷ s) ≡ false → C.next h procs c ≡ C.goes (restacked c (entered m p vs ∷ recoded f b ∷ s))
+    pub next-call : {m : ℕ} {es : List Expr} {b : Block Plain} {vs : List Value} {p : Proc Plain} → f .code ≡ step tt (call m es) b
+        → evals (f .env) es ≡ is vs → at procs m ≡ is p → runs m (f ∷ s) ≡ false
+        → C.next h procs c ≡ C.goes (restacked c (entered m p vs ∷ recoded f b ∷ s))
     next-call q u w z = rw (e, q, u, w, z)
 
     -- select
     pub next-select : {a d t : ℕ} {ts : List ℕ} {b : Block Plain} {v : Value} → f .code ≡ step tt (select a d) b → c .todo ≡ t ∷ ts
         → cell (c .memory) d t ≡ is v → C.running v ≡ true
-        → C.next h procs c ≡ C.goes (record { stack = recoded f b ∷ s; memory = stored (c .memory) a 0 (Whole (pos t)); todo = ts; last = t; events = c .events })
+        → C.next h procs c ≡ C.goes (record {
+          stack = recoded f b ∷ s;
+          memory = stored (c .memory) a 0 (Whole (pos t));
+          todo = ts;
+          last = t;
+          events = c .events;
+        })
     next-select q u w z = rw (e, q, u, w) (rw (z, C.selected))
 
     -- select, and no entry is left

@@ -71,7 +71,8 @@ module _ (m : ℕ) where
         go nothing = refl
 
     -- both are at hand
-    pub took₂ : {u v u′ v′ : Value} {x : Maybe Value} → l ≡ Is u → r ≡ Is v → u ≡ u′ → v ≡ v′ → x ≡ applied₂ (markOf m) u′ v′ → x ≡ operated₂ m (given l) (given r)
+    pub took₂ : {u v u′ v′ : Value} {x : Maybe Value} → l ≡ Is u → r ≡ Is v → u ≡ u′ → v ≡ v′ → x ≡ applied₂ (markOf m) u′ v′
+        → x ≡ operated₂ m (given l) (given r)
     unfolding operated₂
     took₂ e f p q g = g ∙ rw (e, f, p, q)
 
@@ -160,15 +161,18 @@ module _ (l r : Answer) where
   apart k ks t {u} {v} e f p q = wrong-both 0x14 l r e f (ops.apart k ks t u v p q)
 
   -- a whole number and another kind
-  pub apart-whole : {u v : Value} {a : ℤ} → l ≡ Is u → r ≡ Is v → u ≡ Whole a → OneOf (1 ∷ 2 ∷ []) (tagOf the-type v) → nothing ≡ operated₂ 0x14 (given l) (given r)
+  pub apart-whole : {u v : Value} {a : ℤ} → l ≡ Is u → r ≡ Is v → u ≡ Whole a → OneOf (1 ∷ 2 ∷ []) (tagOf the-type v)
+      → nothing ≡ operated₂ 0x14 (given l) (given r)
   apart-whole e f p q = apart 0 (1 ∷ 2 ∷ []) tt e f (ap (tagOf the-type) p) q
 
   -- a location and another kind
-  pub apart-location : {u v : Value} {a : ℕ} → l ≡ Is u → r ≡ Is v → u ≡ Location a → OneOf (0 ∷ 2 ∷ []) (tagOf the-type v) → nothing ≡ operated₂ 0x14 (given l) (given r)
+  pub apart-location : {u v : Value} {a : ℕ} → l ≡ Is u → r ≡ Is v → u ≡ Location a → OneOf (0 ∷ 2 ∷ []) (tagOf the-type v)
+      → nothing ≡ operated₂ 0x14 (given l) (given r)
   apart-location e f p q = apart 1 (0 ∷ 2 ∷ []) tt e f (ap (tagOf the-type) p) q
 
   -- a truth value and another kind
-  pub apart-truth : {u v : Value} {a : B.Bool} → l ≡ Is u → r ≡ Is v → u ≡ Truth a → OneOf (0 ∷ 1 ∷ []) (tagOf the-type v) → nothing ≡ operated₂ 0x14 (given l) (given r)
+  pub apart-truth : {u v : Value} {a : B.Bool} → l ≡ Is u → r ≡ Is v → u ≡ Truth a → OneOf (0 ∷ 1 ∷ []) (tagOf the-type v)
+      → nothing ≡ operated₂ 0x14 (given l) (given r)
   apart-truth e f p q = apart 2 (0 ∷ 1 ∷ []) tt e f (ap (tagOf the-type) p) q
 
 -- one law for each way

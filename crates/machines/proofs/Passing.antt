@@ -43,7 +43,8 @@ more-none nothing = refl
 more-none (is us) = refl
 
 -- a value, and then others
-more-one : (vs : List Value) (v : Value) (m : Maybe (List Value)) → ((m >>= λ us. is (v ∷ us)) >>= λ us. is (vs ++ us)) ≡ (m >>= λ us. is ((vs ++ (v ∷ [])) ++ us))
+more-one : (vs : List Value) (v : Value) (m : Maybe (List Value))
+    → ((m >>= λ us. is (v ∷ us)) >>= λ us. is (vs ++ us)) ≡ (m >>= λ us. is ((vs ++ (v ∷ [])) ++ us))
 more-one vs v nothing = refl
 more-one vs v (is us) = ap is (sym (append-assoc vs (v ∷ []) us))
 
@@ -75,7 +76,8 @@ module _ {t ls : List ℕ} {fb i n : ℕ} where
     next h P l = exprs-more (P .on h .here) (omega arith)
 
     -- its locals and those of the others are of the frame
-    next-below : (h : Passable t ls fb i n) (P : Passing t ls ls′ fb i n a k) (l : k < n) → Each (Below (length (h .env))) (next h P l .e ∷ next h P l .rest)
+    next-below : (h : Passable t ls fb i n) (P : Passing t ls ls′ fb i n a k) (l : k < n)
+        → Each (Below (length (h .env))) (next h P l .e ∷ next h P l .rest)
     next-below h P l = subst (Each (Below (length (h .env)))) (next h P l .is) (P .on h .below)
 
     -- it is ready
@@ -107,7 +109,8 @@ module _ {t ls : List ℕ} {fb i n : ℕ} where
       passing-none e = record { beside = wider (P .beside) (P .within); passed = λ h. rw (ap given e) at (left h) }
 
       -- it has one
-      pub passing-more : {v : Value} {ls″ : List ℕ} → r .answer ≡ Is v → Puts ls′ ls″ (fb + frameWords + k) v → Passing t ls ls″ fb i n (r .next) (k + 1)
+      pub passing-more : {v : Value} {ls″ : List ℕ} → r .answer ≡ Is v → Puts ls′ ls″ (fb + frameWords + k) v
+          → Passing t ls ls″ fb i n (r .next) (k + 1)
       passing-more {v} {ls″} e p = record {
         within = omega arith;
         beside =

@@ -81,8 +81,8 @@ module _ (h : ℕ) (procs : List (Proc Plain)) where
 -- ---- a step that blocks
 
 -- what asks something is a step of figure 1
-one-acts : (h : ℕ) (procs : List (Proc Plain)) (m : ℕ) (ρ : Env) (i : Instr Plain) (b : Block Plain) (s : Stack Plain) (η : Memory) (ts : List ℕ) (t : ℕ)
-    (evs : List Event) {a : Act} → actOf i ≡ is a
+one-acts : (h : ℕ) (procs : List (Proc Plain)) (m : ℕ) (ρ : Env) (i : Instr Plain) (b : Block Plain) (s : Stack Plain) (η : Memory)
+    (ts : List ℕ) (t : ℕ) (evs : List Event) {a : Act} → actOf i ≡ is a
     → C.one h procs m ρ i b s η ts t evs ≡ C.moved h ts t evs (F.instr procs t m ρ tt i b s η)
 one-acts h procs m ρ (assign x e) b s η ts t evs q = refl
 one-acts h procs m ρ (write y o e) b s η ts t evs q = refl
@@ -98,8 +98,8 @@ return-goes : {G : Type 0} → Return ≡ Blocked → G
 return-goes e = let z : _≡_ {A = ℕ} 0 1 = cc in absurd (omega arith)
 
 -- "a missing value, a wrong kind or an index outside the size blocks"
-pub next-blocked : (h : ℕ) {p : Program Plain} {c : C.Config} {f : Frame Plain} {s : Stack Plain} {k : ℕ} {x : Step} → c .stack ≡ f ∷ s → Decision p c f k x
-    → x ≡ Blocked → C.next h (p .procs) c ≡ C.ended blocked
+pub next-blocked : (h : ℕ) {p : Program Plain} {c : C.Config} {f : Frame Plain} {s : Stack Plain} {k : ℕ} {x : Step} → c .stack ≡ f ∷ s
+    → Decision p c f k x → x ≡ Blocked → C.next h (p .procs) c ≡ C.ended blocked
 next-blocked h e (leaves q w) z = return-goes (sym w ∙ z)
 next-blocked h {p} {c} {f} {s} {k} e (acts i d r a o q w u) z =
     let b : Block Plain = d ⊕ r in
@@ -108,7 +108,8 @@ next-blocked h {p} {c} {f} {s} {k} e (acts i d r a o q w u) z =
     ∙ ap (carried (p .procs) (c .last) (f .proc) (f .env) tt i b s (c .memory)) (sym u ∙ z)
     in
     rw (e, q)
-    (one-acts h (p .procs) (f .proc) (f .env) i b s (c .memory) (c .todo) (c .last) (c .events) w ∙ ap (C.moved h (c .todo) (c .last) (c .events)) none)
+    (one-acts h (p .procs) (f .proc) (f .env) i b s (c .memory) (c .todo) (c .last) (c .events) w
+    ∙ ap (C.moved h (c .todo) (c .last) (c .events)) none)
 next-blocked h {p} {c} {f} {s} {k} e (selects a b t ts d r o q w u) z =
     rw (e, q, w)
     (Deciding.selects a b (c .memory) (record { proc = f .proc; env = f .env; code = d ⊕ r }) s t ts (c .events) (actEnd {A = Plain} k (select a b))

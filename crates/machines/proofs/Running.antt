@@ -61,8 +61,8 @@ first-of : (s : Stack Plain) → (length s ≡ 0 → ⊥) → (f : Frame Plain) 
 first-of [] n = absurd (n refl)
 first-of (f ∷ b) n = (f, b, refl)
 
-module _ {t : List ℕ} {records : ℕ} {js ss ls₀ bs₀ cs₀ : List ℕ} (q : Starting t records js ss ls₀ bs₀ cs₀) {ts : List ℕ} {h n : ℕ} {lent ls bs cs es : List ℕ}
-    {s : State} {k : ℕ} (g : GoingFrom q ts h n lent ls bs cs es s k) (deep : s .depth ≡ 0 → ⊥) where
+module _ {t : List ℕ} {records : ℕ} {js ss ls₀ bs₀ cs₀ : List ℕ} (q : Starting t records js ss ls₀ bs₀ cs₀) {ts : List ℕ}
+    {h n : ℕ} {lent ls bs cs es : List ℕ} {s : State} {k : ℕ} (g : GoingFrom q ts h n lent ls bs cs es s k) (deep : s .depth ≡ 0 → ⊥) where
   -- its first frame
   abbrev top : (f : Frame Plain) × (b : Stack Plain) × (g .config .stack ≡ f ∷ b)
   top = first-of (g .config .stack) (λ e. deep (g .present .depth ∙ e))
@@ -136,8 +136,10 @@ start-stack p ts {q} e = go (p .procs) refl e
     go (x ∷ xs) w z = let same : x ≡ q = is-inj z in rw (w, same)
 
 -- "Sequential tables .. start at procedure 0"
-module _ {t : List ℕ} {records : ℕ} {js ss ls bs cs : List ℕ} (q : Starting t records js ss ls bs cs) (ts es : List ℕ) {v : ℕ} (e : v ≡ numberAt 4 t (records + 2)) where
-  start-present : Present (q .loaded .program) es ts ls bs cs es (record { at = v; depth = 1; thread = 0; taken = 0; events = 0 }) (C.start (q .loaded .program) ts)
+module _ {t : List ℕ} {records : ℕ} {js ss ls bs cs : List ℕ} (q : Starting t records js ss ls bs cs) (ts es : List ℕ) {v : ℕ}
+    (e : v ≡ numberAt 4 t (records + 2)) where
+  start-present : Present (q .loaded .program) es ts ls bs cs es (record { at = v; depth = 1; thread = 0; taken = 0; events = 0 })
+      (C.start (q .loaded .program) ts)
   start-present =
       let p : Program Plain = q .loaded .program in
       let first = takes-at (p .procs) 0 0 (q .loaded .sound .mains .0) in
@@ -150,8 +152,8 @@ module _ {t : List ℕ} {records : ℕ} {js ss ls bs cs : List ℕ} (q : Startin
         found = first .1;
         long = length-replicate (first .0 .locals - 0) nothing ∙ omega arith;
         framed =
-            framed-entered {fb = frameWords * 0} {n = first .0 .locals} [] (framed-none (q .long) (omega arith)) (omega arith) (omega (arith, few .locals))
-            (record { beside = beside-same; zero = λ k l m. q .zero k });
+            framed-entered {fb = frameWords * 0} {n = first .0 .locals} [] (framed-none (q .long) (omega arith)) (omega arith)
+            (omega (arith, few .locals)) (record { beside = beside-same; zero = λ k l m. q .zero k });
         code = settled-body (first .1) (e ∙ ap (numberAt 4 t) (sym here) ∙ H .start);
       } in
       record {
@@ -166,7 +168,8 @@ module _ {t : List ℕ} {records : ℕ} {js ss ls bs cs : List ℕ} (q : Startin
         events = logged-none;
       }
 
-pub going-start : {t : List ℕ} {records : ℕ} {ts js ss ls bs cs es : List ℕ} {h n v w : ℕ} → Starting t records js ss ls bs cs → v ≡ w → w ≡ numberAt 4 t (records + 2)
+pub going-start : {t : List ℕ} {records : ℕ} {ts js ss ls bs cs es : List ℕ} {h n v w : ℕ} → Starting t records js ss ls bs cs → v ≡ w
+    → w ≡ numberAt 4 t (records + 2)
     → Going t records ts js ss ls bs cs h n es ls bs cs es (record { at = v; depth = 1; thread = 0; taken = 0; events = 0 }) 0
 going-start {ts = ts} {es = es} {h} {n} q e f =
     let all : n - 0 ≡ n = omega arith in
@@ -195,7 +198,8 @@ module _ {t : List ℕ} {records : ℕ} {ts js ss ls₀ bs₀ cs₀ : List ℕ} 
 
   -- how the run ends, with what the code answers
   ended : {r : Ran} (how : End) → r ≡ ranWith (endNumber how) k s
-      → ((q : Starting t records js ss ls₀ bs₀ cs₀) → C.run h (q .loaded .program .procs) (n - k) k (G .from q .config) ≡ record { how = how; steps = k; config = G .from q .config })
+      → ((q : Starting t records js ss ls₀ bs₀ cs₀)
+      → C.run h (q .loaded .program .procs) (n - k) k (G .from q .config) ≡ record { how = how; steps = k; config = G .from q .config })
       → Runs t records ts js ss ls₀ bs₀ cs₀ h n lent cs es r
   ended {r} how e f = rw e (record {
     ran = λ q.
@@ -216,7 +220,8 @@ module _ {t : List ℕ} {records : ℕ} {ts js ss ls₀ bs₀ cs₀ : List ℕ} 
   -- "judged finished"
   pub going-finished : {r : Ran} → s .depth ≡ 0 → r ≡ ranWith 0 k s → Runs t records ts js ss ls₀ bs₀ cs₀ h n lent cs es r
   going-finished e f =
-      ended finished f (λ q. run-none h (q .loaded .program .procs) (n - k) k (G .from q .config) (empty (G .from q .config .stack) (sym (G .from q .present .depth) ∙ e)))
+      ended finished f (λ q. run-none h (q .loaded .program .procs) (n - k) k (G .from q .config)
+      (empty (G .from q .config .stack) (sym (G .from q .present .depth) ∙ e)))
     where
       empty : (s : Stack Plain) → length s ≡ 0 → s ≡ []
       empty [] e = refl
@@ -244,7 +249,8 @@ module _ {t : List ℕ} {records : ℕ} {ts js ss ls₀ bs₀ cs₀ : List ℕ} 
           next : (q : Starting t records js ss ls₀ bs₀ cs₀) → C.next h (q .loaded .program .procs) (G .from q .config) ≡ C.ended used
           next q = go (view (q .loaded .same) (q .loaded .sound) (top-frame (tower-of (G .from q .present) (top q (G .from q) deep .2))))
             where
-              go : View t (q .loaded .program) (top q (G .from q) deep .0) (s .at) → C.next h (q .loaded .program .procs) (G .from q .config) ≡ C.ended used
+              go : View t (q .loaded .program) (top q (G .from q) deep .0) (s .at)
+                  → C.next h (q .loaded .program .procs) (G .from q .config) ≡ C.ended used
               go (ending c z) = absurd (omega (arith, U .yes e .0))
               go (acting i d r a c w z o p) = absurd (p (U .yes e .0))
               go (choosing a b d r c w z o p v y) =

@@ -26,7 +26,8 @@ use Rattle.reader.specs.Laws.Procs.{ProcSound, proc-sound, bodyIn, body-at}
 use Rattle.reader.specs.Laws.Sound.{Sound}
 use Rattle.reader.specs.Laws.TablePlaces as T
 use Rattle.reader.specs.Laws.Accepted.{bodies-fit}
-use Rattle.reader.specs.Laws.Spots.{itself, join-end, Inherited, spot-has, deep-inherited, names-inherited, allowed-inherited, code-stands, step-byte, block-some}
+use Rattle.reader.specs.Laws.Spots.{itself, join-end, Inherited, spot-has, deep-inherited}
+use Rattle.reader.specs.Laws.Spots.{names-inherited, allowed-inherited, code-stands, step-byte, block-some}
 use Rattle.machines.specs.Jumps.{Settled, last, first, beyond, Entry, Jumps, Settles}
 use Rattle.machines.proofs.Jumping.{code-in}
 
@@ -88,7 +89,8 @@ module _ {t : List ℕ} {p : Program Plain} (same : t ≡ table sequential p) (s
           fits = (omega arith, spot-has says-inherited (c .spot) (fits .1) .0);
         };
         named = code-named e c;
-        allowed = allowed-inherited (bodyIn sequential m) .first tt i d (spot-has (allowed-inherited (bodyIn sequential m)) (c .spot) (rules .allowed));
+        allowed = allowed-inherited (bodyIn sequential m) .first tt i d
+            (spot-has (allowed-inherited (bodyIn sequential m)) (c .spot) (rules .allowed));
       }
 
   -- byte 00 only at the end of the body
@@ -103,8 +105,8 @@ module _ {t : List ℕ} {p : Program Plain} (same : t ≡ table sequential p) (s
   settled-here a (first i d r c e) n = instr-here a c e
 
   -- a run that goes on from a position goes on with the code there
-  pub settles-code : {js : List ℕ} {m k v : ℕ} (d : Block Plain) {r : Block Plain} → Jumps (p .procs) js → Settles t js k v → CodeAt (p .procs) m k d r
-      → Settled (p .procs) m v (d ⊕ r)
+  pub settles-code : {js : List ℕ} {m k v : ℕ} (d : Block Plain) {r : Block Plain} → Jumps (p .procs) js → Settles t js k v
+      → CodeAt (p .procs) m k d r → Settled (p .procs) m v (d ⊕ r)
   settles-code {js} {m} {k} {v} end {r} J S c =
       subst (λ (z : ℕ). Settled (p .procs) m z r) (sym (S .ended (Stands.first (stands-here c)))) (J .entry m k end r c .goes r refl)
   settles-code {js} {m} {k} {v} (step a i d) {r} J S c =
@@ -132,14 +134,20 @@ module _ {t : List ℕ} {p : Program Plain} (same : t ≡ table sequential p) (s
       T.record-stands sequential p same m o
       in
       let two : T.recordsAt p + 6 * m + 1 + 1 ≡ T.recordsAt p + 6 * m + 2 = omega arith in
-      let b : Stands t (T.bodyAt (p .procs) m) (E.block (q .body)) (T.bodyAt (p .procs) m + length (E.block (q .body))) = T.body-stands sequential p same m o in
+      let b : Stands t (T.bodyAt (p .procs) m) (E.block (q .body)) (T.bodyAt (p .procs) m + length (E.block (q .body))) =
+      T.body-stands sequential p same m o
+      in
       let far : T.bodyAt (p .procs) m < 256 ^ 4 = omega (arith, b .fits, ap length same, sound .size) in
-      let number : Stands t (T.recordsAt p + 6 * m + 2) (bytes 4 (T.bodyAt (p .procs) m)) (T.recordsAt p + 6 * m + 6) = rw two at (Stands.others (Stands.others s)) in
+      let number : Stands t (T.recordsAt p + 6 * m + 2) (bytes 4 (T.bodyAt (p .procs) m)) (T.recordsAt p + 6 * m + 6) =
+      rw two at (Stands.others (Stands.others s))
+      in
       rw e (record {
         inside = s .fits;
         params = Stands.first s;
         locals = Stands.first (Stands.others s);
-        start = number-at 4 t (T.recordsAt p + 6 * m + 2) ∙ Stands.number-at 4 (T.bodyAt (p .procs) m) number far ∙ sym (bodyAt-far (p .procs) 0 m ∙ omega arith);
+        start =
+            number-at 4 t (T.recordsAt p + 6 * m + 2) ∙ Stands.number-at 4 (T.bodyAt (p .procs) m) number far
+            ∙ sym (bodyAt-far (p .procs) 0 m ∙ omega arith);
       })
 
 -- a procedure begins with its body

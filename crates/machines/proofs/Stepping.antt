@@ -157,7 +157,8 @@ module _ {t map bounds ss : List ℕ} {thread : ℕ} {labels depths ls cs o : Li
 
 -- ---- what each turn is worth
 
-module _ {t map bounds ss : List ℕ} {thread : ℕ} {labels depths ls cs o : List ℕ} {n : ℕ} (h : Stepping t map bounds ss thread labels depths ls cs o n)
+module _ {t map bounds ss : List ℕ} {thread : ℕ} {labels depths ls cs o : List ℕ} {n : ℕ}
+    (h : Stepping t map bounds ss thread labels depths ls cs o n)
     (u : Uppermost h) where
   -- the program
   abbrev program : Program Plain
@@ -213,7 +214,8 @@ module _ {t map bounds ss : List ℕ} {thread : ℕ} {labels depths ls cs o : Li
     goes-on l b new rest d log w same r e L few =
         let f : Frame ℕ = record { proc = u .frame .proc; env = b .env; code = rest } in
         present-then (record { stack = f ∷ u .below; memory = b .memory; events = new }) b d refl log w
-        (threaded-on (h .loaded .sound) thread (u .frame) (u .below) (h .present .threads) (u .found) f l refl L (wide W) (frame-on b rest w same r e))
+        (threaded-on (h .loaded .sound) thread (u .frame) (u .below) (h .present .threads) (u .found) f l refl L (wide W)
+        (frame-on b rest w same r e))
         few
 
     -- the threads, where the frame stays

@@ -7,7 +7,7 @@ use mathlib.Core.Bool.{Bool}
 use lib.ListN.{length, getD, replicate, length-append, replicate-append-replicate, List·getD-append}
 use types.Run.{OneOf, miss}
 use denote.Enum.Declared.{tagOf}
-use Rattle.value.specs.Maybe.{is, nothing}
+use Rattle.value.specs.Maybe.{Maybe, is, nothing}
 use Rattle.value.specs.declared.Value.{Value}
 use Rattle.value.specs.Laws.Maybes.{is-inj, missing}
 use Rattle.reader.specs.Syntax.{Instr, Block, step}
@@ -20,7 +20,7 @@ use Rattle.machines.specs.declared.atomic.Done.{Done}
 use Rattle.machines.specs.declared.atomic.Done.the-variants.{To, Blocked}
 use Rattle.machines.specs.declared.threads.Turn.the-variants as T
 use Rattle.machines.specs.Memory.{Env, evals, Memory, Event}
-use Rattle.machines.specs.Step.{Stack}
+use Rattle.machines.specs.Step.{Stack, Moved}
 use Rattle.machines.specs.Threads.{Atomic}
 use Rattle.machines.specs.Work.{frameWords, localWords, Beside, Clears, Framed}
 use Rattle.machines.specs.Decided.{Act, assigns, writes, reads, tests, calls, returns, argsOf, decided, calleeOf, Right}
@@ -40,7 +40,8 @@ use Rattle.machines.proofs.TurningAsked.{Means, asked}
 -- ---- the step that was decided
 
 -- its local or its cell is there
-step-fits : (t : List ℕ) (i : ℕ) (a : Atomic) (k : Act) (j : ℕ) → ActAt t i (length (a .env)) k j → (u : Step) → Right (a .env) (a .memory) k j u → StepFits a u
+step-fits : (t : List ℕ) (i : ℕ) (a : Atomic) (k : Act) (j : ℕ) → ActAt t i (length (a .env)) k j → (u : Step) → Right (a .env) (a .memory) k j u
+    → StepFits a u
 step-fits t i a k j h (S.Assign x v m) r = target-below t i (length (a .env)) k j h (r .1)
 step-fits t i a k j h (S.Read x l z v m) r = target-below t i (length (a .env)) k j h (r .1)
 step-fits t i a k j h (S.Write l z c v m) r = r .1
@@ -70,7 +71,8 @@ framed-front ρ σ f = record {
 }
 
 -- the frame of a call: its arguments, and all other words cleared
-framed-called : {ls ls′ : List ℕ} {fb : ℕ} (vs : List Value) (n : ℕ) → Framed ls fb (map is vs) → length vs ≤ n → n ≤ frameWords → fb + frameWords ≤ localWords
+framed-called : {ls ls′ : List ℕ} {fb : ℕ} (vs : List Value) (n : ℕ) → Framed ls fb (map is vs) → length vs ≤ n → n ≤ frameWords
+    → fb + frameWords ≤ localWords
     → Clears ls ls′ (fb + length vs) (fb + frameWords) → Framed ls′ fb (map is vs ++ replicate (n - length vs) nothing)
 framed-called {ls} {ls′} {fb} vs n f h l r c =
     let none : ℕ → Env = λ k. replicate k nothing in
@@ -83,7 +85,8 @@ framed-called {ls} {ls′} {fb} vs n f h l r c =
     (subst (Framed ls′ fb) parts (framed-entered vs f (omega arith) r c))
 
 -- a call's count of arguments
-call-count : (t : List ℕ) (i n : ℕ) (k : Act) (j : ℕ) {q : ℕ} → ActAt t i n k j → calleeOf k ≡ is q → (i + 4 ≤ length t) × (getD t (i + 3) 0 ≡ length (argsOf k))
+call-count : (t : List ℕ) (i n : ℕ) (k : Act) (j : ℕ) {q : ℕ} → ActAt t i n k j → calleeOf k ≡ is q
+    → (i + 4 ≤ length t) × (getD t (i + 3) 0 ≡ length (argsOf k))
 call-count t i n (calls m es) j h e = (h .inside, sym (h .args .count))
 call-count t i n (assigns x v) j h e = missing e
 call-count t i n (writes y o v) j h e = missing e
@@ -105,11 +108,29 @@ module _ {t : List ℕ} {thread fb : ℕ} {bs : List ℕ} {i : ℕ} {ls cs o : L
     pub begins : h .c ≡ step tag instr rest
     pub label : first (endsOf (h .p) (h .m)) rest ≡ Map.next (endsOf (h .p) (h .m)) (step tag instr rest)
 
-  carried-is : (h : Turning t thread fb bs i ls cs o n) (tag : ℕ) (instr : Instr ℕ) (rest : Block ℕ) (u : Step) {b : Atomic} → Means h tag instr rest u
-      → carried thread u (h .a) ≡ is b → Carried h tag instr rest u b
-  carried-is h tag instr rest (S.Assign x v j) m e = rw (← is-inj e) (record { new = []; log = sym (append-nil (h .a .events)); code = λ s. refl; begins = m .0; label = m .1 })
-  carried-is h tag instr rest (S.Read x l k v j) m e = rw (← is-inj e) (record { new = _; log = refl; code = λ s. refl; begins = m .0; label = m .1 })
-  carried-is h tag instr rest (S.Write l k d v j) m e = rw (← is-inj e) (record { new = _; log = refl; code = λ s. refl; begins = m .0; label = m .1 })
+  carried-is : (h : Turning t thread fb bs i ls cs o n) (tag : ℕ) (instr : Instr ℕ) (rest : Block ℕ) (u : Step) {b : Atomic}
+      → Means h tag instr rest u → carried thread u (h .a) ≡ is b → Carried h tag instr rest u b
+  carried-is h tag instr rest (S.Assign x v j) m e = rw (← is-inj e) (record {
+    new = [];
+    log = sym (append-nil (h .a .events));
+    code = λ s. refl;
+    begins = m .0;
+    label = m .1;
+  })
+  carried-is h tag instr rest (S.Read x l k v j) m e = rw (← is-inj e) (record {
+    new = _;
+    log = refl;
+    code = λ s. refl;
+    begins = m .0;
+    label = m .1;
+  })
+  carried-is h tag instr rest (S.Write l k d v j) m e = rw (← is-inj e) (record {
+    new = _;
+    log = refl;
+    code = λ s. refl;
+    begins = m .0;
+    label = m .1;
+  })
   carried-is h tag instr rest (S.Test q j) m e = missing e
   carried-is h tag instr rest (S.Call q j) m e = missing e
   carried-is h tag instr rest S.Return m e = missing e
@@ -151,6 +172,11 @@ module _ {t : List ℕ} {thread fb : ℕ} {bs : List ℕ} {i : ℕ} {ls cs o : L
     pub turn-kept : Turning t thread fb bs i ls cs o n → Kept bs cs
     turn-kept h = record { memory = h .a .memory; lies = turn-lies h }
 
+    -- what a step does with the code
+    abbrev acted : Turning t thread fb bs i ls cs o n → Stack ℕ → Step → Maybe (Moved ℕ)
+    acted h s =
+        D.carried (labelled (h .p) .procs) thread (h .m) (h .a .env) (asked h y .tag) (asked h y .instr) (asked h y .rest) s (h .a .memory)
+
     module _ {ls₁ : List ℕ} {u : Step} (E : DecidesAll t ls ls₁ fb i (Lies bs cs) u) where
       -- what the step is
       this : (h : Turning t thread fb bs i ls cs o n) → u ≡ decided (h .a .env) (h .a .memory) (asked h y .act) (asked h y .j)
@@ -168,11 +194,8 @@ module _ {t : List ℕ} {thread fb : ℕ} {bs : List ℕ} {i : ℕ} {ls cs o : L
           (decided-right (h .a .env) (h .a .memory) (asked h y .act) (asked h y .j))
 
       -- what the code does
-      doing : (h : Turning t thread fb bs i ls cs o n) (s : Stack ℕ) → codeOf (h .p) thread (h .m) (h .c) (h .a) s
-          ≡ D.carried (labelled (h .p) .procs) thread (h .m) (h .a .env) (asked h y .tag) (asked h y .instr) (asked h y .rest) s (h .a .memory) u
-      doing h s =
-          asked h y .code s
-          ∙ ap (D.carried (labelled (h .p) .procs) thread (h .m) (h .a .env) (asked h y .tag) (asked h y .instr) (asked h y .rest) s (h .a .memory)) (sym (this h))
+      doing : (h : Turning t thread fb bs i ls cs o n) (s : Stack ℕ) → codeOf (h .p) thread (h .m) (h .c) (h .a) s ≡ acted h s u
+      doing h s = asked h y .code s ∙ ap (acted h s) (sym (this h))
 
       -- only words of the frame above are others
       above : (h : Turning t thread fb bs i ls cs o n) → Beside ls ls₁ (fb + frameWords) (fb + frameWords + frameWords)
@@ -212,7 +235,7 @@ module _ {t : List ℕ} {thread fb : ℕ} {bs : List ℕ} {i : ℕ} {ls cs o : L
               rest = asked h y .rest;
               begins = m .0;
               code = λ s. doing h s
-                  ∙ ap (D.carried (labelled (h .p) .procs) thread (h .m) (h .a .env) (asked h y .tag) (asked h y .instr) (asked h y .rest) s (h .a .memory)) e;
+                  ∙ ap (acted h s) e;
               label = m .1 ∙ ap (labelAfter q (endsOf (h .p) (h .m))) (sym (m .0));
               works = working h;
             };
@@ -252,7 +275,7 @@ module _ {t : List ℕ} {thread fb : ℕ} {bs : List ℕ} {i : ℕ} {ls cs o : L
               begins = m .0;
               called = w;
               code = λ s c. doing h s
-                  ∙ ap (D.carried (labelled (h .p) .procs) thread (h .m) (h .a .env) (asked h y .tag) (asked h y .instr) (asked h y .rest) s (h .a .memory)) e
+                  ∙ ap (acted h s) e
                   ∙ rw (w .args, w .found, c);
               label = m .1 .0 ∙ ap (Map.next (endsOf (h .p) (h .m))) (sym (m .0));
               works = record {
@@ -301,7 +324,8 @@ module _ {t : List ℕ} {thread fb : ℕ} {bs : List ℕ} {i : ℕ} {ls cs o : L
         -- it was carried out
         pub turns-carried : {j k : ℕ} → r ≡ To j k → Turns t thread fb bs i ls cs o n ls′ cs′ o′ (T.Next k)
         turns-carried q = record {
-          beside = λ h. beside-again (beside-wide (above h) (omega arith) (omega arith)) (beside-wide (came q (went h) .worked .beside) (omega arith) (omega arith));
+          beside = λ h. beside-again (beside-wide (above h) (omega arith) (omega arith))
+              (beside-wide (came q (went h) .worked .beside) (omega arith) (omega arith));
           answers = λ h.
               let w = came q (went h) in
               let v = carried-is h (asked h y .tag) (asked h y .instr) (asked h y .rest) u (meaning h) (w .is) in

@@ -50,8 +50,8 @@ code-instr p thread m a (atomic b) c x s q = missing q
 code-instr p thread m a (select x y) c z s q = missing q
 
 -- what is not an atomic block is an act
-plain-act : {t : List ℕ} {i d : ℕ} (m : ℕ) (s : Instr ℕ) {j : ℕ} → InstrAt t i d s j → (getD t i 0 ≡ 0x26 → ⊥) → allowedI (bodyIn concurrent m) s ≡ true
-    → (k : Act) × (actOf s ≡ is k)
+plain-act : {t : List ℕ} {i d : ℕ} (m : ℕ) (s : Instr ℕ) {j : ℕ} → InstrAt t i d s j → (getD t i 0 ≡ 0x26 → ⊥)
+    → allowedI (bodyIn concurrent m) s ≡ true → (k : Act) × (actOf s ≡ is k)
 plain-act m (assign x e) h z w = (assigns x e, refl)
 plain-act m (write y o e) h z w = (writes y o e, refl)
 plain-act m (read x y o) h z w = (reads x y o, refl)
@@ -170,7 +170,8 @@ module _ {t : List ℕ} {thread fb : ℕ} {bs : List ℕ} {i : ℕ} {ls cs o : L
         code = λ s.
             ap (λ c. codeOf (h .p) thread (h .m) c (h .a) s) (w .code)
             ∙ code-instr (h .p) thread (h .m) (w .tag) (w .instr) (w .rest) (h .a) s (k .1)
-            ∙ does (labelled (h .p) .procs) thread (h .m) (h .a .env) (w .tag) (w .rest) s (h .a .memory) (w .instr) (actEnd i (w .instr)) (k .0) (k .1);
+            ∙ does (labelled (h .p) .procs) thread (h .m) (h .a .env) (w .tag) (w .rest) s (h .a .memory) (w .instr) (actEnd i (w .instr))
+            (k .0) (k .1);
         means = means-first h (w .tag) (w .instr) (w .rest) (decided (h .a .env) (h .a .memory) (k .0) (actEnd i (w .instr))) (w .code)
             (leads (h .p) (h .m) (h .a .env) (h .a .memory) (w .tag) (w .rest) (w .instr) (k .0) (actEnd i (w .instr)) X (k .1) named (w .calls));
       }

@@ -98,7 +98,8 @@ module _ {t : List ℕ} {thread fb : ℕ} {bs : List ℕ} {i : ℕ} {ls cs o : L
     block-code s =
         let b = atomic-block h e in
         ap (λ c. codeOf (h .p) thread (h .m) c (h .a) s) (b .code)
-        ∙ ap (_>>= leaves (h .m) (b .rest) s) (acts (labelled (h .p) .procs) thread (h .m) (size (b .block)) (b .block) (omega arith) (b .allowed) (h .a .env) (h .a .memory) [])
+        ∙ ap (_>>= leaves (h .m) (b .rest) s)
+        (acts (labelled (h .p) .procs) thread (h .m) (size (b .block)) (b .block) (omega arith) (b .allowed) (h .a .env) (h .a .memory) [])
 
   module _ {ls′ cs′ o′ : List ℕ} {r : Done} (e : getD t i 0 ≡ 0x26) (D : DoesWhole t thread fb bs (i + 1) 16 ls cs o n ls′ cs′ o′ r) where
     -- it blocks
