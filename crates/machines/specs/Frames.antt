@@ -27,5 +27,5 @@ Called ps m (g ∷ s) = Calls ps (g .proc) m
 -- the frames of a stack: the first goes on at k, and each other where `bs` says, by the number of frames up to it
 pub data Stacked (ps : List (Proc Plain)) (ls bs : List ℕ) : ℕ → Stack Plain → Type 0 where
   none : {k : ℕ} → Stacked ps ls bs k []
-  more : {k : ℕ} {f : Frame Plain} {s : Stack Plain} → FrameAt ps ls (length s) k f → Called ps (f .proc) s → Stacked ps ls bs (getD bs (length s) 0) s
-      → Stacked ps ls bs k (f ∷ s)
+  more : {k : ℕ} {f : Frame Plain} {s : Stack Plain} → FrameAt ps ls (length s) k f → Called ps (f .proc) s
+      → Stacked ps ls bs (getD bs (length s) 0) s → Stacked ps ls bs k (f ∷ s)

@@ -66,10 +66,11 @@ pub record Present (p : Program Plain) (lent ts ls bs cs es : List ℕ) (s : Sta
 -- the step x is decided for the frame f, whose code goes on at k
 pub data Decision (p : Program Plain) (c : C.Config) (f : Frame Plain) (k : ℕ) (x : Step) : Type 0 where
   leaves : f .code ≡ end → x ≡ Return → Decision p c f k x
-  acts : (i : Instr Plain) (d r : Block Plain) (a : Act) → CodeAt (p .procs) (f .proc) k (step tt i d) r → f .code ≡ step tt i (d ⊕ r) → actOf i ≡ is a
-      → x ≡ decided (f .env) (c .memory) a (actEnd {A = Plain} k i) → Decision p c f k x
+  acts : (i : Instr Plain) (d r : Block Plain) (a : Act) → CodeAt (p .procs) (f .proc) k (step tt i d) r → f .code ≡ step tt i (d ⊕ r)
+      → actOf i ≡ is a → x ≡ decided (f .env) (c .memory) a (actEnd {A = Plain} k i) → Decision p c f k x
   selects : (a b t : ℕ) (ts : List ℕ) (d r : Block Plain) → CodeAt (p .procs) (f .proc) k (step tt (select a b) d) r
-      → f .code ≡ step tt (select a b) (d ⊕ r) → c .todo ≡ t ∷ ts → x ≡ chosen (c .memory) a b t (actEnd {A = Plain} k (select a b)) → Decision p c f k x
+      → f .code ≡ step tt (select a b) (d ⊕ r) → c .todo ≡ t ∷ ts → x ≡ chosen (c .memory) a b t (actEnd {A = Plain} k (select a b))
+      → Decision p c f k x
 
 -- the step x is due, and does not block
 pub record Due (t : List ℕ) (records : ℕ) (js ls bs cs es : List ℕ) (s : State) (x : Step) : Type 0 where
@@ -191,7 +192,8 @@ abbrev pub runOf : {t : List ℕ} {records : ℕ} {js ss ls bs cs : List ℕ} �
 runOf q ts h n = C.run h (q .loaded .program .procs) n 0 (C.start (q .loaded .program) ts)
 
 -- how it ended, as the code says it
-pub record RanAs {t : List ℕ} {records : ℕ} {js ss ls bs cs : List ℕ} (q : Starting t records js ss ls bs cs) (ts : List ℕ) (h n : ℕ) (lent cs′ es : List ℕ) (r : Ran) : Type 0 where
+pub record RanAs {t : List ℕ} {records : ℕ} {js ss ls bs cs : List ℕ} (q : Starting t records js ss ls bs cs) (ts : List ℕ)
+    (h n : ℕ) (lent cs′ es : List ℕ) (r : Ran) : Type 0 where
   pub how : End
   pub config : C.Config
   pub same : runOf q ts h n ≡ record { how = how; steps = r .steps; config = config }
@@ -221,4 +223,5 @@ pub record Accepted (t : List ℕ) (P M n : ℕ) : Type 0 where
 
 -- the answer and the lent buffers after the run of it
 pub record Outcomes (t : List ℕ) (P M c : ℕ) (ts : List ℕ) (n h : ℕ) (cs es : List ℕ) (r : RunAnswer) (cs′ es′ : List ℕ) : Type 0 where
-  pub same : (a : Accepted t P M c) → cellSize * c ≤ length cs → _≡_ {A = Outcome} (record { answer = r; cells = cs′; events = es′ }) (sequentialOutcome n h ts cs es (a .program))
+  pub same : (a : Accepted t P M c) → cellSize * c ≤ length cs
+      → _≡_ {A = Outcome} (record { answer = r; cells = cs′; events = es′ }) (sequentialOutcome n h ts cs es (a .program))

@@ -53,7 +53,8 @@ pub record Stepping (t map bounds ss : List ℕ) (thread : ℕ) (labels depths l
   -- the count fits its word
   pub few : n + length t < 2 ^ 64
 
-module _ {t map bounds ss : List ℕ} {thread : ℕ} {labels depths ls cs o : List ℕ} {n : ℕ} (h : Stepping t map bounds ss thread labels depths ls cs o n)
+module _ {t map bounds ss : List ℕ} {thread : ℕ} {labels depths ls cs o : List ℕ} {n : ℕ}
+    (h : Stepping t map bounds ss thread labels depths ls cs o n)
     (labels′ depths′ ls′ cs′ o′ : List ℕ) where
   -- the thread took its step
   pub record Went (k : ℕ) : Type 0 where
@@ -73,7 +74,8 @@ module _ {t map bounds ss : List ℕ} {thread : ℕ} {labels depths ls cs o : Li
   Answers Blocked = Stays
 
 -- whatever run it is
-pub record Steps (t map bounds ss : List ℕ) (thread : ℕ) (labels depths ls cs o : List ℕ) (n : ℕ) (labels′ depths′ ls′ cs′ o′ : List ℕ) (r : Stepped) : Type 0 where
+pub record Steps (t map bounds ss : List ℕ) (thread : ℕ) (labels depths ls cs o : List ℕ) (n : ℕ)
+    (labels′ depths′ ls′ cs′ o′ : List ℕ) (r : Stepped) : Type 0 where
   pub steps : (h : Stepping t map bounds ss thread labels depths ls cs o n) → Answers h labels′ depths′ ls′ cs′ o′ r
 
 -- ---- after a turn of its uppermost frame
@@ -132,7 +134,8 @@ pub record Moving (turn : Turn) (thread top : ℕ) (labels depths : List ℕ) : 
   pub depths-long : length depths ≡ mostThreads
 
 -- the thread goes on there
-pub record Moves (turn : Turn) (map bounds : List ℕ) (thread top : ℕ) (labels depths : List ℕ) (n : ℕ) (labels′ depths′ : List ℕ) (r : Stepped) : Type 0 where
+pub record Moves (turn : Turn) (map bounds : List ℕ) (thread top : ℕ) (labels depths : List ℕ) (n : ℕ) (labels′ depths′ : List ℕ)
+    (r : Stepped) : Type 0 where
   pub moved : labels′ ≡ labelsAfter map bounds top labels turn
   pub deep : depths′ ≡ depthsAfter thread depths turn
   pub answer : r ≡ answerOf n turn

@@ -66,7 +66,8 @@ module _ (t : List ℕ) (p : Program Plain) (thread m : ℕ) (c : Block ℕ) (a 
     pub instr : Instr ℕ
     pub rest : Block ℕ
     pub begins : c ≡ step tag instr rest
-    pub code : (s : Stack ℕ) → codeOf p thread m c a s ≡ is (quiet (record { proc = m; env = a .env; code = branch q tag instr rest } ∷ s) (a .memory))
+    pub code : (s : Stack ℕ)
+        → codeOf p thread m c a s ≡ is (quiet (record { proc = m; env = a .env; code = branch q tag instr rest } ∷ s) (a .memory))
     pub label : first (endsOf p m) (branch q tag instr rest) ≡ labelAfter q (endsOf p m) c
     pub works : Works fb bs es ls′ cs′ o′ n a
 

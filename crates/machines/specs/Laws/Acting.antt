@@ -46,7 +46,8 @@ module _ (t : ℕ) where
   -- one block after another
   pub act-join : (b c : Block ℕ) (a : Atomic) → act t (b ⊕ c) a ≡ (act t b a >>= act t c)
   act-join end c a = refl
-  act-join (step l i b) c a = bind-same (actI t i a) (act t (b ⊕ c)) (λ r. act t b r >>= act t c) (act-join b c) ∙ sym (bind-assoc (actI t i a) (act t b) (act t c))
+  act-join (step l i b) c a =
+      bind-same (actI t i a) (act t (b ⊕ c)) (λ r. act t b r >>= act t c) (act-join b c) ∙ sym (bind-assoc (actI t i a) (act t b) (act t c))
 
 -- what is left of a block
 abbrev from : Env → Memory → List Event → Atomic
@@ -74,8 +75,10 @@ module _ (procs : List (Proc ℕ)) (t m : ℕ) where
       let ok = both-passed (allowedI (within m) (if e b d)) (allowed (within m) c) k in
       let two = both-passed (allowed (within m) b) (allowed (within m) d) (ok .0) in
       bind-both (eval ρ e >>= truth) _ _ _ _ (λ q. rw (append-nil evs) (elim q [
-        | true ↦ acts n (b ⊕ c) (omega (arith, size-join b c)) (allowed-append (within m) b c (two .0) (ok .1)) ρ η evs ∙ act-join t b c (from ρ η evs)
-        | false ↦ acts n (d ⊕ c) (omega (arith, size-join d c)) (allowed-append (within m) d c (two .1) (ok .1)) ρ η evs ∙ act-join t d c (from ρ η evs)
+        | true ↦
+            acts n (b ⊕ c) (omega (arith, size-join b c)) (allowed-append (within m) b c (two .0) (ok .1)) ρ η evs ∙ act-join t b c (from ρ η evs)
+        | false ↦
+            acts n (d ⊕ c) (omega (arith, size-join d c)) (allowed-append (within m) d c (two .1) (ok .1)) ρ η evs ∙ act-join t d c (from ρ η evs)
       ]))
   acts (suc n) (step l (while e b) c) h k ρ η evs = absurd (never k)
   acts (suc n) (step l (call q es) c) h k ρ η evs = absurd (never k)

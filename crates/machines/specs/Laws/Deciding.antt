@@ -18,7 +18,8 @@ use Rattle.value.specs.Laws.Maybes.{is-inj, missing, bind-is, bind-same}
 use Rattle.value.specs.Laws.Tests.{by-test, both-passed}
 use Rattle.value.specs.Laws.Lists.{Each, all-passed}
 use Rattle.value.specs.Laws.Bytes.{number-at}
-use Rattle.reader.specs.Syntax.{Expr, constant, local, one, two, Instr, assign, write, read, while, if, call, atomic, select, Block, step, Proc, Program}
+use Rattle.reader.specs.Syntax.{Expr, constant, local, one, two, Instr, assign, write, read}
+use Rattle.reader.specs.Syntax.{while, if, call, atomic, select, Block, step, Proc, Program}
 use Rattle.reader.specs.Encode.{each, expr, instr, block}
 use Rattle.reader.specs.Rules.{inExpr, takes, namedI}
 use Rattle.reader.specs.Laws.Fits.{SaysI}
@@ -47,7 +48,8 @@ module _ {B : Type 0} (k : Step → Maybe B) (e : k Blocked ≡ nothing) where
   through (is x) f = refl
 
   -- link by link
-  link : {A : Type 0} (m : Maybe A) (g : A → Maybe B) (f : A → Maybe Step) → ((x : A) → g x ≡ k (orBlocked (f x))) → (m >>= g) ≡ k (orBlocked (m >>= f))
+  link : {A : Type 0} (m : Maybe A) (g : A → Maybe B) (f : A → Maybe Step) → ((x : A) → g x ≡ k (orBlocked (f x)))
+      → (m >>= g) ≡ k (orBlocked (m >>= f))
   link m g f h = bind-same m g (λ x. k (orBlocked (f x))) h ∙ through m f
 
 module _ {A : Type 0} (procs : List (Proc A)) (t m : ℕ) (ρ : Env) (a : A) (c : Block A) (s : Stack A) (η : Memory) where
@@ -86,7 +88,8 @@ module _ {A : Type 0} (procs : List (Proc A)) (t m : ℕ) (ρ : Env) (a : A) (c 
 -- ---- what a decided step says is so
 
 -- of a chain: if it holds where the chain stops, and at its end
-along : {A : Type 0} (P : Step → Type 0) → P Blocked → (m : Maybe A) (f : A → Maybe Step) → ((x : A) → m ≡ is x → P (orBlocked (f x))) → P (orBlocked (m >>= f))
+along : {A : Type 0} (P : Step → Type 0) → P Blocked → (m : Maybe A) (f : A → Maybe Step) → ((x : A) → m ≡ is x → P (orBlocked (f x)))
+    → P (orBlocked (m >>= f))
 along P b nothing f h = b
 along P b (is x) f h = h x refl
 
@@ -137,7 +140,8 @@ below-named : (X M : ℕ) (e : Expr) → inExpr X M e ≡ true → Below X e
 below-named X M (constant v) q = tt
 below-named X M (local x) q = ltb-true x X q
 below-named X M (one o a) q = below-named X M a q
-below-named X M (two o a b) q = (below-named X M a (both-passed (inExpr X M a) (inExpr X M b) q .0), below-named X M b (both-passed (inExpr X M a) (inExpr X M b) q .1))
+below-named X M (two o a b) q =
+    (below-named X M a (both-passed (inExpr X M a) (inExpr X M b) q .0), below-named X M b (both-passed (inExpr X M a) (inExpr X M b) q .1))
 
 -- the same positions, written in another way
 moved : {t : List ℕ} {i j a b : ℕ} {bs : List ℕ} → Stands t i bs j → i ≡ a → j ≡ b → Stands t a bs b
@@ -154,8 +158,8 @@ module _ {A : Type 0} (t : List ℕ) (i n : ℕ) (p : Program A) where
   ex = below-named n (length (p .sizes))
 
   -- THE ACT OF AN INSTRUCTION STANDS WHERE THE INSTRUCTION DOES.
-  pub act-at : (s : Instr A) (k : Act) {j : ℕ} → actOf s ≡ is k → Stands t i (instr s) j → SaysI s → namedI p n s ≡ true → length (argsOf k) ≤ frameWords
-      → ActAt t i n k (actEnd i s)
+  pub act-at : (s : Instr A) (k : Act) {j : ℕ} → actOf s ≡ is k → Stands t i (instr s) j → SaysI s → namedI p n s ≡ true
+      → length (argsOf k) ≤ frameWords → ActAt t i n k (actEnd i s)
   act-at (assign x e) k q s h w f =
       let names = both-passed (ltb x n) _ w in
       subst (λ k. ActAt t i n k (actEnd {A = A} i (assign x e))) (is-inj q) (record {

@@ -26,8 +26,8 @@ use Rattle.machines.specs.Doing.{carried, StepFits}
 use Rattle.machines.specs.Laws.Deciding.{cell-size}
 
 -- what holds of a blocked step and of each step that a chain can come to, holds of the step that it comes to
-pub through : {A : Type 0} (P : Step → Type 0) (m : Maybe A) (f : A → Maybe Step) → (m ≡ nothing → P S.Blocked) → ((x : A) → m ≡ is x → P (orBlocked (f x)))
-    → P (orBlocked (m >>= f))
+pub through : {A : Type 0} (P : Step → Type 0) (m : Maybe A) (f : A → Maybe Step) → (m ≡ nothing → P S.Blocked)
+    → ((x : A) → m ≡ is x → P (orBlocked (f x))) → P (orBlocked (m >>= f))
 through P (is x) f none some = some x refl
 through P nothing f none some = none refl
 
@@ -94,7 +94,11 @@ module _ {t : List ℕ} (thread : ℕ) {i d j : ℕ} (a : Atomic) (p : Program �
       subst (λ k. P (decided (a .env) (a .memory) k (actEnd {A = ℕ} i (assign x e)))) (is-inj f)
       (through P (eval (a .env) e) _
       (λ q. record { fits = tt; same = rw q; ends = tt })
-      (λ v q. record { fits = ltb-true x (length (a .env)) (both-passed (ltb x (length (a .env))) _ n .0); same = rw q; ends = sym (h .stands .ends) }))
+      (λ v q. record {
+        fits = ltb-true x (length (a .env)) (both-passed (ltb x (length (a .env))) _ n .0);
+        same = rw q;
+        ends = sym (h .stands .ends);
+      }))
   fitting (write y o e) k f h n w =
       let P : Step → Type 0 = Fitting t thread i d j p (length (a .env)) m (write y o e) a in
       subst (λ k. P (decided (a .env) (a .memory) k (actEnd {A = ℕ} i (write y o e)))) (is-inj f)
@@ -109,11 +113,18 @@ module _ {t : List ℕ} (thread : ℕ) {i d j : ℕ} (a : Atomic) (p : Program �
       (through P (eval (a .env) o >>= index) _ (λ r. record { fits = tt; same = rw r; ends = tt }) (λ z r.
       through P (lookup (a .env) y >>= place) _ (λ u. record { fits = tt; same = rw (r, u); ends = tt }) (λ l u.
       through P (cell (a .memory) l z) _ (λ w. record { fits = tt; same = rw (r, u, w); ends = tt }) (λ v w.
-      record { fits = ltb-true x (length (a .env)) (both-passed (ltb x (length (a .env))) _ n .0); same = rw (r, u, w); ends = sym (h .stands .ends) }))))
+      record {
+        fits = ltb-true x (length (a .env)) (both-passed (ltb x (length (a .env))) _ n .0);
+        same = rw (r, u, w);
+        ends = sym (h .stands .ends);
+      }))))
   fitting (if e b c) k f h n w =
       let P : Step → Type 0 = Fitting t thread i d j p (length (a .env)) m (if e b c) a in
       let blocks = if-blocks h in
-      let names = both-passed (named p (length (a .env)) b) (named p (length (a .env)) c) (both-passed (Rules.ex p (length (a .env)) e) (both (named p (length (a .env)) b) (named p (length (a .env)) c)) n .1) in
+      let names =
+      both-passed (named p (length (a .env)) b) (named p (length (a .env)) c)
+      (both-passed (Rules.ex p (length (a .env)) e) (both (named p (length (a .env)) b) (named p (length (a .env)) c)) n .1)
+      in
       let may = both-passed (allowed (within m) b) (allowed (within m) c) w in
       subst (λ k. P (decided (a .env) (a .memory) k (actEnd i (if e b c)))) (is-inj f)
       (through P (eval (a .env) e >>= truth) _ (λ q. record { fits = tt; same = rw q; ends = tt }) (λ v q.

@@ -11,7 +11,8 @@ use Rattle.value.specs.Lists.{at}
 use Rattle.value.specs.Laws.Maybes.{is-inj, missing}
 use Rattle.value.specs.Laws.Tests.{both-passed}
 use Rattle.value.specs.Laws.Lists.{Each, each-at, In, in-front, in-back}
-use Rattle.reader.specs.Syntax.{Expr, Instr, assign, write, read, while, if, call, atomic, select, Block, end, step, _⊕_, Proc, Program, Plain, concurrent}
+use Rattle.reader.specs.Syntax.{Expr, Instr, assign, write, read, while, if, call, atomic}
+use Rattle.reader.specs.Syntax.{select, Block, end, step, _⊕_, Proc, Program, Plain, concurrent}
 use Rattle.reader.specs.Encode.{instr, block, each, bodiesOf, table}
 use Rattle.reader.specs.Labels.{count, countI, tag, tagI, label, labelI, labels, labelled, first, endsOf}
 use Rattle.reader.specs.Rules.{Here, plainly, allowed, allowedI, named, namedI, callees, calleesI, calleesOf}
@@ -176,7 +177,14 @@ pub record Labelled (ps : List (Proc Plain)) (m : ℕ) (q : Proc ℕ) : Type 0 w
 -- each procedure of a labelled program is one
 pub labelled-at : (ps : List (Proc Plain)) (l m : ℕ) {q : Proc ℕ} → at (labels l ps) m ≡ is q → Labelled ps m q
 labelled-at [] l m e = missing e
-labelled-at (p ∷ ps) l zero e = record { plain = p; found = refl; from = l; params = rw (← is-inj e); locals = rw (← is-inj e); body = rw (← is-inj e) }
+labelled-at (p ∷ ps) l zero e = record {
+  plain = p;
+  found = refl;
+  from = l;
+  params = rw (← is-inj e);
+  locals = rw (← is-inj e);
+  body = rw (← is-inj e);
+}
 labelled-at (p ∷ ps) l (suc m) e =
     let w = labelled-at ps (l + suc (count (p .body))) m e in
     record { plain = w .plain; found = w .found; from = w .from; params = w .params; locals = w .locals; body = w .body }
@@ -237,8 +245,12 @@ module _ {t : List ℕ} {p : Program Plain} {m k : ℕ} {c : Block ℕ} (s : Sta
         code = s .code ∙ ap (_⊕ s .after) is;
         next = w .k;
         here = w .here;
-        named = both-passed (namedI (labelled p) (s .proc .locals) (w .s)) (named (labelled p) (s .proc .locals) (w .rest)) (subst (λ (b : Block ℕ). named (labelled p) (s .proc .locals) b ≡ true) is (s .named)) .0;
-        allowed = both-passed (allowedI (bodyIn concurrent m) (w .s)) (allowed (bodyIn concurrent m) (w .rest)) (subst (λ (b : Block ℕ). allowed (bodyIn concurrent m) b ≡ true) is (s .allowed)) .0;
+        named =
+            both-passed (namedI (labelled p) (s .proc .locals) (w .s)) (named (labelled p) (s .proc .locals) (w .rest))
+            (subst (λ (b : Block ℕ). named (labelled p) (s .proc .locals) b ≡ true) is (s .named)) .0;
+        allowed =
+            both-passed (allowedI (bodyIn concurrent m) (w .s)) (allowed (bodyIn concurrent m) (w .rest))
+            (subst (λ (b : Block ℕ). allowed (bodyIn concurrent m) b ≡ true) is (s .allowed)) .0;
         calls = λ q i. s .calls q (subst (λ (b : Block ℕ). In q (callees b)) (sym is) (in-front (calleesI (w .s)) (callees (w .rest)) i));
       }
 
@@ -271,7 +283,9 @@ module _ {t : List ℕ} {p : Program Plain} (sound : Sound concurrent p) (same :
             spot-has (named-inherited (labelled p) (v .proc .locals)) (v .spot)
             (ap₂ (λ X b. named (labelled p) X b) (q .locals) (q .body) ∙ named-label p (q .plain .body) (q .from) (q .plain .locals)
             ∙ names? p (q .plain .locals) (q .plain .body) .of (r .named));
-        allowed = spot-has (allowed-inherited (bodyIn concurrent (n .proc))) (v .spot) (rw (q .body) (allowed-label p (q .plain .body) (q .from) _ ∙ r .allowed));
+        allowed =
+            spot-has (allowed-inherited (bodyIn concurrent (n .proc))) (v .spot)
+            (rw (q .body) (allowed-label p (q .plain .body) (q .from) _ ∙ r .allowed));
         calls =
             spot-has (calls-inherited (labelled p .procs) (n .proc)) (v .spot)
             (λ x i. subst (In x) (called (labelled p .procs) (n .proc) (v .found)) i);

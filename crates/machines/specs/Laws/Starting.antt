@@ -28,10 +28,13 @@ length-sizes t i (suc n) = ap suc (length-sizes t (i + 2) n)
 size-at : (t : List ℕ) (i n k : ℕ) → k < n → getD (sizesAt t i n) k 0 ≡ numberAt 2 t (i + 2 * k)
 size-at t i zero k h = absurd (omega arith)
 size-at t i (suc n) zero h = let here : i + 0 ≡ i = omega arith in rw here
-size-at t i (suc n) (suc k) h = let there : i + 2 + 2 * k ≡ i + 2 * suc k = omega arith in size-at t (i + 2) n k (omega arith) ∙ ap (numberAt 2 t) there
+size-at t i (suc n) (suc k) h =
+    let there : i + 2 + 2 * k ≡ i + 2 * suc k = omega arith in
+    size-at t (i + 2) n k (omega arith) ∙ ap (numberAt 2 t) there
 
 -- sizes that stand in a table are read back
-pub sizes-stand : (t : List ℕ) (i : ℕ) (ns : List ℕ) {j : ℕ} → Stands t i (each (bytes 2) ns) j → Each (λ n. n < 2 ^ 16) ns → sizesAt t i (length ns) ≡ ns
+pub sizes-stand : (t : List ℕ) (i : ℕ) (ns : List ℕ) {j : ℕ} → Stands t i (each (bytes 2) ns) j → Each (λ n. n < 2 ^ 16) ns
+    → sizesAt t i (length ns) ≡ ns
 sizes-stand t i [] s h = refl
 sizes-stand t i (n ∷ ns) s h =
     ap₂ _∷_ (number-at 2 t i ∙ S.number-at 2 n (S.front (bytes 2 n) (each (bytes 2) ns) s) (h .0))

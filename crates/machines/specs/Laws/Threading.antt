@@ -164,7 +164,8 @@ module _ {p : Program Plain} (sound : Sound concurrent p) where
         → Beside ls ls′ (frameWords * top) (frameWords * (top + 2)) → FrameAt p ls′ l top f′ → Threaded p labels′ depths ls′ (set ts t (f′ ∷ s))
     threaded-on {labels′} {ls′} f′ l same L W new =
         let B : Beside labels labels′ top (top + 1) = rw L (beside-set labels top l) in
-        threaded-set (f′ ∷ s) h e (beside-wide B (omega arith) (omega (arith, few))) beside-same (beside-wide W (omega arith) (omega (arith, few))) (record {
+        threaded-set (f′ ∷ s) h e (beside-wide B (omega arith) (omega (arith, few))) beside-same
+        (beside-wide W (omega arith) (omega (arith, few))) (record {
           depth = own .depth;
           frames = (
             rw (L, getD-set-same labels top l 0 (omega (arith, top-there, h .labels-long))) new,
@@ -184,7 +185,8 @@ module _ {p : Program Plain} (sound : Sound concurrent p) where
 
     -- it goes on at label l, and calls the frame g, which begins at label b
     pub threaded-call : {labels′ depths′ ls′ : List ℕ} (f′ g : Frame ℕ) (l b : ℕ) → f′ .proc ≡ f .proc
-        → In (g .proc) (calleesOf (labelled p .procs) (f .proc)) → labels′ ≡ set (set labels top l) (top + 1) b → depths′ ≡ set depths t (length s + 2)
+        → In (g .proc) (calleesOf (labelled p .procs) (f .proc)) → labels′ ≡ set (set labels top l) (top + 1) b
+        → depths′ ≡ set depths t (length s + 2)
         → Beside ls ls′ (frameWords * top) (frameWords * (top + 2)) → FrameAt p ls′ l top f′ → FrameAt p ls′ b (top + 1) g
         → Threaded p labels′ depths′ ls′ (set ts t (g ∷ f′ ∷ s))
     threaded-call {labels′} {depths′} {ls′} f′ g l b same i L D W mine new =
@@ -200,7 +202,8 @@ module _ {p : Program Plain} (sound : Sound concurrent p) where
         threaded-set (g ∷ f′ ∷ s) h e (beside-wide B (omega arith) (omega (arith, few))) (rw D (beside-set depths t (length s + 2)))
         (beside-wide W (omega arith) (omega (arith, few))) (record {
           depth =
-              ap (λ (ds : List ℕ). getD ds t 0) D ∙ getD-set-same depths t (length s + 2) 0 (omega (arith, thread-there, h .depths-long)) ∙ omega arith;
+              ap (λ (ds : List ℕ). getD ds t 0) D ∙ getD-set-same depths t (length s + 2) 0 (omega (arith, thread-there, h .depths-long))
+              ∙ omega arith;
           frames = (rw (next, above) new, (rw below mine, frames-below B W (threadFrames * t) s (omega arith) (omega arith) (own .frames .1)));
           linked = (rw same i, (rw same (own .linked .0), own .linked .1));
         })
@@ -212,6 +215,9 @@ module _ {p : Program Plain} (sound : Sound concurrent p) where
         subst (Threaded p labels depths ls′) (set-same ts t e)
         (threaded-set (f ∷ s) h e beside-same beside-same (beside-wide W (omega arith) (omega (arith, few))) (record {
           depth = own .depth;
-          frames = (mine, frames-below (beside-same {ws = labels} {a = top} {b = top}) W (threadFrames * t) s (omega arith) (omega arith) (own .frames .1));
+          frames = (
+            mine,
+            frames-below (beside-same {ws = labels} {a = top} {b = top}) W (threadFrames * t) s (omega arith) (omega arith) (own .frames .1),
+          );
           linked = own .linked;
         }))

@@ -3,7 +3,8 @@ use Prim.Native.Nat.{ℕ, _+_, _-_, _≤_, _<_}
 use native.Mathlib.Omega.{arith}
 use mathlib.Core.Path.{_≡_, refl, sym, ap, _∙_}
 use mathlib.Core.List.{List, [], _∷_, _++_, map}
-use lib.ListN.{length, getD, set, replicate, length-set, length-append, length-map, length-replicate, getD-replicate, List·getD-append, List·getD-eq-default}
+use lib.ListN.{length, getD, set, replicate, length-set, length-append}
+use lib.ListN.{length-map, length-replicate, getD-replicate, List·getD-append, List·getD-eq-default}
 use lib.Seq.{getD-set-same, getD-set-other, getD-append-add}
 use lib.Dec.{eqb, ltb}
 use borrow.Author.Tests.{eqb-true, eqb-false, ltb-true, ltb-false}
@@ -76,7 +77,8 @@ clears-all {ws} {ws′} {a} {i} {b} h l c = let same : i ≡ b = omega arith in 
 -- ---- locals
 
 -- a word of a frame is one of all, and holds its local
-pub framed-get : {ls : List ℕ} {fb : ℕ} {ρ : Env} → Framed ls fb ρ → (x : ℕ) → x < length ρ → (fb + x < localWords) × (held (getD ls (fb + x) 0) ≡ lookup ρ x)
+pub framed-get : {ls : List ℕ} {fb : ℕ} {ρ : Env} → Framed ls fb ρ → (x : ℕ) → x < length ρ
+    → (fb + x < localWords) × (held (getD ls (fb + x) 0) ≡ lookup ρ x)
 framed-get f x l = (omega (arith, f .room), f .each x l)
 
 -- a frame without locals
@@ -84,7 +86,8 @@ pub framed-none : {ls : List ℕ} {fb : ℕ} → length ls ≡ localWords → fb
 framed-none e l = record { long = e; room = omega arith; each = λ x m. absurd (omega arith) }
 
 -- a local is set
-pub framed-put : {ls ls′ : List ℕ} {fb x : ℕ} {ρ : Env} {v : Value} → Framed ls fb ρ → x < length ρ → Puts ls ls′ (fb + x) v → Framed ls′ fb (bound ρ x v)
+pub framed-put : {ls ls′ : List ℕ} {fb x : ℕ} {ρ : Env} {v : Value} → Framed ls fb ρ → x < length ρ → Puts ls ls′ (fb + x) v
+    → Framed ls′ fb (bound ρ x v)
 framed-put {ls} {fb = fb} {x} {ρ} {v} f l p = rw (p .stored) (record {
   long = length-set ls (fb + x) (p .word) ∙ f .long;
   room = omega (arith, f .room, length-set ρ x (is v));

@@ -89,7 +89,9 @@ module _ {cs : List ℕ} {n : ℕ} {o : List ℕ} where
         in
         let fits : i * 5 + 5 ≤ length o′ = omega (arith, W .long) in
         let next : take (i + 1) vs ≡ take i vs ++ (v ∷ []) = let one : i + 1 ≡ suc i = omega arith in rw one (take-suc vs i d below) in
-        let all : each cellBytes (take (i + 1) vs) ≡ front ++ cellBytes v = rw (next, each-append cellBytes (take i vs) (v ∷ []), append-nil (cellBytes v)) in
+        let all : each cellBytes (take (i + 1) vs) ≡ front ++ cellBytes v =
+        rw (next, each-append cellBytes (take i vs) (v ∷ []), append-nil (cellBytes v))
+        in
         O .written v value
         ∙ rw (le-leb (i * 5 + 5) (length o′) fits, all, ← size, W .written η h e r)
         (over-more front (cellBytes v) o (omega (arith, length-cell v)));
