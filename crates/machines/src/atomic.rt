@@ -30,7 +30,8 @@ pub fn carry_out(
     count: usize,
 ) -> Done
     requires { ⌜ Carrying base step (now words) (now cells) (now events) count ⌝ }
-    ensures { λ r. ⌜ Carries thread base step (now (words .entry)) (now (cells .entry)) (now (events .entry)) count (now (words .exit)) (now (cells .exit)) (now (events .exit)) r ⌝ }
+    ensures { λ r. ⌜ Carries thread base step (now (words .entry)) (now (cells .entry)) (now (events .entry)) count
+        (now (words .exit)) (now (cells .exit)) (now (events .exit)) r ⌝ }
 {
     match step {
         Step::Assign { x, value, next } => {
@@ -106,7 +107,8 @@ fn do_block(
     count: usize,
 ) -> Done
     requires { ⌜ Doing (now t) thread base (now starts) at depth (now words) (now cells) (now events) count ⌝ }
-    ensures { λ r. ⌜ Does (now (t .entry)) thread base (now (starts .entry)) at depth (now (words .entry)) (now (cells .entry)) (now (events .entry)) count
+    ensures { λ r. ⌜ Does (now (t .entry)) thread base (now (starts .entry)) at depth
+        (now (words .entry)) (now (cells .entry)) (now (events .entry)) count
         (now (words .exit)) (now (cells .exit)) (now (events .exit)) r ⌝ }
 {
     let mut i = at;
@@ -149,7 +151,8 @@ fn do_instr(
     count: usize,
 ) -> Done
     requires { ⌜ DoingI (now t) thread base (now starts) at depth (now words) (now cells) (now events) count ⌝ }
-    ensures { λ r. ⌜ DoesI (now (t .entry)) thread base (now (starts .entry)) at depth (now (words .entry)) (now (cells .entry)) (now (events .entry)) count
+    ensures { λ r. ⌜ DoesI (now (t .entry)) thread base (now (starts .entry)) at depth
+        (now (words .entry)) (now (cells .entry)) (now (events .entry)) count
         (now (words .exit)) (now (cells .exit)) (now (events .exit)) r ⌝ }
 {
     let step = decide(t, words, base, starts, cells, at);
@@ -209,7 +212,8 @@ pub fn do_atomic(
     count: usize,
 ) -> Done
     requires { ⌜ Doing (now t) thread base (now starts) at 16 (now words) (now cells) (now events) count ⌝ }
-    ensures { λ r. ⌜ DoesWhole (now (t .entry)) thread base (now (starts .entry)) at 16 (now (words .entry)) (now (cells .entry)) (now (events .entry)) count
+    ensures { λ r. ⌜ DoesWhole (now (t .entry)) thread base (now (starts .entry)) at 16
+        (now (words .entry)) (now (cells .entry)) (now (events .entry)) count
         (now (words .exit)) (now (cells .exit)) (now (events .exit)) r ⌝ }
 {
     let mut some_words = *words;

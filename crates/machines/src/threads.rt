@@ -173,8 +173,8 @@ pub fn step(
     count: usize,
 ) -> Stepped
     requires { ⌜ Stepping (now t) (now map) (now bounds) (now starts) thread (now labels) (now depths) (now words) (now cells) (now events) count ⌝ }
-    ensures { λ r. ⌜ Steps (now (t .entry)) (now (map .entry)) (now (bounds .entry)) (now (starts .entry)) thread (now (labels .entry)) (now (depths .entry))
-        (now (words .entry)) (now (cells .entry)) (now (events .entry)) count
+    ensures { λ r. ⌜ Steps (now (t .entry)) (now (map .entry)) (now (bounds .entry)) (now (starts .entry)) thread
+        (now (labels .entry)) (now (depths .entry)) (now (words .entry)) (now (cells .entry)) (now (events .entry)) count
         (now (labels .exit)) (now (depths .exit)) (now (words .exit)) (now (cells .exit)) (now (events .exit)) r ⌝ }
 {
     let i = thread as usize;
