@@ -24,8 +24,6 @@ use Rattle.reader.proofs.Counting.{block-in}
 use Rattle.machines.specs.Jumps.{positions, last, Entry, FilledBlock, FillsBlock, FillsJumps}
 use Rattle.machines.proofs.Jumping.{code-in, end-spot, entry-kept}
 
--- ---- all bodies
-
 -- procedures before m are done, and the body of m begins at i
 pub record Filled (t : List ℕ) (c : ℕ) (js : List ℕ) (m i : ℕ) (js′ : List ℕ) : Type 0 where
   pub bodies : BodiesIn t 0 c

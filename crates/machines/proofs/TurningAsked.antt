@@ -35,8 +35,6 @@ use Rattle.machines.specs.Laws.Standing.{Running, at-end, at-instr}
 use Rattle.machines.specs.Laws.Leading.{Leads, leads}
 use Rattle.machines.proofs.TurningAtomic.{turn-inside}
 
--- ---- an act
-
 -- the first instruction of code, if it is decided
 code-instr : (p : Program Plain) (thread m a : ℕ) (i : Instr ℕ) (c : Block ℕ) (x : Atomic) (s : Stack ℕ) {k : Act} → actOf i ≡ is k
     → codeOf p thread m (step a i c) x s ≡ F.instr (labelled p .procs) thread m (x .env) a i c s (x .memory)

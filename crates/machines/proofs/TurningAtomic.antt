@@ -28,8 +28,6 @@ use Rattle.machines.specs.Laws.Threading.{beside-wide}
 use Rattle.machines.proofs.Inside.{came, stopped}
 use Rattle.machines.proofs.InsideBlock.{bare, same-later, bind-none}
 
--- ---- an atomic block
-
 -- what an atomic block leaves, before code c of procedure m and above the frames s
 abbrev leaves : ℕ → Block ℕ → Stack ℕ → Atomic → Maybe (Moved ℕ)
 leaves m c s r = is (record { stack = record { proc = m; env = r .env; code = c } ∷ s; memory = r .memory; events = r .events })
