@@ -81,7 +81,8 @@ pub extern "C" fn zaru_read_sequential(table: &[u8], answer: &mut [u64])
 // Translates a concurrent table.
 #[no_mangle]
 pub extern "C" fn zaru_translate(table: &[u8], out: &mut [u8], answer: &mut [u64])
-    ensures { λ _. ⌜ _≡_ {A = Translated} (record { out = now (out .exit); answer = now (answer .exit) }) (translated (translateCall (now (table .entry)) (now (out .entry))) (now (answer .entry))) ⌝ }
+    ensures { λ _. ⌜ _≡_ {A = Translated} (record { out = now (out .exit); answer = now (answer .exit) }) (translated (translateCall
+        (now (table .entry)) (now (out .entry))) (now (answer .entry))) ⌝ }
 {
     let r = translator::translate(table, out);
     store_write(answer, r);
@@ -96,7 +97,9 @@ pub extern "C" fn zaru_run_concurrent(
     events: &mut [u8],
     answer: &mut [u64],
 )
-    ensures { λ _. ⌜ _≡_ {A = Ran} (record { cells = now (cells .exit); events = now (events .exit); answer = now (answer .exit) }) (ran (concurrentCall (now (table .entry)) (now (schedule .entry)) (now (cells .entry)) (now (events .entry))) (now (answer .entry))) ⌝ }
+    ensures { λ _. ⌜ _≡_ {A = Ran} (record { cells = now (cells .exit); events = now (events .exit); answer = now (answer .exit) })
+        (ran (concurrentCall (now (table .entry)) (now (schedule .entry)) (now (cells .entry)) (now (events .entry)))
+        (now (answer .entry))) ⌝ }
 {
     let r = machines::run_concurrent(table, schedule, cells, events);
     store_run(answer, r);
@@ -113,7 +116,9 @@ pub extern "C" fn zaru_run_sequential(
     events: &mut [u8],
     answer: &mut [u64],
 )
-    ensures { λ _. ⌜ _≡_ {A = Ran} (record { cells = now (cells .exit); events = now (events .exit); answer = now (answer .exit) }) (ran (sequentialCall budget h (now (table .entry)) (now (schedule .entry)) (now (cells .entry)) (now (events .entry))) (now (answer .entry))) ⌝ }
+    ensures { λ _. ⌜ _≡_ {A = Ran} (record { cells = now (cells .exit); events = now (events .exit); answer = now (answer .exit) })
+        (ran (sequentialCall budget h (now (table .entry)) (now (schedule .entry)) (now (cells .entry)) (now (events .entry)))
+        (now (answer .entry))) ⌝ }
 {
     let r = machines::run_sequential(table, schedule, budget, h, cells, events);
     store_run(answer, r);

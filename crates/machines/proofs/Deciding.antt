@@ -31,8 +31,10 @@ use Rattle.machines.specs.Words.{held}
 use Rattle.machines.specs.Evaluated.{Below, Ready, Evaluates}
 use Rattle.machines.specs.Laws.Work.{beside-same, framed-none}
 use Rattle.machines.specs.Laws.Holding.{cell-full, cell-word, cell-held}
-use Rattle.machines.specs.Decided.{Act, assigns, writes, reads, tests, calls, returns, numberOf, decided, orBlocked, AssignHere, WriteHere, ReadHere, Tests, TestHere, CallHere, ActAt}
-use Rattle.machines.specs.Decided.{argsOf, Poised, Passable, Writable, Readable, Laid, Lies, Kept, Any, AssignOf, TestOf, Decides, PassedAs, PassesAll, Passes, DecidesAll}
+use Rattle.machines.specs.Decided.{Act, assigns, writes, reads, tests, calls, returns, numberOf, decided, orBlocked, AssignHere, WriteHere}
+use Rattle.machines.specs.Decided.{ReadHere, Tests, TestHere, CallHere, ActAt}
+use Rattle.machines.specs.Decided.{argsOf, Poised, Passable, Writable, Readable, Laid, Lies, Kept, Any, AssignOf, TestOf, Decides}
+use Rattle.machines.specs.Decided.{PassedAs, PassesAll, Passes, DecidesAll}
 
 -- ---- what stands there, by its mark
 
@@ -102,7 +104,8 @@ module _ (t : List ℕ) (i n : ℕ) where
   see-return (calls m es) j h q = absurd (omega (arith, h .mark))
 
   -- the byte is one of those of the acts, and none of the others: a test's
-  see-other : (a : Act) (j : ℕ) → ActAt t i n a j → (getD t i 0 ≡ 0x25 → ⊥) → (getD t i 0 ≡ 0x00 → ⊥) → (getD t i 0 ≡ 0x20 → ⊥) → (getD t i 0 ≡ 0x21 → ⊥)
+  see-other : (a : Act) (j : ℕ) → ActAt t i n a j → (getD t i 0 ≡ 0x25 → ⊥)
+      → (getD t i 0 ≡ 0x00 → ⊥) → (getD t i 0 ≡ 0x20 → ⊥) → (getD t i 0 ≡ 0x21 → ⊥)
       → (getD t i 0 ≡ 0x22 → ⊥) → Tests t i
   see-other (tests e) j h n₁ n₂ n₃ n₄ n₅ = h .mark
   see-other (calls m es) j h n₁ n₂ n₃ n₄ n₅ = absurd (n₁ (h .mark))

@@ -17,7 +17,8 @@ use Rattle.value.specs.Laws.Maybes.{is-inj, missing}
 use Rattle.value.specs.Laws.Tests.{never, both-passed}
 use Rattle.value.specs.Laws.Lists.{each-at}
 use Rattle.value.specs.Laws.Bytes.{number-at}
-use Rattle.reader.specs.Syntax.{Expr, Instr, assign, write, read, while, if, call, atomic, select, Block, end, step, _⊕_, Proc, Program, Plain, sequential}
+use Rattle.reader.specs.Syntax.{Expr, Instr, assign, write, read, while, if, call, atomic, select, Block, end, step, _⊕_, Proc, Program, Plain}
+use Rattle.reader.specs.Syntax.{sequential}
 use Rattle.reader.specs.Encode.{table}
 use Rattle.reader.specs.Encode as E
 use Rattle.reader.specs.Rules.{allowedI, namedI, named}
@@ -34,7 +35,8 @@ use Rattle.machines.specs.Memory.{evals}
 use Rattle.machines.specs.Step.{Frame, Stack}
 use Rattle.machines.specs.Copy as C
 use Rattle.machines.specs.Work.{Beside, frameWords, localWords, Framed, Bases}
-use Rattle.machines.specs.Decided.{Act, assigns, writes, reads, tests, calls, returns, actOf, actEnd, argsOf, Tests, ActAt, Poised, Lies, Kept, DecidesAll, SelectHere, Selects, Selectable}
+use Rattle.machines.specs.Decided.{Act, assigns, writes, reads, tests, calls, returns, actOf, actEnd, argsOf, Tests, ActAt, Poised, Lies}
+use Rattle.machines.specs.Decided.{Kept, DecidesAll, SelectHere, Selects, Selectable}
 use Rattle.machines.specs.Jumps.{Settled, last, first}
 use Rattle.machines.specs.Frames.{FrameAt, Stacked}
 use Rattle.machines.specs.Sequential.{mostFrames, Present, Decision, leaves, acts, selects, Facing, Faced, Faces, UsedUp}
@@ -50,7 +52,8 @@ use Rattle.machines.proofs.CarryingOut.{tower-of, deep-of, top-frame, s
 -- the end of a body, an instruction that asks something, or a select
 pub data View (t : List ℕ) (p : Program Plain) (f : Frame Plain) (k : ℕ) : Type 0 where
   ending : f .code ≡ end → getD t k 0 ≡ 0 → View t p f k
-  acting : (i : Instr Plain) (d r : Block Plain) (a : Act) → CodeAt (p .procs) (f .proc) k (step tt i d) r → f .code ≡ step tt i (d ⊕ r) → actOf i ≡ is a
+  acting : (i : Instr Plain) (d r : Block Plain) (a : Act) → CodeAt (p .procs) (f .proc) k (step tt i d) r
+      → f .code ≡ step tt i (d ⊕ r) → actOf i ≡ is a
       → ActAt t k (length (f .env)) a (actEnd k i) → (getD t k 0 ≡ 0x27 → ⊥) → View t p f k
   choosing : (a b : ℕ) (d r : Block Plain) → CodeAt (p .procs) (f .proc) k (step tt (select a b) d) r → f .code ≡ step tt (select a b) (d ⊕ r)
       → getD t k 0 ≡ 0x27 → k + 5 ≤ length t → numberAt 2 t (k + 1) ≡ a → numberAt 2 t (k + 3) ≡ b → a < length (p .sizes) → View t p f k
@@ -69,7 +72,8 @@ module _ {t : List ℕ} {p : Program Plain} (same : t ≡ table sequential p) (s
 
   module _ {f : Frame Plain} {k j X : ℕ} (d r : Block Plain) (long : length (f .env) ≡ X) where
     -- an instruction that asks something
-    acted : (i : Instr Plain) (a : Act) → CodeAt (p .procs) (f .proc) k (step tt i d) r → f .code ≡ step tt i (d ⊕ r) → actOf i ≡ is a → InstrAt t k 15 i j
+    acted : (i : Instr Plain) (a : Act) → CodeAt (p .procs) (f .proc) k (step tt i d) r
+        → f .code ≡ step tt i (d ⊕ r) → actOf i ≡ is a → InstrAt t k 15 i j
         → NamesI p X i → length (argsOf a) ≤ frameWords → (getD t k 0 ≡ 0x27 → ⊥) → View t p f k
     acted i a c e q h n few other =
         acting i d r a c e q (rw long (act-at t k X p i a q (h .stands) (h .fits .1) (names-pass X i n) few)) other

@@ -12,7 +12,8 @@ use value::Value;
 ghost use mathlib.Core.Path.{_≡_};
 ghost use Prim.Native.Nat.{_+_, _≤_, _<_};
 ghost use lib.ListN.{length, getD};
-ghost use Rattle.machines.specs.Decided.{Poised, Passable, Writable, Readable, Laid, Lies, Kept, Any, AssignOf, TestOf, Decides, PassesAll, DecidesAll, Selectable, Selects};
+ghost use Rattle.machines.specs.Decided.{Poised, Passable, Writable, Readable, Laid, Lies, Kept, Any, AssignOf, TestOf, Decides};
+ghost use Rattle.machines.specs.Decided.{PassesAll, DecidesAll, Selectable, Selects};
 
 // What a step does. `next` is where the instruction ends, of a test where its expression ends.
 pub enum Step {
@@ -217,7 +218,8 @@ pub fn decide(
     at: usize,
 ) -> Step
     requires { ⌜ Poised (now t) (now words) base at × Kept (now starts) (now cells) ⌝ }
-    ensures { λ r. ⌜ DecidesAll (now (t .entry)) (now (words .entry)) (now (words .exit)) base at (Lies (now (starts .entry)) (now (cells .entry))) r ⌝ }
+    ensures { λ r. ⌜ DecidesAll (now (t .entry)) (now (words .entry)) (now (words .exit)) base at (Lies (now (starts .entry))
+        (now (cells .entry))) r ⌝ }
 {
     let mark = t[at];
     match mark {

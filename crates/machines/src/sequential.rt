@@ -20,7 +20,8 @@ ghost use lib.IntN.{pos};
 ghost use lib.ListN.{length};
 ghost use Rattle.value.specs.declared.Value.the-variants.{Whole};
 ghost use Rattle.machines.specs.Jumps.{positions};
-ghost use Rattle.machines.specs.Sequential.{mostFrames, eventIn, Recorded, movedTo, selectedTo, Enterable, Enters, Due, CarriesOut, Facing, Faces, UsedUp, ranWith, Starting, Runs, Accepted, Outcomes};
+ghost use Rattle.machines.specs.Sequential.{mostFrames, eventIn, Recorded, movedTo, selectedTo, Enterable, Enters, Due, CarriesOut};
+ghost use Rattle.machines.specs.Sequential.{Facing, Faces, UsedUp, ranWith, Starting, Runs, Accepted, Outcomes};
 
 // "P not 1..512": a position for each frame, by the number of frames up to it.
 pub const FRAMES: usize = 513;
@@ -144,7 +145,8 @@ fn enter(
     next: usize,
 ) -> usize
     requires { ⌜ Enterable (now t) records depth m × (next < positions) ⌝ }
-    ensures { λ r. ⌜ Enters (now (t .entry)) records depth m next (now (words .entry)) (now (back .entry)) (now (words .exit)) (now (back .exit)) r ⌝ }
+    ensures { λ r. ⌜ Enters (now (t .entry)) records depth m next (now (words .entry)) (now (back .entry)) (now (words .exit))
+        (now (back .exit)) r ⌝ }
 {
     let record = records + RECORD * m;
     let base = FRAME * depth;
@@ -172,7 +174,9 @@ fn carry_out(
     step: Step,
 ) -> State
     requires { ⌜ Due (now t) records (now jumps) (now words) (now back) (now cells) (now events) state step ⌝ }
-    ensures { λ r. ⌜ CarriesOut (now (t .entry)) records (now (jumps .entry)) h (now (words .entry)) (now (back .entry)) (now (cells .entry)) (now (events .entry)) state step (now (words .exit)) (now (back .exit)) (now (cells .exit)) (now (events .exit)) r ⌝ }
+    ensures { λ r. ⌜ CarriesOut (now (t .entry)) records (now (jumps .entry)) h (now (words .entry)) (now (back .entry))
+        (now (cells .entry)) (now (events .entry)) state step (now (words .exit)) (now (back .exit)) (now (cells .exit))
+        (now (events .exit)) r ⌝ }
 {
     match step {
         Step::Return => {
@@ -233,8 +237,10 @@ fn due(
     cells: &[u64; memory::WORDS],
     state: State,
 ) -> Step
-    requires { ⌜ Facing (now t) (now schedule) (now starts) (now words) (now cells) state × (state .at < length (now t)) × (1 ≤ state .depth) × (state .depth ≤ mostFrames) ⌝ }
-    ensures { λ r. ⌜ Faces (now (t .entry)) (now (schedule .entry)) (now (starts .entry)) (now (words .entry)) (now (cells .entry)) state (now (words .exit)) r ⌝ }
+    requires { ⌜ Facing (now t) (now schedule) (now starts) (now words) (now cells) state × (state .at < length (now t))
+        × (1 ≤ state .depth) × (state .depth ≤ mostFrames) ⌝ }
+    ensures { λ r. ⌜ Faces (now (t .entry)) (now (schedule .entry)) (now (starts .entry)) (now (words .entry))
+        (now (cells .entry)) state (now (words .exit)) r ⌝ }
 {
     let at = state.at;
     let base = FRAME * (state.depth - 1);
@@ -300,7 +306,9 @@ fn go(
     budget: u64,
 ) -> Ran
     requires { ⌜ Starting (now t) records (now jumps) (now starts) (now words) (now back) (now cells) ⌝ }
-    ensures { λ r. ⌜ Runs (now (t .entry)) records (now (schedule .entry)) (now (jumps .entry)) (now (starts .entry)) (now (words .entry)) (now (back .entry)) (now (cells .entry)) h budget (now (events .entry)) (now (cells .exit)) (now (events .exit)) r ⌝ }
+    ensures { λ r. ⌜ Runs (now (t .entry)) records (now (schedule .entry)) (now (jumps .entry)) (now (starts .entry))
+        (now (words .entry)) (now (back .entry)) (now (cells .entry)) h budget (now (events .entry)) (now (cells .exit))
+        (now (events .exit)) r ⌝ }
 {
     let mut state = State {
         at: wide(table::four(t, records + 2)),
@@ -353,7 +361,8 @@ pub fn run(
     events: &mut [u8],
 ) -> RunAnswer
     requires { ⌜ Accepted (now t) procedures locations count ⌝ }
-    ensures { λ r. ⌜ Outcomes (now (t .entry)) procedures locations count (now (schedule .entry)) budget h (now (cells .entry)) (now (events .entry)) r (now (cells .exit)) (now (events .exit)) ⌝ }
+    ensures { λ r. ⌜ Outcomes (now (t .entry)) procedures locations count (now (schedule .entry)) budget h (now (cells .entry))
+        (now (events .entry)) r (now (cells .exit)) (now (events .exit)) ⌝ }
 {
     let records = t.len() - TRAILER - RECORD * procedures - SIZE * locations;
     let mut positions = [0u16; POSITIONS];
