@@ -6,12 +6,12 @@ use mathlib.Core.Bool.{true, false}
 use lib.ListN.{length}
 use lib.Dec.{eqb}
 use Rattle.value.specs.Maybe.{pick}
-use Rattle.reader.specs.Syntax.{Program, Plain, Kind, concurrent, sequential}
-use Rattle.reader.specs.Rules.{Verdict, refused, accepted, verdict}
-use Rattle.machines.specs.Threads as P
-use Rattle.machines.specs.Copy as C
-use Rattle.machines.specs.declared.RunAnswer.{RunAnswer}
-use Rattle.machines.specs.Calls.{refusal, ran, scheduled, concurrentRun, sequentialRun}
+use Rattle.format.specs.Syntax.{Program, Plain, Kind, concurrent, sequential}
+use Rattle.format.specs.Rules.{Verdict, refused, accepted, verdict}
+use Rattle.semantics.specs.Threads as P
+use Rattle.semantics.specs.Copy as C
+use Rattle.semantics.specs.declared.RunAnswer.{RunAnswer}
+use Rattle.semantics.specs.Calls.{refusal, ran, scheduled, concurrentRun, sequentialRun}
 use Rattle.agreement.specs.declared.Figures.{Figures}
 use Rattle.agreement.specs.Agreement.{budget}
 use Rattle.agreement.specs.Figures as Told

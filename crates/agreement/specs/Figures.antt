@@ -4,13 +4,13 @@ use mathlib.Core.List.{List}
 use mathlib.Core.Bool.{true, false}
 use lib.ListN.{length}
 use lib.Dec.{ltb}
-use Rattle.reader.specs.Syntax.{Program, Plain, concurrent, sequential}
-use Rattle.reader.specs.Encode.{table}
-use Rattle.reader.specs.Rules.{Verdict, refused, accepted, verdict, limits}
-use Rattle.translator.specs.Translate.{translate}
-use Rattle.machines.specs.Threads as P
-use Rattle.machines.specs.Copy as C
-use Rattle.machines.specs.Calls.{endNumber, scheduled}
+use Rattle.format.specs.Syntax.{Program, Plain, concurrent, sequential}
+use Rattle.format.specs.Encode.{table}
+use Rattle.format.specs.Rules.{Verdict, refused, accepted, verdict, limits}
+use Rattle.translation.specs.Translate.{translate}
+use Rattle.semantics.specs.Threads as P
+use Rattle.semantics.specs.Copy as C
+use Rattle.semantics.specs.Calls.{endNumber, scheduled}
 use Rattle.agreement.specs.declared.Figures.{Figures}
 use Rattle.agreement.specs.Agreement.{programRun, copyRun, budget}
 

@@ -10,7 +10,7 @@
 mod buffers;
 mod print;
 
-use machines::RunAnswer;
+use semantics::RunAnswer;
 use value::bytes;
 
 const HEADER: usize = 36;
@@ -165,7 +165,7 @@ fn run_machine(request: Request, table: &[u8], schedule: &[u8]) {
 // The run program's line on its whole input.
 fn run_program(input: &[u8]) {
     let mut line = [0u8; 128];
-    let n = agreement::input::print(input, &mut line);
+    let n = figures::input::print(input, &mut line);
     print::line(RUN_PROGRAM, &line[..n]);
 }
 

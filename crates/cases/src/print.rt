@@ -1,8 +1,8 @@
 // The lines on standard output.
 use super::buffers;
-use machines::RunAnswer;
-use reader::ReadAnswer;
-use translator::WriteAnswer;
+use format::ReadAnswer;
+use semantics::RunAnswer;
+use translation::WriteAnswer;
 
 // A space, then the number.
 fn number(n: u64) {

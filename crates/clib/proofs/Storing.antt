@@ -4,11 +4,11 @@ use native.Mathlib.Omega.{arith}
 use mathlib.Core.Path.{_≡_, refl, ap, ap₂, _∙_}
 use mathlib.Core.List.{List, [], _∷_}
 use lib.ListN.{length, set}
-use Rattle.reader.specs.declared.ReadAnswer.{ReadAnswer}
-use Rattle.translator.specs.declared.WriteAnswer.{WriteAnswer}
-use Rattle.translator.specs.Calls.{Written}
-use Rattle.machines.specs.declared.RunAnswer.{RunAnswer}
-use Rattle.machines.specs.Calls.{Outcome}
+use Rattle.format.specs.declared.ReadAnswer.{ReadAnswer}
+use Rattle.translation.specs.declared.WriteAnswer.{WriteAnswer}
+use Rattle.translation.specs.Calls.{Written}
+use Rattle.semantics.specs.declared.RunAnswer.{RunAnswer}
+use Rattle.semantics.specs.Calls.{Outcome}
 use Rattle.clib.specs.Numbers.{stored, readNumbers, writeNumbers, runNumbers, Translated, translated, Ran, ran}
 
 -- past the end nothing is stored

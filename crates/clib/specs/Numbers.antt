@@ -2,11 +2,11 @@
 use Prim.Native.Nat.{ℕ, suc}
 use mathlib.Core.List.{List, [], _∷_}
 use lib.ListN.{set}
-use Rattle.reader.specs.declared.ReadAnswer.{ReadAnswer}
-use Rattle.translator.specs.declared.WriteAnswer.{WriteAnswer}
-use Rattle.translator.specs.Calls.{Written}
-use Rattle.machines.specs.declared.RunAnswer.{RunAnswer}
-use Rattle.machines.specs.Calls.{Outcome}
+use Rattle.format.specs.declared.ReadAnswer.{ReadAnswer}
+use Rattle.translation.specs.declared.WriteAnswer.{WriteAnswer}
+use Rattle.translation.specs.Calls.{Written}
+use Rattle.semantics.specs.declared.RunAnswer.{RunAnswer}
+use Rattle.semantics.specs.Calls.{Outcome}
 
 -- numbers from place i on, each where there is such a place; all others stay
 abbrev pub stored : ℕ → List ℕ → List ℕ → List ℕ

@@ -1,15 +1,15 @@
 // The calls for programs in C: a slice is a pointer and a length, and the numbers of an answer go into a lent array, each where the
 // array has a place for it.
-use machines::RunAnswer;
-use reader::ReadAnswer;
-use translator::WriteAnswer;
+use format::ReadAnswer;
+use semantics::RunAnswer;
+use translation::WriteAnswer;
 ghost use mathlib.Core.Path.{_≡_};
 ghost use Prim.Native.Nat.{_+_, _≤_};
 ghost use lib.ListN.{set};
-ghost use Rattle.reader.specs.Syntax.{concurrent, sequential};
-ghost use Rattle.reader.specs.Calls.{readCall};
-ghost use Rattle.translator.specs.Calls.{translateCall};
-ghost use Rattle.machines.specs.Calls.{concurrentCall, sequentialCall};
+ghost use Rattle.format.specs.Syntax.{concurrent, sequential};
+ghost use Rattle.format.specs.Calls.{readCall};
+ghost use Rattle.translation.specs.Calls.{translateCall};
+ghost use Rattle.semantics.specs.Calls.{concurrentCall, sequentialCall};
 ghost use Rattle.clib.specs.Numbers.{stored, readNumbers, writeNumbers, runNumbers, Translated, translated, Ran, ran};
 
 // Number i of an answer.

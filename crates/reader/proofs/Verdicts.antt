@@ -10,20 +10,20 @@ use mir.Val.{Fits}
 use lib.Dec.{leb}
 use borrow.Author.Tests.{le-leb, lt-leb}
 use Rattle.value.specs.Laws.Bytes.{Bytes, bytes-at}
-use Rattle.reader.specs.Syntax.{Program, Plain, Kind, concurrent, sequential}
-use Rattle.reader.specs.Rules.{allNamed, fewLabels, noCycle, setFirst, accepted}
-use Rattle.reader.specs.Calls.{labelsOf, readAs}
-use Rattle.reader.specs.Shapes.{ShapedAs, HasShape, FormFor, FormIs, LabelsAre, refusal, acceptance, Answers}
-use Rattle.reader.specs.Laws.Passes.{small}
-use Rattle.reader.specs.Laws.TablePlaces.{trailer-at}
-use Rattle.reader.specs.Laws.Laid.{Laid, Named, Room, Judges}
-use Rattle.reader.specs.Laws.NameScans.{Counted}
-use Rattle.reader.specs.Laws.LabelScans.{CountsLabels}
-use Rattle.reader.proofs.Rule3.{is-concurrent, is-sequential}
-use Rattle.reader.specs.declared.form.Shape.{Shape}
-use Rattle.reader.specs.declared.form.Form.{Form}
-use Rattle.reader.specs.declared.form.Form.the-variants.{Refused, Shaped}
-use Rattle.reader.specs.declared.ReadAnswer.{ReadAnswer}
+use Rattle.format.specs.Syntax.{Program, Plain, Kind, concurrent, sequential}
+use Rattle.format.specs.Rules.{allNamed, fewLabels, noCycle, setFirst, accepted}
+use Rattle.format.specs.Calls.{labelsOf, readAs}
+use Rattle.shape.specs.Shapes.{ShapedAs, HasShape, FormFor, FormIs, LabelsAre, refusal, acceptance, Answers}
+use Rattle.format.specs.Laws.Passes.{small}
+use Rattle.format.specs.Laws.TablePlaces.{trailer-at}
+use Rattle.scan.specs.Laws.Laid.{Laid, Named, Room, Judges}
+use Rattle.scan.specs.Laws.NameScans.{Counted}
+use Rattle.scan.specs.Laws.LabelScans.{CountsLabels}
+use Rattle.shape.proofs.Rule3.{is-concurrent, is-sequential}
+use Rattle.shape.specs.declared.form.Shape.{Shape}
+use Rattle.shape.specs.declared.form.Form.{Form}
+use Rattle.shape.specs.declared.form.Form.the-variants.{Refused, Shaped}
+use Rattle.format.specs.declared.ReadAnswer.{ReadAnswer}
 
 -- rule 6, by the number of labels
 few-labels : (k : Kind) (p : Program Plain) → fewLabels k p ≡ leb (labelsOf k p) 400

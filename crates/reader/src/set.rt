@@ -1,17 +1,17 @@
 // Rule 8: "a local may be read before it is set". A set of locals is the bits of a number.
-use super::Ends;
-use super::block;
-use super::bodies::DEPTH;
-use super::records::RECORD;
-use super::tokens::LOCAL;
-use super::tokens::body_start;
-use super::tokens::byte_at;
+use parse::Ends;
+use scan::tokens::LOCAL;
+use scan::tokens::body_start;
+use scan::tokens::byte_at;
+use shape::bodies::DEPTH;
+use value::numbers;
+use value::numbers::RECORD;
 ghost use mathlib.Core.Path.{_≡_};
 ghost use Prim.Native.Nat.{_<_};
 ghost use lib.ListN.{length, getD};
-ghost use Rattle.reader.specs.Rules.{setFirst};
+ghost use Rattle.format.specs.Rules.{setFirst};
 ghost use Rattle.reader.specs.BitSets.{bits, insert, below};
-ghost use Rattle.reader.specs.Laws.Laid.{Room, Judges, Named};
+ghost use Rattle.scan.specs.Laws.Laid.{Room, Judges, Named};
 ghost use Rattle.reader.specs.Laws.KnownScans.{leafKnown, Knows};
 ghost use Rattle.reader.specs.Laws.SetPlain.{settled, SetsPlain, SetsInstr, SetsBlock};
 ghost use Rattle.reader.specs.Laws.SetScans.{procSet};
@@ -95,19 +95,19 @@ fn set_plain(t: &[u8], at: usize, set: u64) -> After
     ensures { λ r. ⌜ SetsPlain (now (t .entry)) at set r ⌝ }
 {
     let mark = t[at];
-    if mark == block::ASSIGN {
+    if mark == numbers::ASSIGN {
         return then_set(
             known_exprs(t, at + 2, 1, set),
             with(set, byte_at(t, at + 1)),
         );
     }
-    if mark == block::WRITE {
+    if mark == numbers::WRITE {
         if has(set, byte_at(t, at + 1)) {
             return then_set(known_exprs(t, at + 2, 2, set), set);
         }
         return After::Unset;
     }
-    if mark == block::READ {
+    if mark == numbers::READ {
         if has(set, byte_at(t, at + 2)) {
             return then_set(
                 known_exprs(t, at + 3, 1, set),
@@ -116,10 +116,10 @@ fn set_plain(t: &[u8], at: usize, set: u64) -> After
         }
         return After::Unset;
     }
-    if mark == block::CALL {
+    if mark == numbers::CALL {
         return then_set(known_exprs(t, at + 4, byte_at(t, at + 3), set), set);
     }
-    if mark == block::SELECT {
+    if mark == numbers::SELECT {
         return After::Set(at + 5, set);
     }
     After::Unset
@@ -131,7 +131,7 @@ fn set_instr(t: &[u8], at: usize, depth: u8, set: u64) -> After
     ensures { λ r. ⌜ SetsInstr (now (t .entry)) at depth set r ⌝ }
 {
     let mark = t[at];
-    if mark == block::WHILE {
+    if mark == numbers::WHILE {
         let Ends::At(body) = known_exprs(t, at + 1, 1, set) else {
             return After::Unset;
         };
@@ -140,7 +140,7 @@ fn set_instr(t: &[u8], at: usize, depth: u8, set: u64) -> After
         };
         return After::Set(next, set);
     }
-    if mark == block::IF {
+    if mark == numbers::IF {
         let Ends::At(yes) = known_exprs(t, at + 1, 1, set) else {
             return After::Unset;
         };
@@ -152,7 +152,7 @@ fn set_instr(t: &[u8], at: usize, depth: u8, set: u64) -> After
         };
         return After::Set(next, one & other);
     }
-    if mark == block::ATOMIC {
+    if mark == numbers::ATOMIC {
         return set_block(t, at + 1, depth, set);
     }
     set_plain(t, at, set)
@@ -168,7 +168,7 @@ fn set_block(t: &[u8], at: usize, depth: u8, set: u64) -> After
     let mut i = at;
     let mut known = set;
     while i < t.len() {
-        if t[i] == block::END {
+        if t[i] == numbers::END {
             return After::Set(i + 1, known);
         }
         let After::Set(next, more) = set_instr(t, i, depth - 1, known) else {

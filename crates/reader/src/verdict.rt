@@ -1,16 +1,16 @@
 // Rules 1 to 8 one after the other: "The smallest number that applies is answered".
-use super::Kind;
-use super::ReadAnswer;
-use super::calls::no_cycle;
-use super::form::Form;
-use super::form::Shape;
-use super::form::read_form;
-use super::label_count::count_labels;
-use super::names::names_right;
 use super::set::set_before_read;
+use format::ReadAnswer;
+use parse::Kind;
+use scan::calls::no_cycle;
+use scan::label_count::count_labels;
+use scan::names::names_right;
+use shape::form::Form;
+use shape::form::Shape;
+use shape::form::read_form;
 ghost use mathlib.Core.Path.{_≡_};
-ghost use Rattle.reader.specs.Ends.{kindOf};
-ghost use Rattle.reader.specs.Shapes.{HasShape, LabelsAre, Answers, refusal, acceptance};
+ghost use Rattle.parse.specs.Ends.{kindOf};
+ghost use Rattle.shape.specs.Shapes.{HasShape, LabelsAre, Answers, refusal, acceptance};
 
 // "concurrent: over 400 labels".
 const LABELS: usize = 400;

@@ -9,6 +9,6 @@ fn main() {
     let mut input = [0u8; INPUT];
     let mut line = [0u8; 128];
     let n = io::read_full(0, &mut input);
-    let m = agreement::input::print(&input[..n], &mut line);
+    let m = figures::input::print(&input[..n], &mut line);
     io::write_all(1, &line[..m]);
 }

@@ -10,26 +10,26 @@ use lib.Seq.{sets-eq}
 use borrow.Author.Tests.{lt-ltb, le-ltb}
 use Rattle.value.specs.Lists.{over}
 use Rattle.value.specs.Laws.Bytes.{bytes-at}
-use Rattle.reader.specs.Syntax.{Program, Plain, concurrent, sequential}
-use Rattle.reader.specs.Encode.{table}
-use Rattle.reader.specs.LabelMap.{Mapped}
-use Rattle.reader.specs.Rules.{Verdict, refused, accepted, verdict}
-use Rattle.reader.specs.Calls.{readAs, readCall}
-use Rattle.reader.specs.Walks.{MapsLabels}
-use Rattle.reader.specs.declared.ReadAnswer.{ReadAnswer}
-use Rattle.reader.specs.Laws.Sound.{Sound}
-use Rattle.reader.specs.Laws.Formed.{Formed}
-use Rattle.reader.specs.Laws.Accepted.{accepted-exactly, bodies-fit, sound-formed}
-use Rattle.reader.specs.Laws.Refusals.{refused-within}
-use Rattle.reader.specs.Laws.TablePlaces.{recordsAt, all-bodies, length-table, trailer-at}
-use Rattle.translator.specs.Translate.{translate}
-use Rattle.translator.specs.Calls.{Written, refusal, written, writes, writesTable, translateAs, translateCall}
-use Rattle.translator.specs.Laws.Put.{Put}
-use Rattle.translator.specs.Laws.Shapes.{Shaped}
+use Rattle.format.specs.Syntax.{Program, Plain, concurrent, sequential}
+use Rattle.format.specs.Encode.{table}
+use Rattle.labels.specs.LabelMap.{Mapped}
+use Rattle.format.specs.Rules.{Verdict, refused, accepted, verdict}
+use Rattle.format.specs.Calls.{readAs, readCall}
+use Rattle.labels.specs.Walks.{MapsLabels}
+use Rattle.format.specs.declared.ReadAnswer.{ReadAnswer}
+use Rattle.format.specs.Laws.Sound.{Sound}
+use Rattle.format.specs.Laws.Formed.{Formed}
+use Rattle.format.specs.Laws.Accepted.{accepted-exactly, bodies-fit, sound-formed}
+use Rattle.format.specs.Laws.Refusals.{refused-within}
+use Rattle.format.specs.Laws.TablePlaces.{recordsAt, all-bodies, length-table, trailer-at}
+use Rattle.translation.specs.Translate.{translate}
+use Rattle.translation.specs.Calls.{Written, refusal, written, writes, writesTable, translateAs, translateCall}
+use Rattle.writer.specs.Laws.Put.{Put}
+use Rattle.emit.specs.Laws.Shapes.{Shaped}
 use Rattle.translator.specs.Laws.Tables.{TableOf}
 use Rattle.translator.specs.Laws.Answers.{Accepts, AcceptedAs, WritesCopy}
-use Rattle.translator.specs.declared.WriteAnswer.{WriteAnswer}
-use Rattle.translator.specs.declared.layout.Shape.{Shape}
+use Rattle.translation.specs.declared.WriteAnswer.{WriteAnswer}
+use Rattle.emit.specs.declared.layout.Shape.{Shape}
 
 -- ---- the reader's answer
 

@@ -11,26 +11,26 @@ use Rattle.value.specs.Maybe.{is}
 use Rattle.value.specs.Values.{bytes}
 use Rattle.value.specs.Lists.{at}
 use Rattle.value.specs.Laws.Maybes.{is-inj, missing}
-use Rattle.reader.specs.Syntax.{Proc, Program, Plain, concurrent, sequential}
-use Rattle.reader.specs.Encode.{block, each, Head, head, heads, middle, middleOf, front, trailer, trailerOf, distance, table}
-use Rattle.reader.specs.LabelMap.{Mapped, nodeOf}
-use Rattle.reader.specs.Laws.Heads.{length-heads}
-use Rattle.reader.specs.Laws.LabelMap.{node-there}
-use Rattle.reader.specs.Laws.Sections.{length-each}
-use Rattle.reader.specs.Laws.Stands.{Stands, whole, back}
-use Rattle.reader.specs.Laws.Stands as St
-use Rattle.translator.specs.Layout.{localsOf, sizes}
-use Rattle.translator.specs.Code.{moved}
-use Rattle.translator.specs.Translate.{zeroth, later, translate}
-use Rattle.translator.specs.Laws.Put.{Put, Onto}
-use Rattle.translator.specs.Laws.Shapes.{Shaped, LocalsAt, RowsAt}
-use Rattle.translator.specs.Laws.Bodies.{bodies, simulated, PutsBodies}
-use Rattle.translator.specs.Laws.Zeroth.{ZerothOf}
+use Rattle.format.specs.Syntax.{Proc, Program, Plain, concurrent, sequential}
+use Rattle.format.specs.Encode.{block, each, Head, head, heads, middle, middleOf, front, trailer, trailerOf, distance, table}
+use Rattle.labels.specs.LabelMap.{Mapped, nodeOf}
+use Rattle.format.specs.Laws.Heads.{length-heads}
+use Rattle.labels.specs.Laws.LabelMap.{node-there}
+use Rattle.format.specs.Laws.Sections.{length-each}
+use Rattle.format.specs.Laws.Stands.{Stands, whole, back}
+use Rattle.format.specs.Laws.Stands as St
+use Rattle.translation.specs.Layout.{localsOf, sizes}
+use Rattle.translation.specs.Code.{moved}
+use Rattle.translation.specs.Translate.{zeroth, later, translate}
+use Rattle.writer.specs.Laws.Put.{Put, Onto}
+use Rattle.emit.specs.Laws.Shapes.{Shaped, LocalsAt, RowsAt}
+use Rattle.bodies.specs.Laws.Bodies.{bodies, simulated, PutsBodies}
+use Rattle.zeroth.specs.Laws.Zeroth.{ZerothOf}
 use Rattle.translator.specs.Laws.Tables.{HeadOf, Heading, HeadsOf, SizesOf, MiddleOf, CodeOf, Counts, Lengths, Trails, TableOf}
-use Rattle.translator.specs.declared.layout.Shape.{Shape}
-use Rattle.translator.proofs.Puts.{put-none, put-then, put-cons, put-same, onto-start, onto-next, onto-end}
-use Rattle.translator.proofs.Copying.{slice-is}
-use Rattle.translator.proofs.Simulating.{take-more, later-at, length-later, node-locals}
+use Rattle.emit.specs.declared.layout.Shape.{Shape}
+use Rattle.writer.proofs.Puts.{put-none, put-then, put-cons, put-same, onto-start, onto-next, onto-end}
+use Rattle.emit.proofs.Copying.{slice-is}
+use Rattle.bodies.proofs.Simulating.{take-more, later-at, length-later, node-locals}
 
 -- ---- parts
 

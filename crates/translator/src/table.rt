@@ -1,22 +1,22 @@
 // The whole sequential table: bodies, records, sizes, trailer.
-use crate::exprs::moved;
-use crate::layout::Shape;
-use crate::layout::locals_of;
-use crate::layout::rows_of;
-use crate::simulate::put_bodies;
-use crate::writer::FAR;
-use crate::writer::put;
-use crate::writer::put_four;
-use crate::writer::put_part;
-use crate::writer::put_two;
-use crate::zeroth::put_zeroth;
+use bodies::simulate::put_bodies;
+use emit::exprs::moved;
+use emit::layout::Shape;
+use emit::layout::locals_of;
+use emit::layout::rows_of;
+use writer::bytes::FAR;
+use writer::bytes::put;
+use writer::bytes::put_four;
+use writer::bytes::put_part;
+use writer::bytes::put_two;
+use zeroth::procedure::put_zeroth;
 ghost use mathlib.Core.Path.{_≡_};
 ghost use mathlib.Core.List.{_∷_};
 ghost use Prim.Native.Nat.{_≤_, _<_};
 ghost use lib.ListN.{length, replicate};
 ghost use Rattle.value.specs.Values.{bytes};
-ghost use Rattle.reader.specs.Encode.{each};
-ghost use Rattle.translator.specs.Laws.Put.{Put};
+ghost use Rattle.format.specs.Encode.{each};
+ghost use Rattle.writer.specs.Laws.Put.{Put};
 ghost use Rattle.translator.specs.Laws.Tables.{HeadOf, HeadsOf, SizesOf, MiddleOf, CodeOf, Lengths, Counts, Trails, TableOf};
 
 // "53 50 sequential"

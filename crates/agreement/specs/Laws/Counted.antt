@@ -12,13 +12,13 @@ use Rattle.value.specs.Lists.{at}
 use Rattle.value.specs.Laws.Maybes.{is-inj, missing}
 use Rattle.value.specs.Laws.Tests.{by-test}
 use Rattle.value.specs.Laws.Lists.{In, here, there, each-in, in-at}
-use Rattle.reader.specs.Syntax.{Proc, Program, Plain}
-use Rattle.reader.specs.Labels.{labelled}
-use Rattle.translator.specs.Translate.{translate}
-use Rattle.machines.specs.Memory.{Event}
-use Rattle.machines.specs.Threads as P
-use Rattle.machines.specs.Copy as C
-use Rattle.machines.specs.Laws.Ends.{finished-run, used-run, blocked-run, step-run}
+use Rattle.format.specs.Syntax.{Proc, Program, Plain}
+use Rattle.format.specs.Labels.{labelled}
+use Rattle.translation.specs.Translate.{translate}
+use Rattle.semantics.specs.Memory.{Event}
+use Rattle.semantics.specs.Threads as P
+use Rattle.semantics.specs.Copy as C
+use Rattle.semantics.specs.Laws.Ends.{finished-run, used-run, blocked-run, step-run}
 use Rattle.agreement.specs.Agreement.{atHead, Visit, visits, visitsOf, copyRun, programRun, prices, pricesOf}
 use Rattle.agreement.specs.Laws.Shows.{price-done, price-blocked}
 

@@ -9,15 +9,15 @@ use borrow.Author.Tests.{leb-true, ltb-false}
 use Rattle.value.specs.Lists.{all}
 use Rattle.value.specs.Laws.Tests.{by-test, both-passed, lt?}
 use Rattle.value.specs.Laws.Lists.{all?}
-use Rattle.reader.specs.Syntax.{Program, Plain, concurrent, sequential}
-use Rattle.reader.specs.Encode.{table}
-use Rattle.reader.specs.Rules.{Verdict, refused, accepted, verdict, limits}
-use Rattle.reader.specs.Laws.Bytes.{Bytes}
-use Rattle.reader.specs.Laws.Refusals.{refused-within}
-use Rattle.translator.specs.Translate.{translate}
-use Rattle.machines.specs.Threads as P
-use Rattle.machines.specs.Copy as C
-use Rattle.machines.specs.Calls.{endNumber, scheduled, maxEntries}
+use Rattle.format.specs.Syntax.{Program, Plain, concurrent, sequential}
+use Rattle.format.specs.Encode.{table}
+use Rattle.format.specs.Rules.{Verdict, refused, accepted, verdict, limits}
+use Rattle.format.specs.Laws.Bytes.{Bytes}
+use Rattle.format.specs.Laws.Refusals.{refused-within}
+use Rattle.translation.specs.Translate.{translate}
+use Rattle.semantics.specs.Threads as P
+use Rattle.semantics.specs.Copy as C
+use Rattle.semantics.specs.Calls.{endNumber, scheduled, maxEntries}
 use Rattle.agreement.specs.declared.Figures.{Figures}
 use Rattle.agreement.specs.Agreement.{programRun, copyRun, budget, headSteps, Closing, Agree, Demand3}
 use Rattle.agreement.specs.Figures.{figures, figuresOf, figuresCall}

@@ -13,13 +13,13 @@ use Rattle.value.specs.Lists.{at}
 use Rattle.value.specs.declared.Value.{Value}
 use Rattle.value.specs.Laws.Maybes.{when-is, is-inj, bind-is, missing}
 use Rattle.value.specs.Laws.Tests.{both-passed}
-use Rattle.reader.specs.Syntax.{Expr, Instr, assign, write, read, while, if, call, atomic, select, Block, end, step, _⊕_, Proc}
-use Rattle.reader.specs.Rules.{takes, inExpr, named, namedI}
-use Rattle.reader.specs.Rules as Rules
-use Rattle.reader.specs.Laws.Joined.{named-append, allowed-append}
-use Rattle.machines.specs.Memory.{Env, lookup, bound, eval, evals, index, place, truth, Memory, cell, Event}
-use Rattle.machines.specs.Step.{Stack, Moved, instr, runs}
-use Rattle.machines.specs.Threads as P
+use Rattle.format.specs.Syntax.{Expr, Instr, assign, write, read, while, if, call, atomic, select, Block, end, step, _⊕_, Proc}
+use Rattle.format.specs.Rules.{takes, inExpr, named, namedI}
+use Rattle.format.specs.Rules as Rules
+use Rattle.format.specs.Laws.Joined.{named-append, allowed-append}
+use Rattle.semantics.specs.Memory.{Env, lookup, bound, eval, evals, index, place, truth, Memory, cell, Event}
+use Rattle.semantics.specs.Step.{Stack, Moved, instr, runs}
+use Rattle.semantics.specs.Threads as P
 use Rattle.agreement.specs.Laws.Calling.{lookup-entered}
 use Rattle.agreement.specs.Laws.Proper.{Proper, ProperEnv, ProperMemory, eval-proper, evals-proper, bound-proper, stored-proper}
 use Rattle.agreement.specs.Laws.Frames.{World, FrameSound, fit-named, fit-allowed}

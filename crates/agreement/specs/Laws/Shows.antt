@@ -12,13 +12,13 @@ use Rattle.value.specs.declared.Value.{Value}
 use Rattle.value.specs.declared.Value.the-variants.{Whole}
 use Rattle.value.specs.Laws.Maybes.{is-inj, missing}
 use Rattle.value.specs.Laws.Tests.{never, by-test}
-use Rattle.reader.specs.Syntax.{Program}
-use Rattle.machines.specs.Memory.{Memory, cell, Event}
-use Rattle.machines.specs.Step.{Stack}
-use Rattle.machines.specs.Threads as P
-use Rattle.machines.specs.Copy as C
-use Rattle.machines.specs.Laws.Cells.{shape}
-use Rattle.machines.specs.Laws.Ends.{finished-run, used-run}
+use Rattle.format.specs.Syntax.{Program}
+use Rattle.semantics.specs.Memory.{Memory, cell, Event}
+use Rattle.semantics.specs.Step.{Stack}
+use Rattle.semantics.specs.Threads as P
+use Rattle.semantics.specs.Copy as C
+use Rattle.semantics.specs.Laws.Cells.{shape}
+use Rattle.semantics.specs.Laws.Ends.{finished-run, used-run}
 use Rattle.agreement.specs.Price.{price}
 use Rattle.agreement.specs.Agreement.{prices, chosen}
 use Rattle.agreement.specs.Laws.Reps.{labelBy}

@@ -10,19 +10,19 @@ use borrow.Author.Tests.{le-leb, le-ltb, ltb-false}
 use Rattle.value.specs.Lists.{sum, all}
 use Rattle.value.specs.Laws.Tests.{by-test, both-passed}
 use Rattle.value.specs.Laws.Bytes.{Bytes}
-use Rattle.reader.specs.declared.ReadAnswer.{ReadAnswer}
-use Rattle.reader.specs.Calls.{readCall}
-use Rattle.reader.specs.Syntax.{Program, Plain, Kind, concurrent, sequential}
-use Rattle.reader.specs.Encode.{table}
-use Rattle.reader.specs.Rules.{Verdict, refused, accepted, verdict, limits}
-use Rattle.reader.specs.Laws.Accepted.{accepted-exactly}
-use Rattle.translator.specs.declared.WriteAnswer.{WriteAnswer}
-use Rattle.translator.specs.Translate.{translate}
-use Rattle.translator.specs.Calls.{writes, writesTable, translateCall}
-use Rattle.translator.specs.Laws.Called.{Copied, call-copies}
-use Rattle.machines.specs.declared.RunAnswer.{RunAnswer}
-use Rattle.machines.specs.Buffers.{cellSize}
-use Rattle.machines.specs.Calls.{Outcome, maxEntries, scheduled, roomy, runAs, concurrentOutcome, concurrentCall, sequentialOutcome, sequentialCall}
+use Rattle.format.specs.declared.ReadAnswer.{ReadAnswer}
+use Rattle.format.specs.Calls.{readCall}
+use Rattle.format.specs.Syntax.{Program, Plain, Kind, concurrent, sequential}
+use Rattle.format.specs.Encode.{table}
+use Rattle.format.specs.Rules.{Verdict, refused, accepted, verdict, limits}
+use Rattle.format.specs.Laws.Accepted.{accepted-exactly}
+use Rattle.translation.specs.declared.WriteAnswer.{WriteAnswer}
+use Rattle.translation.specs.Translate.{translate}
+use Rattle.translation.specs.Calls.{writes, writesTable, translateCall}
+use Rattle.translation.specs.Laws.Called.{Copied, call-copies}
+use Rattle.semantics.specs.declared.RunAnswer.{RunAnswer}
+use Rattle.semantics.specs.Buffers.{cellSize}
+use Rattle.semantics.specs.Calls.{Outcome, maxEntries, scheduled, roomy, runAs, concurrentOutcome, concurrentCall, sequentialOutcome, sequentialCall}
 use Rattle.agreement.specs.Agreement.{budget}
 use Rattle.agreement.specs.Figures.{refusal, figures, figuresOf, figuresAs, figuresCall}
 use Rattle.agreement.specs.Answers.{answerAs, programAnswer, copyAnswer}

@@ -2,7 +2,7 @@
 use borrow.Author.Needs.{needs}
 use native.Mathlib.Omega.{arith}
 use Rattle.reader.proofs.Verdicts.{slice-bytes}
-use Rattle.machines.proofs.ConcurrentCall.{accepted-cells, read-accepted, call-refused, call-unscheduled, call-entries, call-short, call-ran}
+use Rattle.concurrent.proofs.ConcurrentCall.{accepted-cells, read-accepted, call-refused, call-unscheduled, call-entries, call-short, call-ran}
 use Rattle.machines.proofs.run_concurrent.Statement.{statement}
 use Rattle.machines.proofs.run_concurrent.Tie as tie
 

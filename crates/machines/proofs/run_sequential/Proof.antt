@@ -2,7 +2,7 @@
 use borrow.Author.Needs.{needs}
 use native.Mathlib.Omega.{arith}
 use Rattle.reader.proofs.Verdicts.{slice-bytes}
-use Rattle.machines.proofs.Calling.{accepted-cells, read-accepted, call-refused, call-long, call-short, call-ran}
+use Rattle.sequential.proofs.Calling.{accepted-cells, read-accepted, call-refused, call-long, call-short, call-ran}
 use Rattle.machines.proofs.run_sequential.Statement.{statement}
 use Rattle.machines.proofs.run_sequential.Tie as tie
 

@@ -3,7 +3,7 @@ use borrow.Author.Needs.{needs}
 use native.Mathlib.Omega.{arith}
 use Prim.Native.Nat.{_-_}
 use lib.ListN.{length}
-use Rattle.machines.proofs.ConcurrentCall.{Asking, schedule-ways}
+use Rattle.concurrent.proofs.ConcurrentCall.{Asking, schedule-ways}
 use Rattle.machines.proofs.scheduled.Statement.{statement}
 use Rattle.machines.proofs.scheduled.Tie as tie
 

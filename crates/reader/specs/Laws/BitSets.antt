@@ -10,7 +10,7 @@ use lib.Dec.{eqb, ltb, leb·suc-suc, eqb·zero-suc, eqb·suc-zero, eqb·suc-suc}
 use borrow.Author.Tests.{eqb-true, eqb-false, lt-ltb, le-ltb}
 use Rattle.value.specs.Maybe.{both, either, pick}
 use Rattle.value.specs.Laws.Tests.{by-test}
-use Rattle.reader.specs.Rules.{with}
+use Rattle.format.specs.Rules.{with}
 use Rattle.reader.specs.BitSets.{bit, bits, insert, below}
 
 -- a bit is 0 or 1

@@ -16,20 +16,20 @@ use Rattle.value.specs.Laws.Lists.{Each}
 use Rattle.value.specs.Laws.Tests.{either-passed}
 use Rattle.value.specs.Laws.Tables.{looked-up}
 use Rattle.value.specs.declared.Value.the-variants.{Whole, Location, Truth}
-use Rattle.reader.specs.declared.Ends.{Ends}
-use Rattle.reader.specs.declared.Ends.the-variants.{At, Nothing}
-use Rattle.reader.specs.Syntax.{Expr, constant, local, one, two}
-use Rattle.reader.specs.Encode.{each}
-use Rattle.reader.specs.Encode as E
-use Rattle.reader.specs.Rules.{Known, known}
+use Rattle.parse.specs.declared.Ends.{Ends}
+use Rattle.parse.specs.declared.Ends.the-variants.{At, Nothing}
+use Rattle.format.specs.Syntax.{Expr, constant, local, one, two}
+use Rattle.format.specs.Encode.{each}
+use Rattle.format.specs.Encode as E
+use Rattle.format.specs.Rules.{Known, known}
 use Rattle.reader.specs.BitSets.{bits}
 use Rattle.reader.specs.Laws.BitSets.{has-bit, no-bit}
-use Rattle.reader.specs.Laws.Depths.{depth}
-use Rattle.reader.specs.Laws.Fits.{ExprFits}
-use Rattle.reader.specs.Laws.Stands.{Stands, first, others, back, join}
-use Rattle.reader.specs.Laws.ExprGrammar.{ExprAt, ExprsAt, exprs-none, exprs-more, expr-inside}
-use Rattle.reader.specs.Laws.Tokens.{shift}
-use Rattle.reader.specs.Laws.NameScans.{both-both, both-true}
+use Rattle.format.specs.Laws.Depths.{depth}
+use Rattle.format.specs.Laws.Fits.{ExprFits}
+use Rattle.format.specs.Laws.Stands.{Stands, first, others, back, join}
+use Rattle.format.specs.Laws.ExprGrammar.{ExprAt, ExprsAt, exprs-none, exprs-more, expr-inside}
+use Rattle.scan.specs.Laws.Tokens.{shift}
+use Rattle.scan.specs.Laws.NameScans.{both-both, both-true}
 
 -- ---- expressions
 

@@ -8,19 +8,19 @@ use lib.ListN.{getD}
 use Rattle.value.specs.Maybe.{Maybe, is, nothing, _>>=_, when, pick}
 use Rattle.value.specs.Lists.{all}
 use Rattle.value.specs.Laws.Maybes.{is-inj, missing}
-use Rattle.reader.specs.declared.Ends.{Ends}
-use Rattle.reader.specs.declared.Ends.the-variants.{At, Nothing}
+use Rattle.parse.specs.declared.Ends.{Ends}
+use Rattle.parse.specs.declared.Ends.the-variants.{At, Nothing}
 use Rattle.reader.specs.declared.set.After.{After}
 use Rattle.reader.specs.declared.set.After.the-variants.{Set, Unset}
-use Rattle.reader.specs.Syntax.{Expr, Instr, assign, write, read, while, if, call, atomic, select, Block, Plain, Program}
-use Rattle.reader.specs.Rules.{Known, with, known, afterI, after}
+use Rattle.format.specs.Syntax.{Expr, Instr, assign, write, read, while, if, call, atomic, select, Block, Plain, Program}
+use Rattle.format.specs.Rules.{Known, with, known, afterI, after}
 use Rattle.reader.specs.BitSets.{bits, insert}
 use Rattle.reader.specs.Laws.BitSets.{bits-insert}
-use Rattle.reader.specs.Laws.Names.{Names, NamesI}
-use Rattle.reader.specs.Laws.Stands.{first}
-use Rattle.reader.specs.Laws.Grammar.{ExprsAt, InstrAt, BlockAt, AssignAt, WriteAt, ReadAt, CallAt, SelectAt}
-use Rattle.reader.specs.Laws.Grammar.{assign-here, write-here, read-here, call-here, select-here}
-use Rattle.reader.specs.Laws.NameScans.{both-true}
+use Rattle.format.specs.Laws.Names.{Names, NamesI}
+use Rattle.format.specs.Laws.Stands.{first}
+use Rattle.format.specs.Laws.Grammar.{ExprsAt, InstrAt, BlockAt, AssignAt, WriteAt, ReadAt, CallAt, SelectAt}
+use Rattle.format.specs.Laws.Grammar.{assign-here, write-here, read-here, call-here, select-here}
+use Rattle.scan.specs.Laws.NameScans.{both-true}
 use Rattle.reader.specs.Laws.KnownScans.{Knows, alone, pair}
 
 -- ---- what the code answers

@@ -10,21 +10,21 @@ use lib.Dec.{ltb}
 use lib.Bits.{bitAnd}
 use borrow.Author.Tests.{not-true, not-false}
 use Rattle.value.specs.Maybe.{Maybe, is, nothing, there}
-use Rattle.reader.specs.declared.Ends.{Ends}
-use Rattle.reader.specs.declared.Ends.the-variants.{At, Nothing}
+use Rattle.parse.specs.declared.Ends.{Ends}
+use Rattle.parse.specs.declared.Ends.the-variants.{At, Nothing}
 use Rattle.reader.specs.declared.set.After.{After}
 use Rattle.reader.specs.declared.set.After.the-variants.{Set, Unset}
-use Rattle.reader.specs.Syntax.{Instr, if, Block, end, step, Plain, Proc, Program}
-use Rattle.reader.specs.Rules.{Known, known, afterI, after, setFirst}
-use Rattle.reader.specs.Tokens.{fourAt}
+use Rattle.format.specs.Syntax.{Instr, if, Block, end, step, Plain, Proc, Program}
+use Rattle.format.specs.Rules.{Known, known, afterI, after, setFirst}
+use Rattle.scan.specs.Tokens.{fourAt}
 use Rattle.reader.specs.BitSets.{bits, below}
 use Rattle.reader.specs.Laws.BitSets.{set-bit, far-bit, low-bits, no-bits, some-bit, bits-both, bits-below}
-use Rattle.reader.specs.Laws.Names.{Names, NamesI}
-use Rattle.reader.specs.Laws.Grammar.{BlockAt, WhileAt, IfAt, AtomicAt, StepAt, while-here, if-here, atomic-here}
-use Rattle.reader.specs.Laws.Grammar.{end-here, step-here, block-inside, block-deep}
-use Rattle.reader.specs.Laws.TablePlaces.{bodyAt}
-use Rattle.reader.specs.Laws.Laid.{Laid, Named, ProcNamed, proc-named, Judges, procOf, params-at, start-at, body-here}
-use Rattle.reader.specs.Laws.Laid.{Passed, none-passed, one-passed, passed-all, failed-one}
+use Rattle.format.specs.Laws.Names.{Names, NamesI}
+use Rattle.format.specs.Laws.Grammar.{BlockAt, WhileAt, IfAt, AtomicAt, StepAt, while-here, if-here, atomic-here}
+use Rattle.format.specs.Laws.Grammar.{end-here, step-here, block-inside, block-deep}
+use Rattle.format.specs.Laws.TablePlaces.{bodyAt}
+use Rattle.scan.specs.Laws.Laid.{Laid, Named, ProcNamed, proc-named, Judges, procOf, params-at, start-at, body-here}
+use Rattle.scan.specs.Laws.Laid.{Passed, none-passed, one-passed, passed-all, failed-one}
 use Rattle.reader.specs.Laws.KnownScans.{Knows, test-set, test-unset}
 use Rattle.reader.specs.Laws.SetPlain.{outcome, reached, InstrHere, BlockHere, SetsInstr, SetsPlain, SetsBlock}
 use Rattle.reader.specs.Laws.SetPlain.{unset, set-inj, reached-is, reached-not, instr-fails, instr-sets, block-set, block-unset, inner}

@@ -2,7 +2,7 @@
 use native.Mathlib.Omega.{arith}
 use lib.ListN.{length-take}
 use borrow.Author.Needs.{needs}
-use Rattle.agreement.proofs.Lines.{lies}
+use Rattle.figures.proofs.Lines.{lies}
 use Rattle.run.proofs.main.Statement.{statement}
 use Rattle.run.proofs.main.Tie as tie
 

@@ -3,18 +3,18 @@ use Prim.Native.Nat.{ℕ, _*_, _+_, _≤_}
 use mathlib.Core.Path.{_≡_}
 use mathlib.Core.List.{List}
 use lib.ListN.{length}
-use Rattle.reader.specs.Syntax.{Program, Plain, concurrent, sequential}
-use Rattle.reader.specs.Encode.{table}
-use Rattle.reader.specs.Rules.{accepted, verdict}
-use Rattle.reader.specs.Calls.{readAs}
-use Rattle.reader.specs.Walks.{BodiesIn}
-use Rattle.reader.specs.declared.ReadAnswer.{ReadAnswer}
-use Rattle.reader.specs.Laws.Sound.{Sound}
-use Rattle.translator.specs.Translate.{translate}
-use Rattle.translator.specs.Calls.{Written, writesTable}
-use Rattle.translator.specs.Laws.Shapes.{Shaped}
-use Rattle.translator.specs.declared.WriteAnswer.{WriteAnswer}
-use Rattle.translator.specs.declared.layout.Shape.{Shape}
+use Rattle.format.specs.Syntax.{Program, Plain, concurrent, sequential}
+use Rattle.format.specs.Encode.{table}
+use Rattle.format.specs.Rules.{accepted, verdict}
+use Rattle.format.specs.Calls.{readAs}
+use Rattle.labels.specs.Walks.{BodiesIn}
+use Rattle.format.specs.declared.ReadAnswer.{ReadAnswer}
+use Rattle.format.specs.Laws.Sound.{Sound}
+use Rattle.translation.specs.Translate.{translate}
+use Rattle.translation.specs.Calls.{Written, writesTable}
+use Rattle.emit.specs.Laws.Shapes.{Shaped}
+use Rattle.translation.specs.declared.WriteAnswer.{WriteAnswer}
+use Rattle.emit.specs.declared.layout.Shape.{Shape}
 
 -- t is an accepted table, and a its reader's answer
 pub record Accepts (t : List ℕ) (a : ReadAnswer) : Type 0 where

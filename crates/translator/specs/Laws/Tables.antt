@@ -6,17 +6,17 @@ use lib.ListN.{length, getD, take}
 use Rattle.value.specs.Maybe.{is}
 use Rattle.value.specs.Values.{bytes}
 use Rattle.value.specs.Lists.{at}
-use Rattle.reader.specs.Syntax.{Program, Plain, sequential}
-use Rattle.reader.specs.Encode.{block, each, head, heads, middle, middleOf, trailer, distance, table}
-use Rattle.reader.specs.Labels.{counts}
-use Rattle.reader.specs.LabelMap.{Node, Mapped, nodeOf}
-use Rattle.translator.specs.Layout.{localsOf, sizes}
-use Rattle.translator.specs.Code.{moved}
-use Rattle.translator.specs.Translate.{zeroth, later, translate}
-use Rattle.translator.specs.Laws.Put.{Put}
-use Rattle.translator.specs.Laws.Shapes.{Shaped}
-use Rattle.translator.specs.Laws.Bodies.{bodies}
-use Rattle.translator.specs.declared.layout.Shape.{Shape}
+use Rattle.format.specs.Syntax.{Program, Plain, sequential}
+use Rattle.format.specs.Encode.{block, each, head, heads, middle, middleOf, trailer, distance, table}
+use Rattle.format.specs.Labels.{counts}
+use Rattle.labels.specs.LabelMap.{Node, Mapped, nodeOf}
+use Rattle.translation.specs.Layout.{localsOf, sizes}
+use Rattle.translation.specs.Code.{moved}
+use Rattle.translation.specs.Translate.{zeroth, later, translate}
+use Rattle.writer.specs.Laws.Put.{Put}
+use Rattle.emit.specs.Laws.Shapes.{Shaped}
+use Rattle.bodies.specs.Laws.Bodies.{bodies}
+use Rattle.emit.specs.declared.layout.Shape.{Shape}
 
 -- the record of the procedure of label k + 1, with the offset that is known
 pub record HeadOf (t : List ℕ) (h : Shape) (map offsets : List ℕ) (k : ℕ) (o : List ℕ) (p : ℕ) (o′ : List ℕ) (r : ℕ) : Type 0 where

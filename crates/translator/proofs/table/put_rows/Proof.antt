@@ -2,8 +2,8 @@
 use borrow.Author.Needs.{needs}
 use lib.ListN.{replicate}
 use Rattle.value.specs.Values.{bytes}
-use Rattle.reader.specs.Encode.{each}
-use Rattle.translator.specs.Laws.Put.{Onto}
+use Rattle.format.specs.Encode.{each}
+use Rattle.writer.specs.Laws.Put.{Onto}
 use Rattle.translator.proofs.Tabling.{table-ways}
 use Rattle.translator.proofs.table.put_rows.Statement.{statement}
 use Rattle.translator.proofs.table.put_rows.Tie as tie

@@ -1,8 +1,0 @@
--- What the proofs of this crate's functions share.
-
--- the run program's line, way by way
-pub mod Lines
--- its input, way by way
-pub mod Inputs
--- its figures, way by way
-pub mod Compares

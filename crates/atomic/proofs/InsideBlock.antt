@@ -1,0 +1,250 @@
+-- A block inside an atomic block, and the whole of it, way by way.
+use Prim.Native.Nat.{ℕ, _+_, _-_, _≤_, _<_}
+use native.Mathlib.Omega.{arith}
+use mathlib.Core.Path.{_≡_, refl, sym, ap, subst, _∙_}
+use mathlib.Core.List.{List, [], _∷_, append-nil}
+use mathlib.Core.Bool.{true}
+use lib.ListN.{length, getD}
+use types.Run.{OneOf, miss}
+use denote.Enum.Declared.{tagOf}
+use Rattle.value.specs.Maybe.{Maybe, is, nothing, _>>=_}
+use Rattle.value.specs.Laws.Maybes.{missing}
+use Rattle.value.specs.Laws.Tests.{both-passed}
+use Rattle.format.specs.Syntax.{Block}
+use Rattle.format.specs.Rules.{allowed, allowedI, named, namedI}
+use Rattle.format.specs.Laws.Grammar.{StepAt, end-here, step-here, instr-inside, block-inside, block-deep}
+use Rattle.atomic.proofs.block.Done.{the-type as done-type}
+use Rattle.atomic.specs.declared.block.Done.{Done}
+use Rattle.atomic.specs.declared.block.Done.the-variants.{To, Blocked}
+use Rattle.semantics.specs.Threads.{Atomic}
+use Rattle.atomic.specs.Acts.{within, act}
+use Rattle.atomic.specs.Doing.{stops, goes, DoingI, Doing, DoesI, Does, DoesWhole}
+use Rattle.atomic.proofs.Carrying.{never-blocked}
+use Rattle.engine.specs.Laws.Work.{beside-same}
+use Rattle.engine.specs.Laws.Logging.{logged-none}
+use Rattle.atomic.specs.Laws.Acting.{later, act-later}
+use Rattle.atomic.proofs.Inside.{blocks, came, stopped, before}
+
+-- ---- a block
+
+-- up to here, from where the block began: what is done from here on is what is done from there
+pub record Going (t : List ℕ) (thread fb : ℕ) (bs : List ℕ) (d i₀ : ℕ) (ls₀ cs₀ o₀ : List ℕ) (n₀ i : ℕ) (ls cs o : List ℕ) (n : ℕ) : Type 0 where
+  pub ready : Doing t thread fb bs i d ls cs o n
+  pub back : (ls′ cs′ o′ : List ℕ) (r : Done) → Does t thread fb bs i d ls cs o n ls′ cs′ o′ r → Does t thread fb bs i₀ d ls₀ cs₀ o₀ n₀ ls′ cs′ o′ r
+
+module _ {t : List ℕ} {thread fb : ℕ} {bs : List ℕ} {d : ℕ} where
+  -- at its beginning
+  pub going-none : {i : ℕ} {ls cs o : List ℕ} {n : ℕ} → Doing t thread fb bs i d ls cs o n → Going t thread fb bs d i ls cs o n i ls cs o n
+  going-none h = record { ready = h; back = λ ls′ cs′ o′ r D. D }
+
+  module _ {i : ℕ} {ls cs o : List ℕ} {n : ℕ} where
+    -- the names of the first instruction and of the rest
+    names : (z : getD t i 0 ≡ 0 → ⊥) (h : Doing t thread fb bs i d ls cs o n)
+        → (namedI (h .p) (length (h .a .env)) (step-here (h .here) z .s) ≡ true)
+        × (named (h .p) (length (h .a .env)) (step-here (h .here) z .rest) ≡ true)
+    names z h =
+        let w : StepAt t i d (h .block) (h .j) = step-here (h .here) z in
+        both-passed (namedI (h .p) (length (h .a .env)) (w .s)) (named (h .p) (length (h .a .env)) (w .rest))
+        (subst (λ b. named (h .p) (length (h .a .env)) b ≡ true) (w .is) (h .named))
+
+    -- what may stand there
+    mays : (z : getD t i 0 ≡ 0 → ⊥) (h : Doing t thread fb bs i d ls cs o n)
+        → (allowedI (within (h .m)) (step-here (h .here) z .s) ≡ true) × (allowed (within (h .m)) (step-here (h .here) z .rest) ≡ true)
+    mays z h =
+        let w : StepAt t i d (h .block) (h .j) = step-here (h .here) z in
+        both-passed (allowedI (within (h .m)) (w .s)) (allowed (within (h .m)) (w .rest))
+        (subst (λ b. allowed (within (h .m)) b ≡ true) (w .is) (h .allowed))
+
+    -- an instruction is to be done
+    pub doing-one : (getD t i 0 ≡ 0 → ⊥) → Doing t thread fb bs i d ls cs o n → DoingI t thread fb bs i (d - 1) ls cs o n
+    doing-one z h =
+        let w : StepAt t i d (h .block) (h .j) = step-here (h .here) z in
+        record {
+          a = h .a;
+          es = h .es;
+          works = h .works;
+          instr = w .s;
+          j = w .k;
+          here = w .here;
+          p = h .p;
+          named = names z h .0;
+          m = h .m;
+          allowed = mays z h .0;
+          few = omega (arith, h .few, block-inside (w .after));
+        }
+
+    module _ {ls₁ cs₁ o₁ : List ℕ} {r : Done} (z : getD t i 0 ≡ 0 → ⊥) (E : DoesI t thread fb bs i (d - 1) ls cs o n ls₁ cs₁ o₁ r) where
+      -- then the rest is
+      pub doing-rest : {k m : ℕ} → r ≡ To k m → Doing t thread fb bs i d ls cs o n → Doing t thread fb bs k d ls₁ cs₁ o₁ m
+      unfolding doing-one
+      doing-rest q h =
+          let w : StepAt t i d (h .block) (h .j) = step-here (h .here) z in
+          let v = came q (E .does (doing-one z h)) in
+          record {
+            a = v .a;
+            es = h .es;
+            works = v .worked .works;
+            block = w .rest;
+            j = h .j;
+            here = rw (v .ends) (w .after);
+            p = h .p;
+            named = rw (v .worked .same) (names z h .1);
+            m = h .m;
+            allowed = mays z h .1;
+            few = omega (arith, h .few, v .worked .few, v .ends);
+          }
+
+      -- the instruction blocks
+      pub does-stop : r ≡ Blocked → Does t thread fb bs i d ls cs o n ls₁ cs₁ o₁ Blocked
+      unfolding doing-one
+      does-stop q = record {
+        does = λ h.
+            let w : StepAt t i d (h .block) (h .j) = step-here (h .here) z in
+            stops (ap (λ b. act thread b (h .a)) (w .is) ∙ ap (λ m. m >>= act thread (w .rest)) (stopped q (E .does (doing-one z h)))) refl;
+      }
+
+      -- the rest is done
+      does-on : {k m : ℕ} {ls′ cs′ o′ : List ℕ} {x : Done} → r ≡ To k m → Does t thread fb bs k d ls₁ cs₁ o₁ m ls′ cs′ o′ x
+          → Does t thread fb bs i d ls cs o n ls′ cs′ o′ x
+      unfolding doing-one doing-rest
+      does-on q D = record {
+        does = λ h.
+            let w : StepAt t i d (h .block) (h .j) = step-here (h .here) z in
+            let v = came q (E .does (doing-one z h)) in
+            let same : act thread (h .block) (h .a) ≡ act thread (w .rest) (v .a) =
+            ap (λ b. act thread b (h .a)) (w .is) ∙ ap (λ m. m >>= act thread (w .rest)) (v .is)
+            in
+            rw same (before (v .worked) (v .ends) (D .does (doing-rest q h)));
+      }
+
+      -- the next instruction is behind this one
+      rest-less : {k m : ℕ} → r ≡ To k m → Doing t thread fb bs i d ls cs o n → i < k
+      unfolding doing-one
+      rest-less q h =
+          let v = came q (E .does (doing-one z h)) in
+          omega (arith, v .ends, instr-inside (step-here (h .here) z .here))
+
+  -- the block ends
+  does-end : {i : ℕ} {ls cs o : List ℕ} {n : ℕ} → getD t i 0 ≡ 0 → Does t thread fb bs i d ls cs o n ls cs o (To (i + 1) n)
+  does-end {n = n} z = record {
+    does = λ h.
+        let w = end-here (h .here) z in
+        goes (h .a) n (ap (λ b. act thread b (h .a)) (w .0)) (ap (λ x. To x n) (sym (w .1))) (record {
+          works = h .works;
+          same = refl;
+          beside = beside-same;
+          few = omega (arith, w .1);
+        });
+  }
+
+  module _ {i₀ : ℕ} {ls₀ cs₀ o₀ : List ℕ} {n₀ i : ℕ} {ls cs o : List ℕ} {n : ℕ} (G : Going t thread fb bs d i₀ ls₀ cs₀ o₀ n₀ i ls cs o n) where
+    -- there is a byte
+    pub going-inside : i < length t
+    going-inside = omega (arith, block-inside (G .ready .here))
+
+    -- and a block
+    pub going-deep : 1 ≤ d
+    going-deep = block-deep (G .ready .here)
+
+    -- an instruction is to be done
+    pub going-one : (getD t i 0 ≡ 0 → ⊥) → DoingI t thread fb bs i (d - 1) ls cs o n
+    going-one z = doing-one z (G .ready)
+
+    -- it is done, and the block goes on
+    pub going-on : {ls₁ cs₁ o₁ : List ℕ} {r : Done} {k m : ℕ} → (getD t i 0 ≡ 0 → ⊥) → DoesI t thread fb bs i (d - 1) ls cs o n ls₁ cs₁ o₁ r
+        → r ≡ To k m → Going t thread fb bs d i₀ ls₀ cs₀ o₀ n₀ k ls₁ cs₁ o₁ m
+    going-on z E q = record { ready = doing-rest z E q (G .ready); back = λ ls′ cs′ o′ x D. G .back ls′ cs′ o′ x (does-on z E q D) }
+
+    -- fewer bytes are left
+    pub going-less : {ls₁ cs₁ o₁ : List ℕ} {r : Done} {k m : ℕ} → (getD t i 0 ≡ 0 → ⊥) → DoesI t thread fb bs i (d - 1) ls cs o n ls₁ cs₁ o₁ r
+        → r ≡ To k m → length t - k < length t - i
+    going-less z E q = omega (arith, rest-less z E q (G .ready), block-inside (G .ready .here))
+
+    -- it blocks
+    pub going-stop : {ls₁ cs₁ o₁ : List ℕ} {r : Done} → (getD t i 0 ≡ 0 → ⊥) → DoesI t thread fb bs i (d - 1) ls cs o n ls₁ cs₁ o₁ r → r ≡ Blocked
+        → Does t thread fb bs i₀ d ls₀ cs₀ o₀ n₀ ls₁ cs₁ o₁ Blocked
+    going-stop {ls₁} {cs₁} {o₁} z E q = G .back ls₁ cs₁ o₁ Blocked (does-stop z E q)
+
+    -- the block ends
+    pub going-end : getD t i 0 ≡ 0 → Does t thread fb bs i₀ d ls₀ cs₀ o₀ n₀ ls cs o (To (i + 1) n)
+    going-end z = G .back ls cs o (To (i + 1) n) (does-end z)
+
+-- one law for each way through a block
+pub ruleset block-ways = (going-none, going-inside, going-deep, going-one, going-on, going-less, going-stop, going-end)
+
+-- ---- a whole block
+
+-- it came to an end
+abbrev Ended : Done → Type 0
+Ended r = OneOf (0 ∷ []) (tagOf done-type r)
+
+-- and so did not block
+not-blocked : {G : Type 0} (r : Done) → Ended r → r ≡ Blocked → G
+not-blocked (To j k) h e = never-blocked e
+not-blocked Blocked h e = absurd (miss (0 ∷ []) 1 tt h)
+
+-- before any event
+abbrev pub bare : Atomic → Atomic
+bare a = record { env = a .env; memory = a .memory; events = [] }
+
+-- the same with the events before
+pub same-later : (thread : ℕ) (b : Block ℕ) (a : Atomic) → act thread b a ≡ (act thread b (bare a) >>= λ r. is (later (a .events) r))
+same-later thread b a =
+    let same : later (a .events) (bare a) ≡ a = ap (λ evs. record { env = a .env; memory = a .memory; events = evs }) (append-nil (a .events)) in
+    ap (act thread b) (sym same) ∙ act-later thread (a .events) b (bare a)
+
+-- a chain that stops before its last link
+pub bind-none : {A B : Type 0} (m : Maybe A) (f : A → B) → (m >>= λ x. is (f x)) ≡ nothing → m ≡ nothing
+bind-none (is x) f e = missing (sym e)
+bind-none nothing f e = refl
+
+module _ {t : List ℕ} {thread fb : ℕ} {bs : List ℕ} {i d : ℕ} {ls cs o : List ℕ} {n : ℕ} where
+  -- it can be tried with another buffer
+  pub doing-tried : (e : List ℕ) → Doing t thread fb bs i d ls cs o n → Doing t thread fb bs i d ls cs e 0
+  doing-tried e h = record {
+    a = bare (h .a);
+    es = e;
+    works = record {
+      framed = h .works .framed;
+      room = h .works .room;
+      small = h .works .small;
+      holds = h .works .holds;
+      bases = h .works .bases;
+      logged = logged-none;
+    };
+    block = h .block;
+    j = h .j;
+    here = h .here;
+    p = h .p;
+    named = h .named;
+    m = h .m;
+    allowed = h .allowed;
+    few = omega (arith, h .few);
+  }
+
+  module _ {e ls₁ cs₁ e₁ : List ℕ} {r₁ : Done} (T : Does t thread fb bs i d ls cs e 0 ls₁ cs₁ e₁ r₁) where
+    -- it blocked when it was tried
+    pub whole-blocked : r₁ ≡ Blocked → DoesWhole t thread fb bs i d ls cs o n ls cs o Blocked
+    unfolding doing-tried
+    whole-blocked q = record {
+      does = record {
+        does = λ h.
+            let none = stopped q (T .does (doing-tried e h)) in
+            stops (same-later thread (h .block) (h .a) ∙ ap (_>>= λ r. is (later (h .a .events) r)) none) refl;
+      };
+      still = λ h b. (refl, refl, refl);
+    }
+
+    -- it did not
+    pub whole-done : {ls′ cs′ o′ : List ℕ} {r : Done} → Ended r₁ → Does t thread fb bs i d ls cs o n ls′ cs′ o′ r
+        → DoesWhole t thread fb bs i d ls cs o n ls′ cs′ o′ r
+    unfolding doing-tried
+    whole-done q D = record {
+      does = D;
+      still = λ h b.
+          let none = bind-none (act thread (h .block) (bare (h .a))) _ (sym (same-later thread (h .block) (h .a)) ∙ stopped b (D .does h)) in
+          not-blocked r₁ q (blocks none (T .does (doing-tried e h)));
+    }
+
+-- one law for each way through a whole block
+pub ruleset whole-ways = (doing-tried, whole-blocked, whole-done)

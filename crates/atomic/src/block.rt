@@ -1,0 +1,249 @@
+// Atomic blocks: a whole one is a step. Block and instruction functions call each other, the allowed depth falling.
+use decide::step::Step;
+use decide::step::decide;
+use engine::event;
+use engine::event::Event;
+use engine::locals;
+use engine::memory;
+use engine::memory::STARTS;
+use labels::count::count_block;
+ghost use mathlib.Core.Path.{_≡_};
+ghost use Rattle.atomic.specs.Doing.{Carrying, Carries, Doing, Does, DoingI, DoesI, DoesWhole};
+
+// "depth at most 16".
+const DEPTH: u8 = 16;
+
+// How a block or an instruction goes: where it ends and how many events there are then, or it blocks.
+pub enum Done {
+    To { next: usize, events: usize },
+    Blocked,
+}
+
+// Carries out an assignment, a read or a write that was decided.
+pub fn carry_out(
+    step: Step,
+    thread: u8,
+    base: usize,
+    words: &mut [u64; locals::WORDS],
+    cells: &mut [u64; memory::WORDS],
+    events: &mut [u8],
+    count: usize,
+) -> Done
+    requires { ⌜ Carrying base step (now words) (now cells) (now events) count ⌝ }
+    ensures { λ r. ⌜ Carries thread base step (now (words .entry)) (now (cells .entry)) (now (events .entry)) count
+        (now (words .exit)) (now (cells .exit)) (now (events .exit)) r ⌝ }
+{
+    match step {
+        Step::Assign { x, value, next } => {
+            locals::put(words, base, x, value);
+            Done::To {
+                next,
+                events: count,
+            }
+        }
+        Step::Read {
+            x,
+            location,
+            index,
+            value,
+            next,
+        } => {
+            locals::put(words, base, x, value);
+            event::write_event(
+                events,
+                count,
+                Event {
+                    thread,
+                    writes: false,
+                    location,
+                    index,
+                    value,
+                },
+            );
+            Done::To {
+                next,
+                events: count + 1,
+            }
+        }
+        Step::Write {
+            location,
+            index,
+            cell,
+            value,
+            next,
+        } => {
+            memory::put(cells, cell, value);
+            event::write_event(
+                events,
+                count,
+                Event {
+                    thread,
+                    writes: true,
+                    location,
+                    index,
+                    value,
+                },
+            );
+            Done::To {
+                next,
+                events: count + 1,
+            }
+        }
+        _ => Done::Blocked,
+    }
+}
+
+// The instructions of a block up to the byte 00.
+fn do_block(
+    t: &[u8],
+    at: usize,
+    depth: u8,
+    thread: u8,
+    base: usize,
+    starts: &[u32; STARTS],
+    words: &mut [u64; locals::WORDS],
+    cells: &mut [u64; memory::WORDS],
+    events: &mut [u8],
+    count: usize,
+) -> Done
+    requires { ⌜ Doing (now t) thread base (now starts) at depth (now words) (now cells) (now events) count ⌝ }
+    ensures { λ r. ⌜ Does (now (t .entry)) thread base (now (starts .entry)) at depth
+        (now (words .entry)) (now (cells .entry)) (now (events .entry)) count
+        (now (words .exit)) (now (cells .exit)) (now (events .exit)) r ⌝ }
+{
+    let mut i = at;
+    let mut n = count;
+    while t[i] != 0 {
+        let Done::To { next, events: k } = do_instr(
+            t,
+            i,
+            depth - 1,
+            thread,
+            base,
+            starts,
+            words,
+            cells,
+            events,
+            n,
+        ) else {
+            return Done::Blocked;
+        };
+        i = next;
+        n = k;
+    }
+    Done::To {
+        next: i + 1,
+        events: n,
+    }
+}
+
+// An instruction. Of an if, the branch that its test chooses is done, and the other one passed over.
+fn do_instr(
+    t: &[u8],
+    at: usize,
+    depth: u8,
+    thread: u8,
+    base: usize,
+    starts: &[u32; STARTS],
+    words: &mut [u64; locals::WORDS],
+    cells: &mut [u64; memory::WORDS],
+    events: &mut [u8],
+    count: usize,
+) -> Done
+    requires { ⌜ DoingI (now t) thread base (now starts) at depth (now words) (now cells) (now events) count ⌝ }
+    ensures { λ r. ⌜ DoesI (now (t .entry)) thread base (now (starts .entry)) at depth
+        (now (words .entry)) (now (cells .entry)) (now (events .entry)) count
+        (now (words .exit)) (now (cells .exit)) (now (events .exit)) r ⌝ }
+{
+    let step = decide(t, words, base, starts, cells, at);
+    if let Step::Test { truth, next } = step {
+        if truth {
+            let Done::To {
+                next: end,
+                events: n,
+            } = do_block(
+                t,
+                next,
+                depth,
+                thread,
+                base,
+                starts,
+                words,
+                cells,
+                events,
+                count,
+            )
+            else {
+                return Done::Blocked;
+            };
+            return Done::To {
+                next: count_block(t, end, depth).next,
+                events: n,
+            };
+        }
+        let no = count_block(t, next, depth).next;
+        return do_block(
+            t,
+            no,
+            depth,
+            thread,
+            base,
+            starts,
+            words,
+            cells,
+            events,
+            count,
+        );
+    }
+    carry_out(step, thread, base, words, cells, events, count)
+}
+
+// A whole atomic block. "The state stays as before the step, and no event of that step is written or counted" where it blocks: it is
+// tried on copies first, with no room for events.
+pub fn do_atomic(
+    t: &[u8],
+    at: usize,
+    thread: u8,
+    base: usize,
+    starts: &[u32; STARTS],
+    words: &mut [u64; locals::WORDS],
+    cells: &mut [u64; memory::WORDS],
+    events: &mut [u8],
+    count: usize,
+) -> Done
+    requires { ⌜ Doing (now t) thread base (now starts) at 16 (now words) (now cells) (now events) count ⌝ }
+    ensures { λ r. ⌜ DoesWhole (now (t .entry)) thread base (now (starts .entry)) at 16
+        (now (words .entry)) (now (cells .entry)) (now (events .entry)) count
+        (now (words .exit)) (now (cells .exit)) (now (events .exit)) r ⌝ }
+{
+    let mut some_words = *words;
+    let mut some_cells = *cells;
+    let mut no_events = [0u8; 1];
+    let tried = do_block(
+        t,
+        at,
+        DEPTH,
+        thread,
+        base,
+        starts,
+        &mut some_words,
+        &mut some_cells,
+        &mut no_events,
+        0,
+    );
+    if let Done::Blocked = tried {
+        return Done::Blocked;
+    }
+    do_block(
+        t,
+        at,
+        DEPTH,
+        thread,
+        base,
+        starts,
+        words,
+        cells,
+        events,
+        count,
+    )
+}

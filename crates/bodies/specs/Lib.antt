@@ -1,0 +1,4 @@
+-- Writes the procedures that simulate the labels.
+
+-- what these are worth
+pub mod Laws

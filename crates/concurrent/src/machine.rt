@@ -1,0 +1,172 @@
+// The concurrent machine: report RR-2017-03, figure 2, under a schedule.
+use super::threads::FRAMES;
+use super::threads::Stepped;
+use super::threads::THREADS;
+use super::threads::step;
+use engine::ends::BLOCKED;
+use engine::ends::FINISHED;
+use engine::ends::USED;
+use engine::locals;
+use engine::memory;
+use engine::memory::STARTS;
+use engine::table;
+use engine::word::ZERO;
+use labels::label_map::fill_labels;
+use semantics::RunAnswer;
+use value::numbers::SIZE;
+use value::numbers::TRAILER;
+ghost use mathlib.Core.Path.{_≡_};
+ghost use Prim.Native.Nat.{_*_, _≤_};
+ghost use lib.ListN.{length};
+ghost use Rattle.atomic.specs.Threaded.{mostThreads, threadFrames};
+ghost use Rattle.concurrent.specs.Concurrent.{AllDone, MainsAt, Begins, ranWith, Starting, Runs, Entries, Accepted, Outcomes};
+
+// The bytes of a main's number.
+const MAIN: usize = 2;
+
+// What a run came to: its end, the entries taken, each for a step, and the events recorded.
+pub struct Ran {
+    pub end: u8,
+    pub taken: usize,
+    pub events: usize,
+}
+
+// Whether all threads are finished.
+fn finished(depths: &[usize; THREADS], threads: usize) -> bool
+    requires { ⌜ threads ≤ mostThreads ⌝ }
+    ensures { λ r. ⌜ AllDone (now (depths .entry)) threads r ⌝ }
+{
+    let mut i = 0;
+    while i < threads {
+        if depths[i] != 0 {
+            return false;
+        }
+        i += 1;
+    }
+    true
+}
+
+// "Then per thread its main procedure", from `at` on: each thread begins with one frame, at the first label of its main.
+fn begin(
+    t: &[u8],
+    at: usize,
+    threads: usize,
+    bounds: &[usize; 32],
+    labels: &mut [usize; 136],
+    depths: &mut [usize; THREADS],
+)
+    requires { ⌜ MainsAt (now t) at threads × (length (now labels) ≡ mostThreads * threadFrames) × (length (now depths) ≡ mostThreads) ⌝ }
+    ensures { λ _. ⌜ Begins (now (t .entry)) at threads (now (bounds .entry)) (now (labels .exit)) (now (depths .exit)) ⌝ }
+{
+    let mut i = 0;
+    while i < threads {
+        let main = table::two(t, at + MAIN * i) as usize;
+        labels[FRAMES * i] = bounds[2 * main];
+        depths[i] = 1;
+        i += 1;
+    }
+}
+
+// How a run ended.
+fn outcome(end: u8, taken: usize, events: usize) -> Ran
+    ensures { λ r. ⌜ r ≡ ranWith end taken events ⌝ }
+{
+    Ran { end, taken, events }
+}
+
+// The run: "A finished run is answered before the schedule is asked". An entry that blocks is not taken.
+fn go(
+    t: &[u8],
+    threads: usize,
+    schedule: &[u8],
+    map: &[usize; 1604],
+    bounds: &[usize; 32],
+    starts: &[u32; STARTS],
+    labels: &mut [usize; 136],
+    depths: &mut [usize; THREADS],
+    words: &mut [u64; locals::WORDS],
+    cells: &mut [u64; memory::WORDS],
+    events: &mut [u8],
+) -> Ran
+    requires { ⌜ Starting (now t) threads (now schedule) (now map) (now bounds) (now starts) (now labels) (now depths) (now words) (now cells) ⌝ }
+    ensures { λ r. ⌜ Runs (now (t .entry)) threads (now (schedule .entry)) (now (map .entry)) (now (bounds .entry)) (now (starts .entry))
+        (now (labels .entry)) (now (depths .entry)) (now (words .entry)) (now (cells .entry)) (now (events .entry))
+        (now (cells .exit)) (now (events .exit)) r ⌝ }
+{
+    let mut taken = 0;
+    let mut count = 0;
+    loop {
+        if finished(depths, threads) {
+            return outcome(FINISHED, taken, count);
+        }
+        if taken == schedule.len() {
+            return outcome(USED, taken, count);
+        }
+        let Stepped::To(after) = step(
+            t,
+            map,
+            bounds,
+            starts,
+            schedule[taken],
+            labels,
+            depths,
+            words,
+            cells,
+            events,
+            count,
+        ) else {
+            return outcome(BLOCKED, taken, count);
+        };
+        count = after;
+        taken += 1;
+    }
+}
+
+// The run on a table that is accepted, under a schedule of its threads, with room for its cells.
+pub fn run(
+    t: &[u8],
+    procedures: usize,
+    locations: usize,
+    threads: usize,
+    count: usize,
+    schedule: &[u8],
+    cells: &mut [u8],
+    events: &mut [u8],
+) -> RunAnswer
+    requires { ⌜ Accepted (now t) procedures locations threads count × Entries threads (now schedule) ⌝ }
+    ensures { λ r. ⌜ Outcomes (now (t .entry)) procedures locations threads count (now (schedule .entry))
+        (now (cells .entry)) (now (events .entry)) r (now (cells .exit)) (now (events .exit)) ⌝ }
+{
+    let mains = t.len() - TRAILER - MAIN * threads;
+    let mut map = [0usize; 1604];
+    let mut bounds = [0usize; 32];
+    let mut starts = [0u32; STARTS];
+    let mut labels = [0usize; 136];
+    let mut depths = [0usize; THREADS];
+    let mut words = [0u64; locals::WORDS];
+    let mut memory = [ZERO; memory::WORDS];
+    fill_labels(t, procedures, &mut map, &mut bounds);
+    memory::set_starts(t, mains - SIZE * locations, locations, &mut starts);
+    begin(t, mains, threads, &bounds, &mut labels, &mut depths);
+    let ran = go(
+        t,
+        threads,
+        schedule,
+        &map,
+        &bounds,
+        &starts,
+        &mut labels,
+        &mut depths,
+        &mut words,
+        &mut memory,
+        events,
+    );
+    memory::write_cells(&memory, count, cells);
+    RunAnswer {
+        number: 0,
+        end: ran.end,
+        steps: ran.taken as u64,
+        unused: schedule.len() - ran.taken,
+        events: ran.events as u64,
+    }
+}

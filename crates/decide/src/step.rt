@@ -1,0 +1,277 @@
+// The deciding half of a step: reads the instruction that stands at a place, and answers what is to be done.
+use engine::evaluate;
+use engine::evaluate::Valued;
+use engine::locals;
+use engine::locals::FRAME;
+use engine::memory;
+use engine::memory::STARTS;
+use engine::memory::Spot;
+use engine::table;
+use value::Answer;
+use value::Value;
+ghost use mathlib.Core.Path.{_≡_};
+ghost use Prim.Native.Nat.{_+_, _≤_, _<_};
+ghost use lib.ListN.{length, getD};
+ghost use Rattle.decide.specs.Decided.{Poised, Passable, Writable, Readable, Laid, Lies, Kept, Any, AssignOf, TestOf, Decides};
+ghost use Rattle.decide.specs.Decided.{PassesAll, DecidesAll, Selectable, Selects};
+
+// What a step does. `next` is where the instruction ends, of a test where its expression ends.
+pub enum Step {
+    Return,
+    Assign {
+        x: usize,
+        value: Value,
+        next: usize,
+    },
+    Read {
+        x: usize,
+        location: usize,
+        index: usize,
+        value: Value,
+        next: usize,
+    },
+    Write {
+        location: usize,
+        index: usize,
+        cell: usize,
+        value: Value,
+        next: usize,
+    },
+    Test {
+        truth: bool,
+        next: usize,
+    },
+    Call {
+        procedure: usize,
+        next: usize,
+    },
+    Select {
+        cell: usize,
+        thread: u8,
+        next: usize,
+    },
+    Blocked,
+}
+
+// Each kind of instruction has a function that gets what the instruction's expressions came to. So it is small, and inline in both machines.
+
+// "x := e".
+pub fn decide_assign(t: &[u8], at: usize, e: Valued) -> Step
+    requires { ⌜ at + 1 < length (now t) ⌝ }
+    ensures { λ r. ⌜ AssignOf (now (t .entry)) at e r ⌝ }
+{
+    let answer = e.answer;
+    let Answer::Is(value) = answer else {
+        return Step::Blocked;
+    };
+    Step::Assign {
+        x: table::byte(t, at + 1),
+        value,
+        next: e.next,
+    }
+}
+
+// The test of a while or an if.
+pub fn decide_test(e: Valued) -> Step
+    ensures { λ r. ⌜ TestOf e r ⌝ }
+{
+    let answer = e.answer;
+    let Answer::Is(value) = answer else {
+        return Step::Blocked;
+    };
+    let Value::Truth(truth) = value else {
+        return Step::Blocked;
+    };
+    Step::Test {
+        truth,
+        next: e.next,
+    }
+}
+
+// "y[o] := e".
+pub fn decide_write(
+    t: &[u8],
+    words: &[u64; locals::WORDS],
+    base: usize,
+    starts: &[u32; STARTS],
+    at: usize,
+    o: Valued,
+    e: Valued,
+) -> Step
+    requires { ⌜ Writable (now t) (now words) base at o e ⌝ }
+    ensures { λ r. ⌜ Decides (now (t .entry)) (now (words .entry)) base at (Laid (now (starts .entry))) r ⌝ }
+{
+    let offset = o.answer;
+    let answer = e.answer;
+    let Answer::Is(value) = answer else {
+        return Step::Blocked;
+    };
+    let pointer = locals::get(words, base, table::byte(t, at + 1));
+    let Spot::At {
+        location,
+        index,
+        cell,
+    } = memory::place(starts, pointer, offset)
+    else {
+        return Step::Blocked;
+    };
+    Step::Write {
+        location,
+        index,
+        cell,
+        value,
+        next: e.next,
+    }
+}
+
+// "x := y[o]".
+pub fn decide_read(
+    t: &[u8],
+    words: &[u64; locals::WORDS],
+    base: usize,
+    starts: &[u32; STARTS],
+    cells: &[u64; memory::WORDS],
+    at: usize,
+    o: Valued,
+) -> Step
+    requires { ⌜ Readable (now t) (now words) base at o × Kept (now starts) (now cells) ⌝ }
+    ensures { λ r. ⌜ Decides (now (t .entry)) (now (words .entry)) base at (Lies (now (starts .entry)) (now (cells .entry))) r ⌝ }
+{
+    let offset = o.answer;
+    let pointer = locals::get(words, base, table::byte(t, at + 2));
+    let Spot::At {
+        location,
+        index,
+        cell,
+    } = memory::place(starts, pointer, offset)
+    else {
+        return Step::Blocked;
+    };
+    let Answer::Is(value) = memory::get(cells, cell) else {
+        return Step::Blocked;
+    };
+    Step::Read {
+        x: table::byte(t, at + 1),
+        location,
+        index,
+        value,
+        next: o.next,
+    }
+}
+
+// The arguments of a call: all were passed, and the last one ends here; or one has no value.
+pub enum Passed {
+    All(usize),
+    Missing,
+}
+
+// The values of `count` expressions go to the frame above, which is no part of the state before the call.
+fn pass(
+    t: &[u8],
+    words: &mut [u64; locals::WORDS],
+    base: usize,
+    from: usize,
+    count: usize,
+) -> Passed
+    requires { ⌜ Passable (now t) (now words) base from count ⌝ }
+    ensures { λ r. ⌜ PassesAll (now (t .entry)) (now (words .entry)) (now (words .exit)) base from count r ⌝ }
+{
+    let above = base + FRAME;
+    let mut at = from;
+    let mut i = 0;
+    while i < count {
+        let e = evaluate::evaluate(t, words, base, at);
+        let answer = e.answer;
+        let Answer::Is(v) = answer else {
+            return Passed::Missing;
+        };
+        locals::put(words, above, i, v);
+        at = e.next;
+        i += 1;
+    }
+    Passed::All(at)
+}
+
+// "call procedure m".
+pub fn decide_call(t: &[u8], words: &mut [u64; locals::WORDS], base: usize, at: usize) -> Step
+    requires { ⌜ Poised (now t) (now words) base at × (getD (now t) at 0 ≡ 0x25) × (at + 4 ≤ length (now t)) ⌝ }
+    ensures { λ r. ⌜ DecidesAll (now (t .entry)) (now (words .entry)) (now (words .exit)) base at Any r ⌝ }
+{
+    let count = table::byte(t, at + 3);
+    let Passed::All(next) = pass(t, words, base, at + 4, count) else {
+        return Step::Blocked;
+    };
+    Step::Call {
+        procedure: table::two(t, at + 1) as usize,
+        next,
+    }
+}
+
+// The step of the instruction or return at `at`, over the locals of the frame at `base`. It is no select and no atomic block.
+// The sequential machine matches on the mark itself (`sequential::due`).
+pub fn decide(
+    t: &[u8],
+    words: &mut [u64; locals::WORDS],
+    base: usize,
+    starts: &[u32; STARTS],
+    cells: &[u64; memory::WORDS],
+    at: usize,
+) -> Step
+    requires { ⌜ Poised (now t) (now words) base at × Kept (now starts) (now cells) ⌝ }
+    ensures { λ r. ⌜ DecidesAll (now (t .entry)) (now (words .entry)) (now (words .exit)) base at (Lies (now (starts .entry))
+        (now (cells .entry))) r ⌝ }
+{
+    let mark = t[at];
+    match mark {
+        0x00 => Step::Return,
+        0x20 => decide_assign(t, at, evaluate::evaluate(t, words, base, at + 2)),
+        0x21 => {
+            let o = evaluate::evaluate(t, words, base, at + 2);
+            let e = evaluate::evaluate(t, words, base, o.next);
+            decide_write(t, words, base, starts, at, o, e)
+        }
+        0x22 => {
+            let o = evaluate::evaluate(t, words, base, at + 3);
+            decide_read(t, words, base, starts, cells, at, o)
+        }
+        0x25 => decide_call(t, words, base, at),
+        _ => decide_test(evaluate::evaluate(t, words, base, at + 1)),
+    }
+}
+
+// The step of the select at `at`, which takes an entry of the schedule.
+pub fn decide_select(
+    t: &[u8],
+    starts: &[u32; STARTS],
+    cells: &[u64; memory::WORDS],
+    at: usize,
+    thread: u8,
+) -> Step
+    requires { ⌜ Selectable (now t) (now starts) (now cells) at ⌝ }
+    ensures { λ r. ⌜ Selects (now (t .entry)) (now (starts .entry)) (now (cells .entry)) at thread r ⌝ }
+{
+    let source = table::two(t, at + 3) as usize;
+    let Spot::At {
+        location: _,
+        index: _,
+        cell,
+    } = memory::find(starts, source, thread as u32)
+    else {
+        return Step::Blocked;
+    };
+    let Answer::Is(value) = memory::get(cells, cell) else {
+        return Step::Blocked;
+    };
+    let Value::Whole(n) = value else {
+        return Step::Blocked;
+    };
+    if n == 0 {
+        return Step::Blocked; // "and takes none"
+    }
+    let target = table::two(t, at + 1) as usize;
+    Step::Select {
+        cell: memory::start(starts, target),
+        thread,
+        next: at + 5,
+    }
+}

@@ -1,0 +1,4 @@
+-- Writes the pieces of the copy's code: expressions, loads and stores, assign, read and write.
+
+-- what these are worth
+pub mod Laws

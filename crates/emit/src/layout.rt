@@ -1,0 +1,117 @@
+// Where the copy keeps what: the locations after the source's. No other file knows their numbers.
+use value::bytes::byte_at;
+use value::bytes::two_bytes;
+ghost use mathlib.Core.Path.{_≡_};
+ghost use Prim.Native.Nat.{_+_};
+ghost use Rattle.emit.specs.Laws.Shapes.{LocalsAt, BeforeAt, MainAt, HubAt, SiteAt, RowsAt};
+
+// What is known of an accepted concurrent table: where its procedure records begin, and its counts.
+pub struct Shape {
+    pub records: u16,
+    pub procedures: u16,
+    pub locations: u16,
+    pub threads: u16,
+    pub labels: u16,
+}
+
+// Where the copy keeps the thread selected last and the program counters.
+pub struct Hub {
+    pub ptid: usize,
+    pub pct: usize,
+}
+
+// What the code of a procedure's labels must know: how many locals the procedure has, and where the copy keeps the program counters,
+// the procedure's "from" and its first local.
+pub struct Site {
+    pub locals: u8,
+    pub pct: u32,
+    pub from: u32,
+    pub home: u32,
+}
+
+// How many locals procedure m has; 0 past the last.
+pub fn locals_of(t: &[u8], shape: Shape, m: usize) -> u8
+    ensures { λ r. ⌜ LocalsAt (now (t .entry)) shape m r ⌝ }
+{
+    if shape.procedures as usize <= m {
+        return 0;
+    }
+    byte_at(t, shape.records as usize + 6 * m + 1)
+}
+
+// The locals of the procedures before m.
+pub fn before(t: &[u8], shape: Shape, m: usize) -> usize
+    ensures { λ r. ⌜ BeforeAt (now (t .entry)) shape m r ⌝ }
+{
+    let most = shape.procedures as usize;
+    let mut k = 0;
+    let mut sum = 0;
+    while k < most {
+        if m <= k {
+            return sum;
+        }
+        sum += locals_of(t, shape, k) as usize;
+        k += 1;
+    }
+    sum
+}
+
+// The main procedure of thread k.
+pub fn main_of(t: &[u8], shape: Shape, k: usize) -> usize
+    ensures { λ r. ⌜ MainAt (now (t .entry)) shape k r ⌝ }
+{
+    if shape.threads as usize <= k {
+        return 0;
+    }
+    let sizes = shape.records as usize + 6 * (shape.procedures as usize);
+    two_bytes(t, sizes + 2 * (shape.locations as usize) + 2 * k) as usize
+}
+
+// "ptid (size 1), pct"
+pub fn hub_of(shape: Shape) -> Hub
+    ensures { λ r. ⌜ HubAt shape r ⌝ }
+{
+    let first = shape.locations as usize;
+    Hub {
+        ptid: first,
+        pct: first + 1,
+    }
+}
+
+// "one from per procedure, one per local of each procedure in order"
+pub fn site_of(t: &[u8], shape: Shape, m: usize) -> Site
+    ensures { λ r. ⌜ SiteAt (now (t .entry)) shape m r ⌝ }
+{
+    let procedures = shape.procedures as usize;
+    if procedures <= m {
+        return Site {
+            locals: 0,
+            pct: 0,
+            from: 0,
+            home: 0,
+        };
+    }
+    let first = shape.locations as usize;
+    let homes = first + 2 + procedures;
+    Site {
+        locals: locals_of(t, shape, m),
+        pct: (first + 1) as u32,
+        from: (first + 2 + m) as u32,
+        home: (homes + before(t, shape, m)) as u32,
+    }
+}
+
+// How many locations have size T: pct, one "from" per procedure, one per local.
+pub fn rows_of(t: &[u8], shape: Shape) -> usize
+    ensures { λ r. ⌜ RowsAt (now (t .entry)) shape r ⌝ }
+{
+    let procedures = shape.procedures as usize;
+    1 + procedures + before(t, shape, procedures)
+}
+
+// The location of local x.
+pub fn home(s: Site, x: u8) -> usize
+    ensures { λ r. ⌜ r ≡ s .home + x ⌝ }
+{
+    s.home as usize + x as usize
+}

@@ -1,0 +1,14 @@
+-- `engine::evaluate::two` meets its contract.
+use borrow.Author.Needs.{needs}
+use Rattle.engine.proofs.evaluate.two.Statement.{statement}
+use Rattle.engine.proofs.evaluate.two.Tie as tie
+
+pub two-spec : {M : Type 1} → statement M
+two-spec =
+    tie.close (tie.spec
+    (λ c κs. search needs)
+    (λ c κs. search needs)
+    (λ c κs. search needs)
+    (λ c. rw (c .before .match .keys1) (c .same .ensures))
+    (λ c. rw (c .before .match .keys2) (c .truths .ensures))
+    (λ c. search needs))

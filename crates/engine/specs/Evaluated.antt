@@ -1,0 +1,48 @@
+-- What the evaluator is asked and answers: the expression that stands at a place of a table, over a frame of locals.
+use Prim.Native.Nat.{ℕ, _<_}
+use mathlib.Core.Path.{_≡_}
+use mathlib.Core.List.{List}
+use lib.ListN.{length}
+use Rattle.value.specs.Maybe.{Maybe, _>>=_}
+use Rattle.value.specs.Values.{given}
+use Rattle.value.specs.Marks.{markOf, applied₁, applied₂}
+use Rattle.value.specs.declared.Value.{Value}
+use Rattle.value.specs.declared.Answer.{Answer}
+use Rattle.format.specs.Syntax.{Expr, constant, local, one, two}
+use Rattle.format.specs.Laws.Grammar.{ExprAt}
+use Rattle.engine.specs.declared.evaluate.Valued.{Valued}
+use Rattle.semantics.specs.Memory.{Env, eval}
+use Rattle.engine.specs.Work.{Framed}
+
+-- what the operator of a mark gives of what may be missing
+unfoldable pub operated₁ : ℕ → Maybe Value → Maybe Value
+operated₁ m a = a >>= applied₁ (markOf m)
+
+-- and of two such
+unfoldable pub operated₂ : ℕ → Maybe Value → Maybe Value → Maybe Value
+operated₂ m a b = a >>= λ u. b >>= λ v. applied₂ (markOf m) u v
+
+-- each local of an expression is below n
+abbrev pub Below : ℕ → Expr → Type 0
+Below n (constant v) = Unit {0}
+Below n (local x) = x < n
+Below n (one o a) = Below n a
+Below n (two o a b) = Below n a × Below n b
+
+-- at i stands an expression at most d deep, over the locals of the frame at fb
+pub record Ready (t ls : List ℕ) (fb i d : ℕ) : Type 0 where
+  pub env : Env
+  pub framed : Framed ls fb env
+  pub e : Expr
+  pub j : ℕ
+  pub here : ExprAt t i d e j
+  pub below : Below (length env) e
+
+-- an answer, and where the expression ends
+abbrev pub valued : Answer → ℕ → Valued
+valued a j = record { answer = a; next = j }
+
+-- its value, and where it ends
+pub record Evaluates (t ls : List ℕ) (fb i d : ℕ) (r : Valued) : Type 0 where
+  pub value : (h : Ready t ls fb i d) → given (r .answer) ≡ eval (h .env) (h .e)
+  pub next : (h : Ready t ls fb i d) → r .next ≡ h .j

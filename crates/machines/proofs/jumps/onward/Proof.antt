@@ -1,8 +1,0 @@
--- `jumps::onward` meets its contract.
-use borrow.Author.Needs.{needs}
-use Rattle.machines.proofs.Jumping.{onward-ways}
-use Rattle.machines.proofs.jumps.onward.Statement.{statement}
-use Rattle.machines.proofs.jumps.onward.Tie as tie
-
-pub onward-spec : {M : Type 1} → statement M
-onward-spec = tie.close (tie.spec (λ c. search needs) (λ c. search onward-ways) (λ c. search onward-ways))

@@ -1,9 +1,0 @@
--- `reader::bodies::read_body` meets its contract.
-use borrow.Author.Needs.{needs}
-use Rattle.reader.proofs.bodies.read_body.Statement.{statement}
-use Rattle.reader.proofs.bodies.read_body.Tie as tie
-
-pub read-body-spec : {M : Type 1} → statement M
-read-body-spec = tie.close (tie.spec
-    (λ c κs. search needs)
-    (λ c. search needs))

@@ -1,0 +1,16 @@
+-- What the definitions of this crate are worth.
+
+-- a block as a row of tokens
+pub mod Tokens
+-- loops over tokens
+pub mod Scans
+-- the program of a table, by the numbers that the code goes by
+pub mod Laid
+-- rule 5, token by token
+pub mod NameScans
+-- rule 7 by rows of calls
+pub mod Deep
+-- as the code judges it
+pub mod CallScans
+-- rule 6, as the code counts
+pub mod LabelScans

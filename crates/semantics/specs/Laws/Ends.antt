@@ -1,0 +1,32 @@
+-- The concurrent run, by cases: how it ends, and how it goes on.
+use Prim.Native.Nat.{ℕ, suc}
+use mathlib.Core.Path.{_≡_}
+use mathlib.Core.List.{List, [], _∷_, _++_}
+use mathlib.Core.Bool.{true, false}
+use lib.ListN.{length}
+use Rattle.value.specs.Maybe.{is, nothing}
+use Rattle.format.specs.Syntax.{Program}
+use Rattle.semantics.specs.Memory.{Event}
+use Rattle.semantics.specs.Threads as P
+
+module _ (q : Program ℕ) where
+  -- all threads are finished
+  pub finished-run : (ts : List ℕ) (st : P.State) (k : ℕ) (evs : List Event) → P.done (st .threads) ≡ true
+      → P.run q ts st k evs ≡ record { how = P.finished; steps = k; unused = length ts; state = st; events = evs }
+  finished-run [] st k evs e = rw (e, P.run)
+  finished-run (t ∷ ts) st k evs e = rw (e, P.run)
+
+  -- the schedule is used up
+  pub used-run : (st : P.State) (k : ℕ) (evs : List Event) → P.done (st .threads) ≡ false
+      → P.run q [] st k evs ≡ record { how = P.used; steps = k; unused = 0; state = st; events = evs }
+  used-run st k evs e = rw (e, P.run)
+
+  -- a step is blocked
+  pub blocked-run : (t : ℕ) (ts : List ℕ) (st : P.State) (k : ℕ) (evs : List Event) → P.done (st .threads) ≡ false → P.threadStep q t st ≡ nothing
+      → P.run q (t ∷ ts) st k evs ≡ record { how = P.blocked; steps = k; unused = suc (length ts); state = st; events = evs }
+  blocked-run t ts st k evs e f = rw (e, f, P.run)
+
+  -- how it goes on
+  pub step-run : (t : ℕ) (ts : List ℕ) (st : P.State) (k : ℕ) (evs : List Event) (r : P.Step) → P.done (st .threads) ≡ false
+      → P.threadStep q t st ≡ is r → P.run q (t ∷ ts) st k evs ≡ P.run q ts (r .state) (suc k) (evs ++ r .events)
+  step-run t ts st k evs r e f = rw (e, f, P.run)

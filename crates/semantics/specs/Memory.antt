@@ -1,0 +1,84 @@
+-- Environments, memory and events.
+use Prim.Native.Nat.{ℕ}
+use mathlib.Core.List.{List, [], _∷_}
+use mathlib.Core.Bool.{Bool}
+use lib.ListN.{getD, set, replicate}
+use lib.IntN.{pos, negsuc}
+use Rattle.value.specs.Maybe.{Maybe, is, nothing, _>>=_}
+use Rattle.value.specs.Lists.{at}
+use Rattle.value.specs.Values.{apply₁, apply₂}
+use Rattle.value.specs.declared.Value.{Value}
+use Rattle.value.specs.declared.Value.the-variants.{Whole, Location, Truth}
+use Rattle.format.specs.Syntax.{Expr, constant, local, one, two}
+
+-- the locals of a frame, by number; one that is not set is nothing
+abbrev pub Env : Type 0
+Env = List (Maybe Value)
+
+-- the value of a local, if it is set
+abbrev pub lookup : Env → ℕ → Maybe Value
+lookup ρ x = getD ρ x nothing
+
+-- a local is set
+abbrev pub bound : Env → ℕ → Value → Env
+bound ρ x v = set ρ x (is v)
+
+-- document 01: "An operator with an operand that has no value, or of the wrong kind, has none itself"
+abbrev pub eval : Env → Expr → Maybe Value
+eval ρ (constant v) = is v
+eval ρ (local x) = lookup ρ x
+eval ρ (one o a) = eval ρ a >>= apply₁ o
+eval ρ (two o a b) = eval ρ a >>= λ u. eval ρ b >>= λ v. apply₂ o u v
+
+-- several expressions, all of which must have a value
+abbrev pub evals : Env → List Expr → Maybe (List Value)
+evals ρ [] = is []
+evals ρ (e ∷ es) = eval ρ e >>= λ v. evals ρ es >>= λ vs. is (v ∷ vs)
+
+-- a whole number that can be an index
+abbrev pub index : Value → Maybe ℕ
+index (Whole (pos n)) = is n
+index (Whole (negsuc n)) = nothing
+index (Location l) = nothing
+index (Truth b) = nothing
+
+-- a location
+abbrev pub place : Value → Maybe ℕ
+place (Location l) = is l
+place (Whole z) = nothing
+place (Truth b) = nothing
+
+-- a truth value
+abbrev pub truth : Value → Maybe Bool
+truth (Truth b) = is b
+truth (Whole z) = nothing
+truth (Location l) = nothing
+
+-- memory, by location and index
+abbrev pub Memory : Type 0
+Memory = List (List Value)
+
+-- the cell of an index of a location, if it is there
+abbrev pub cell : Memory → ℕ → ℕ → Maybe Value
+cell η l i = at η l >>= λ row. at row i
+
+-- a value is stored in a cell
+abbrev pub stored : Memory → ℕ → ℕ → Value → Memory
+stored η l i v = set η l (set (getD η l []) i v)
+
+-- all cells start as number 0
+abbrev pub fresh : List ℕ → Memory
+fresh [] = []
+fresh (n ∷ ns) = replicate n (Whole (pos 0)) ∷ fresh ns
+
+-- an event reads or writes
+pub data Way : Type 0 where
+  reading writing : Way
+
+-- document 01: "An event is .. thread, 0 read or 1 write, location, index, value"
+pub record Event : Type 0 where
+  pub thread : ℕ
+  pub way : Way
+  pub place : ℕ
+  pub index : ℕ
+  pub value : Value

@@ -1,0 +1,37 @@
+-- `sequential::due` meets its contract.
+use borrow.Author.Needs.{needs}
+use Rattle.sequential.proofs.Facing.{facing-ways}
+use Rattle.decide.proofs.Deciding.{decide-ways}
+use Rattle.sequential.proofs.machine.due.Statement.{statement}
+use Rattle.sequential.proofs.machine.due.Tie as tie
+
+pub due-spec : {M : Type 1} → statement M
+due-spec =
+    tie.close
+    (tie.spec
+    (λ c. search needs)
+    (λ c. search needs)
+    (λ c. search needs)
+    (λ c. search facing-ways)
+    (λ c κs. search facing-ways)
+    (λ c. search needs)
+    (λ c κs. search (facing-ways, decide-ways))
+    (λ c κs. search facing-ways)
+    (λ c. search needs)
+    (λ c κs. search (facing-ways, decide-ways))
+    (λ c κs. search (facing-ways, decide-ways))
+    (λ c κs. search (facing-ways, decide-ways))
+    (λ c. search needs)
+    (λ c κs. search (facing-ways, decide-ways))
+    (λ c κs. search (facing-ways, decide-ways))
+    (λ c κs. search (facing-ways, decide-ways))
+    (λ c. search needs)
+    (λ c κs. search (facing-ways, decide-ways))
+    (λ c κs. search needs)
+    (λ c. search (facing-ways, decide-ways))
+    (λ c. search (facing-ways, decide-ways))
+    (λ c. search (facing-ways, decide-ways))
+    (λ c. search (facing-ways, decide-ways))
+    (λ c. search (facing-ways, decide-ways))
+    (λ c. search (facing-ways, decide-ways))
+    (λ c. search (facing-ways, decide-ways)))

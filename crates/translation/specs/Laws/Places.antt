@@ -1,0 +1,76 @@
+-- The locations of the copy.
+use Prim.Native.Nat.{ℕ, zero, suc, _+_, _*_, _≤_, _<_}
+use native.Mathlib.Omega.{arith}
+use native.Mathlib.Nat.{mul-le-mul}
+use mathlib.Core.Path.{_≡_, _∙_}
+use mathlib.Core.List.{List, [], _∷_, _++_}
+use lib.ListN.{length, length-append, replicate, length-replicate}
+use Rattle.value.specs.Maybe.{is}
+use Rattle.value.specs.Lists.{at, sum}
+use Rattle.value.specs.Laws.Lists.{at-below, Each, each-append}
+use Rattle.format.specs.Syntax.{Proc, Program, Plain, concurrent}
+use Rattle.format.specs.Laws.Sound.{Sound, Within}
+use Rattle.translation.specs.Layout.{layout, before, sizes}
+use Rattle.translation.specs.Laws.Procs.{before-at, before-most}
+
+-- sums of sizes
+sum-append : (xs ys : List ℕ) → sum (xs ++ ys) ≡ sum xs + sum ys
+sum-append [] ys = omega arith
+sum-append (x ∷ xs) ys = omega (arith, sum-append xs ys)
+
+-- one size many times
+sum-replicate : (n a : ℕ) → sum (replicate n a) ≡ n * a
+sum-replicate zero a = omega arith
+sum-replicate (suc n) a = omega (arith, sum-replicate n a)
+
+-- one size many times
+each-replicate : (P : ℕ → Type 0) (n a : ℕ) → P a → Each P (replicate n a)
+each-replicate P zero a h = tt
+each-replicate P (suc n) a h = (h, each-replicate P n a h)
+
+-- how many locations have size T
+abbrev new : Program Plain → ℕ
+new q = 1 + length (q .procs) + before (q .procs) (length (q .procs))
+
+module _ (q : Program Plain) where
+  -- the source's, ptid, pct, one "from" for each procedure, one for each local
+  pub places-count : length (sizes q) ≡ length (q .sizes) + 2 + length (q .procs) + before (q .procs) (length (q .procs))
+  places-count = length-append (q .sizes) _ ∙ rw (length-replicate (new q) (length (q .mains))) (omega arith)
+
+  module _ (m : ℕ) (f : Proc Plain) (e : at (q .procs) m ≡ is f) where
+    -- the "from" of a procedure is one of them
+    pub from-in : layout q .from m < length (sizes q)
+    from-in = omega (arith, places-count, at-below (q .procs) m e)
+
+    -- and the location of each local
+    pub home-in : (x : ℕ) → x < f .locals → layout q .home m x < length (sizes q)
+    home-in x h = omega (arith, places-count, before-at (q .procs) m e)
+
+  module _ (sound : Sound concurrent q) where
+    -- there are not too many
+    new-most : new q ≤ 273
+    new-most = omega (arith, sound .procs .high, before-most 16 (q .procs) (sound .locals))
+
+    -- all locations
+    pub places-most : length (sizes q) ≤ 512
+    places-most = omega (arith, places-count, sound .places, new-most)
+
+    -- each size is right
+    pub sizes-right : Each (Within 1 256) (sizes q)
+    sizes-right =
+        each-append (Within 1 256) (q .sizes) _ (sound .sizes) (
+          omega arith,
+          each-replicate (Within 1 256) (new q) (length (q .mains))
+              (record { low = sound .threads .low; high = omega (arith, sound .threads .high) }),
+        )
+
+    -- and so are all together
+    pub cells-right : sum (sizes q) ≤ 8192
+    cells-right =
+        omega (
+          arith,
+          sum-append (q .sizes) (1 ∷ replicate (new q) (length (q .mains))),
+          sum-replicate (new q) (length (q .mains)),
+          mul-le-mul {n₁ = new q} {m₁ = length (q .mains)} {n₂ = 273} {m₂ = 8} new-most (sound .threads .high),
+          sound .cells,
+        )

@@ -1,0 +1,4 @@
+-- What the definitions of this crate are worth.
+
+-- what the writer promises
+pub mod Put

@@ -1,0 +1,4 @@
+-- What the proofs of this crate share.
+
+-- and through procedure 0
+pub mod Rounding
