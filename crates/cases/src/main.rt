@@ -10,8 +10,8 @@
 mod buffers;
 mod print;
 
+use basics::bytes;
 use semantics::RunAnswer;
-use value::bytes;
 
 const HEADER: usize = 36;
 

@@ -32,7 +32,7 @@ pub fn put_expr(t: &[u8], at: usize, depth: u8, out: &mut [u8], to: usize) -> Co
         return Copied { next: at, to: to };
     }
     let mark = t[at];
-    let operands = value::marks::operands(mark);
+    let operands = basics::marks::operands(mark);
     if operands == 1 {
         let p = put(out, to, mark);
         return put_expr(t, at + 1, depth - 1, out, p);
@@ -44,7 +44,7 @@ pub fn put_expr(t: &[u8], at: usize, depth: u8, out: &mut [u8], to: usize) -> Co
         let q = left.to;
         return put_expr(t, mid, depth - 1, out, q);
     }
-    let end = at + 1 + value::marks::payload(mark) as usize;
+    let end = at + 1 + basics::marks::payload(mark) as usize;
     if t.len() < end {
         return Copied { next: at, to: to };
     }

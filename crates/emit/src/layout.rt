@@ -1,6 +1,6 @@
 // Where the copy keeps what: the locations after the source's. No other file knows their numbers.
-use value::bytes::byte_at;
-use value::bytes::two_bytes;
+use basics::bytes::byte_at;
+use basics::bytes::two_bytes;
 ghost use mathlib.Core.Path.{_≡_};
 ghost use Prim.Native.Nat.{_+_};
 ghost use Rattle.emit.specs.Laws.Shapes.{LocalsAt, BeforeAt, MainAt, HubAt, SiteAt, RowsAt};

@@ -22,7 +22,7 @@ use Rattle.value.specs.declared.Value.the-variants.{Whole, Location, Truth}
 use Rattle.value.specs.declared.Answer.{Answer}
 use Rattle.value.specs.declared.Answer.the-variants.{Is, Nothing}
 use Rattle.engine.specs.Evaluated.{operated₁, operated₂}
-use Rattle.value.proofs.Ways as ops
+use Rattle.basics.proofs.Ways as ops
 
 -- what the code reads of a whole number is that number
 pub whole-read : {v : Value} {a : ℤ} → v ≡ Whole a → SFits w32 a → v ≡ Whole (toZ w32 (ofZ w32 a))

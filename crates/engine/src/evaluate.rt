@@ -2,11 +2,11 @@
 use super::locals;
 use super::locals::WORDS;
 use super::table;
+use basics::bytes;
+use basics::marks;
+use basics::operators;
 use value::Answer;
 use value::Value;
-use value::bytes;
-use value::marks;
-use value::operators;
 ghost use mathlib.Core.Path.{_≡_};
 ghost use Prim.Native.Nat.{_≤_};
 ghost use lib.ListN.{getD};

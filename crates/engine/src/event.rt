@@ -1,6 +1,6 @@
 // Events in a lent buffer: "Events that fit whole are written, later ones only counted".
+use basics::bytes;
 use value::Value;
-use value::bytes;
 ghost use mathlib.Core.Path.{_≡_};
 ghost use Prim.Native.Nat.{_+_, _≤_};
 ghost use lib.ListN.{length};

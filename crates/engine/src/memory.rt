@@ -1,9 +1,9 @@
 // The cells of memory: a row of words, and the number of each location's first cell.
 use super::table;
 use super::word;
+use basics::bytes;
 use value::Answer;
 use value::Value;
-use value::bytes;
 ghost use mathlib.Core.Path.{_≡_};
 ghost use Prim.Native.Nat.{_+_, _*_, _^_, _≤_, _<_};
 ghost use lib.ListN.{length, getD};

@@ -1,6 +1,6 @@
 // Numbers that are known to stand in a table, low byte first.
-use value::bytes::join;
-use value::bytes::pair;
+use basics::bytes::join;
+use basics::bytes::pair;
 ghost use mathlib.Core.Path.{_≡_};
 ghost use Prim.Native.Nat.{_+_, _≤_, _<_};
 ghost use lib.ListN.{length, getD};

@@ -16,12 +16,12 @@ const KIND: u64 = 4294967296;
 pub fn pack(v: Value) -> u64
     ensures { λ r. ⌜ held r ≡ is v ⌝ }
 {
-    KIND * (value::bytes::cell_kind(v) as u64) + (value::bytes::cell_number(v) as u64)
+    KIND * (basics::bytes::cell_kind(v) as u64) + (basics::bytes::cell_number(v) as u64)
 }
 
 // The value that a word holds.
 pub fn unpack(w: u64) -> Answer
     ensures { λ r. ⌜ given r ≡ held w ⌝ }
 {
-    value::bytes::value_of((w / KIND % 256) as u8, (w % KIND) as u32)
+    basics::bytes::value_of((w / KIND % 256) as u8, (w % KIND) as u32)
 }

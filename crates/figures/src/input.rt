@@ -3,7 +3,7 @@ use super::compare::figures;
 use super::line::write_line;
 use super::refused;
 use agreement::Figures;
-use value::bytes::two_bytes;
+use basics::bytes::two_bytes;
 ghost use mathlib.Core.Path.{_≡_};
 ghost use Prim.Native.Nat.{min};
 ghost use Rattle.agreement.specs.Line.{told, printed, lined};

@@ -2,6 +2,7 @@
 // is what the paper says of it.
 use super::compare::figures;
 use agreement::Figures;
+use basics::operators;
 use format::ReadAnswer;
 use machines::run_concurrent;
 use reader::read_concurrent;
@@ -9,7 +10,6 @@ use translation::WriteAnswer;
 use translator::translate;
 use value::Answer;
 use value::Value;
-use value::operators;
 ghost use mathlib.Core.Path.{_≡_};
 ghost use mathlib.Core.List.{[], _∷_};
 ghost use lib.IntN.{negsuc};

@@ -1,12 +1,12 @@
 // The jump table of a sequential table that was accepted: an entry for each position. It says where a run goes on after a block that
 // ends there, and where it goes on if the test there fails.
+use basics::numbers::DEPTH;
+use basics::numbers::END;
+use basics::numbers::IF;
+use basics::numbers::WHILE;
 use labels::count::after_expr;
 use labels::count::count_block;
 use labels::count::count_instr;
-use value::numbers::DEPTH;
-use value::numbers::END;
-use value::numbers::IF;
-use value::numbers::WHILE;
 ghost use mathlib.Core.Path.{_≡_};
 ghost use Prim.Native.Nat.{_≤_, _<_};
 ghost use lib.ListN.{length};

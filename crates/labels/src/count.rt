@@ -1,8 +1,8 @@
 // How many labels the blocks and instructions of a concurrent table have, and where they end. What is walked over stands there:
 // the table was read.
+use basics::numbers::DEPTH;
 use parse::Ends;
 use parse::expression::read_expr;
-use value::numbers::DEPTH;
 ghost use Rattle.labels.specs.Walks.{ExprEnds, ExprsEnd, PlainEnds, BlockIn, InstrIn, CountsBlock, CountsInstr};
 
 // Where a block or an instruction ends, and its labels.

@@ -3,7 +3,7 @@
 use super::count::after_expr;
 use super::count::count_block;
 use super::count::count_instr;
-use value::numbers::DEPTH;
+use basics::numbers::DEPTH;
 ghost use mathlib.Core.Path.{_≡_};
 ghost use Prim.Native.Nat.{_+_, _≤_};
 ghost use lib.ListN.{length};

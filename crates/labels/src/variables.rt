@@ -69,7 +69,7 @@ pub fn gather(code: &[u8], at: usize, depth: u8) -> Gathered
         };
     }
     let mark = code[at];
-    let operands = value::marks::operands(mark);
+    let operands = basics::marks::operands(mark);
     if operands == 1 {
         return gather(code, at + 1, depth - 1);
     }
@@ -92,7 +92,7 @@ fn leaf(code: &[u8], at: usize) -> Gathered
     ensures { λ r. ⌜ GathersLeaf (now (code .entry)) at r ⌝ }
 {
     let mark = code[at];
-    let next = at + 1 + (value::marks::payload(mark) as usize);
+    let next = at + 1 + (basics::marks::payload(mark) as usize);
     if mark == LOCAL {
         if at + 1 < code.len() {
             return Gathered {

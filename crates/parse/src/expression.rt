@@ -13,9 +13,9 @@ pub fn read_expr(code: &[u8], at: usize, depth: u8) -> Ends
         return Ends::Nothing;
     }
     let mark = code[at];
-    let operands = value::marks::operands(mark);
+    let operands = basics::marks::operands(mark);
     if operands == 0 {
-        let payload = value::marks::payload(mark) as usize;
+        let payload = basics::marks::payload(mark) as usize;
         if payload <= code.len() - (at + 1) {
             return Ends::At(at + 1 + payload);
         }

@@ -1,11 +1,11 @@
 // Rule 8: "a local may be read before it is set". A set of locals is the bits of a number.
+use basics::numbers;
+use basics::numbers::RECORD;
 use parse::Ends;
 use scan::tokens::LOCAL;
 use scan::tokens::body_start;
 use scan::tokens::byte_at;
 use shape::bodies::DEPTH;
-use value::numbers;
-use value::numbers::RECORD;
 ghost use mathlib.Core.Path.{_≡_};
 ghost use Prim.Native.Nat.{_<_};
 ghost use lib.ListN.{length, getD};
@@ -66,14 +66,14 @@ fn known_exprs(t: &[u8], at: usize, count: usize, set: u64) -> Ends
             return Ends::Nothing;
         }
         let mark = t[i];
-        let operands = value::marks::operands(mark);
-        if operands == value::marks::NO_MARK {
+        let operands = basics::marks::operands(mark);
+        if operands == basics::marks::NO_MARK {
             return Ends::Nothing;
         }
         if !leaf_known(t, i, mark, set) {
             return Ends::Nothing;
         }
-        i = i + 1 + (value::marks::payload(mark) as usize);
+        i = i + 1 + (basics::marks::payload(mark) as usize);
         left = left - 1 + (operands as usize);
     }
     Ends::At(i)

@@ -5,7 +5,7 @@ use super::tokens::body_start;
 use super::tokens::byte_at;
 use super::tokens::token_at;
 use super::tokens::token_end;
-use value::numbers::RECORD;
+use basics::numbers::RECORD;
 ghost use mathlib.Core.Path.{_≡_};
 ghost use Prim.Native.Nat.{_+_, _*_, _<_, _≤_};
 ghost use lib.ListN.{length};

@@ -1,6 +1,6 @@
 // The code part of a table as a flat row of tokens: each mark with the numbers that follow it.
-use value::numbers;
-use value::numbers::RECORD;
+use basics::numbers;
+use basics::numbers::RECORD;
 ghost use mathlib.Core.Path.{_≡_};
 ghost use Prim.Native.Nat.{_+_, _*_, _<_, _≤_};
 ghost use lib.ListN.{length, getD};

@@ -1,4 +1,8 @@
 // The sequential machine: report RR-2017-03, figure 1, with select by a schedule, under a budget.
+use basics::numbers::RECORD;
+use basics::numbers::SELECT;
+use basics::numbers::SIZE;
+use basics::numbers::TRAILER;
 use decide::step;
 use decide::step::Step;
 use engine::ends::BLOCKED;
@@ -18,10 +22,6 @@ use jumps::ways;
 use jumps::ways::POSITIONS;
 use semantics::RunAnswer;
 use value::Value;
-use value::numbers::RECORD;
-use value::numbers::SELECT;
-use value::numbers::SIZE;
-use value::numbers::TRAILER;
 ghost use mathlib.Core.Path.{_≡_};
 ghost use Prim.Native.Nat.{_+_, _^_, _≤_, _<_};
 ghost use lib.IntN.{pos};

@@ -1,9 +1,9 @@
 // Rule 4: the bodies stand from byte 0 up to the records, one after the other.
+use basics::numbers;
 use parse::Context;
 use parse::Ends;
 use parse::Kind;
 use parse::block;
-use value::numbers;
 ghost use mathlib.Core.Path.{_≡_};
 ghost use Prim.Native.Nat.{_+_, _*_, _≤_};
 ghost use lib.ListN.{length};
@@ -39,7 +39,7 @@ pub fn right_bodies(code: &[u8], body: &[u8], records: usize, count: u16, kind: 
     let mut procedure = 0;
     let mut left = count;
     while 0 < left {
-        let offset = value::bytes::four_bytes(body, at + 2) as usize;
+        let offset = basics::bytes::four_bytes(body, at + 2) as usize;
         if offset != position {
             return false;
         }

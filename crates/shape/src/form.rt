@@ -4,8 +4,8 @@ use super::header;
 use super::header::Header;
 use super::header::Trailer;
 use super::records;
+use basics::numbers;
 use parse::Kind;
-use value::numbers;
 ghost use Rattle.parse.specs.Ends.{kindOf};
 ghost use Rattle.shape.specs.Shapes.{Closed, FormIs};
 

@@ -50,11 +50,11 @@ fn read_trailer(table: &[u8]) -> Trailer
     Trailer {
         kind: table[at],
         mark: table[at + 1],
-        procedures: value::bytes::two_bytes(table, at + 2),
-        locations: value::bytes::two_bytes(table, at + 4),
-        threads: value::bytes::two_bytes(table, at + 6),
-        distance: value::bytes::four_bytes(table, at + 8),
-        length: value::bytes::four_bytes(table, at + 12),
+        procedures: basics::bytes::two_bytes(table, at + 2),
+        locations: basics::bytes::two_bytes(table, at + 4),
+        threads: basics::bytes::two_bytes(table, at + 6),
+        distance: basics::bytes::four_bytes(table, at + 8),
+        length: basics::bytes::four_bytes(table, at + 12),
     }
 }
 

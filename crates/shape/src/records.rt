@@ -1,8 +1,8 @@
 // Rule 3: the records of procedures, the sizes of locations, the mains of threads. `body` is the table without its trailer.
 use super::header::Trailer;
 use super::limits;
+use basics::numbers::RECORD;
 use parse::Kind;
-use value::numbers::RECORD;
 ghost use mathlib.Core.Path.{_≡_};
 ghost use Prim.Native.Nat.{_+_, _*_, _≤_};
 ghost use lib.ListN.{length};
@@ -38,7 +38,7 @@ fn right_sizes(body: &[u8], at: usize, count: u16) -> bool
     let mut position = at;
     let mut left = count;
     while 0 < left {
-        let size = value::bytes::two_bytes(body, position);
+        let size = basics::bytes::two_bytes(body, position);
         if size < 1 {
             return false;
         }
@@ -60,7 +60,7 @@ pub fn cells(body: &[u8], at: usize, count: u16) -> usize
     let mut position = at;
     let mut left = count;
     while 0 < left {
-        total += value::bytes::two_bytes(body, position) as usize;
+        total += basics::bytes::two_bytes(body, position) as usize;
         position += 2;
         left -= 1;
     }
@@ -86,7 +86,7 @@ fn right_mains(body: &[u8], at: usize, count: u16, records: usize, procedures: u
     let mut position = at;
     let mut left = count;
     while 0 < left {
-        let main = value::bytes::two_bytes(body, position);
+        let main = basics::bytes::two_bytes(body, position);
         if begun(body, records, procedures, main) {
             position += 2;
             left -= 1;

@@ -24,13 +24,13 @@ use Rattle.translation.specs.Code.{moved}
 use Rattle.translation.specs.Translate.{zeroth, later, translate}
 use Rattle.writer.specs.Laws.Put.{Put, Onto}
 use Rattle.emit.specs.Laws.Shapes.{Shaped, LocalsAt, RowsAt}
-use Rattle.bodies.specs.Laws.Bodies.{bodies, simulated, PutsBodies}
+use Rattle.simulation.specs.Laws.Bodies.{bodies, simulated, PutsBodies}
 use Rattle.zeroth.specs.Laws.Zeroth.{ZerothOf}
 use Rattle.translator.specs.Laws.Tables.{HeadOf, Heading, HeadsOf, SizesOf, MiddleOf, CodeOf, Counts, Lengths, Trails, TableOf}
 use Rattle.emit.specs.declared.layout.Shape.{Shape}
 use Rattle.writer.proofs.Puts.{put-none, put-then, put-cons, put-same, onto-start, onto-next, onto-end}
 use Rattle.emit.proofs.Copying.{slice-is}
-use Rattle.bodies.proofs.Simulating.{take-more, later-at, length-later, node-locals}
+use Rattle.simulation.proofs.Simulating.{take-more, later-at, length-later, node-locals}
 
 -- ---- parts
 

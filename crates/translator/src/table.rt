@@ -1,9 +1,9 @@
 // The whole sequential table: bodies, records, sizes, trailer.
-use bodies::simulate::put_bodies;
 use emit::exprs::moved;
 use emit::layout::Shape;
 use emit::layout::locals_of;
 use emit::layout::rows_of;
+use simulation::simulate::put_bodies;
 use writer::bytes::FAR;
 use writer::bytes::put;
 use writer::bytes::put_four;

@@ -22,7 +22,7 @@ use Rattle.translation.specs.Translate.{stmt, terminated, forEach, switch, roun
 use Rattle.writer.specs.Laws.Put.{Put, PutExpr, PutInstr, PutBlock, Onto, Writes}
 use Rattle.emit.specs.Laws.Sources.{Takes, Sited}
 use Rattle.emit.specs.Laws.Shapes.{Shaped, MainAt, Hubbed, HubAt, SiteAt}
-use Rattle.bodies.specs.Laws.Bodies.{Begun, BeginAt}
+use Rattle.simulation.specs.Laws.Bodies.{Begun, BeginAt}
 use Rattle.zeroth.specs.Laws.Zeroth.{judgment, pieceOf, Judged, OneThread, ThreadsLeft}
 use Rattle.zeroth.specs.Laws.Zeroth.{AllThreads, Invokes, Cases, SwitchLeft, Switches, Chooses}
 use Rattle.zeroth.specs.Laws.Zeroth.{Closes}

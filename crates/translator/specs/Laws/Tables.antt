@@ -15,7 +15,7 @@ use Rattle.translation.specs.Code.{moved}
 use Rattle.translation.specs.Translate.{zeroth, later, translate}
 use Rattle.writer.specs.Laws.Put.{Put}
 use Rattle.emit.specs.Laws.Shapes.{Shaped}
-use Rattle.bodies.specs.Laws.Bodies.{bodies}
+use Rattle.simulation.specs.Laws.Bodies.{bodies}
 use Rattle.emit.specs.declared.layout.Shape.{Shape}
 
 -- the record of the procedure of label k + 1, with the offset that is known

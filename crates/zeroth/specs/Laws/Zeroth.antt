@@ -16,7 +16,7 @@ use Rattle.translation.specs.Code.{_then_, tmp, num, loc}
 use Rattle.translation.specs.Translate.{stmt, terminated, forEach, switch, round, loop, interleavings, begins}
 use Rattle.writer.specs.Laws.Put.{PutBlock, Onto, Writes, PutInstr}
 use Rattle.emit.specs.Laws.Shapes.{Shaped, Hubbed}
-use Rattle.bodies.specs.Laws.Bodies.{Begun}
+use Rattle.simulation.specs.Laws.Bodies.{Begun}
 use Rattle.emit.specs.declared.layout.Shape.{Shape}
 use Rattle.emit.specs.declared.layout.Hub.{Hub}
 use Rattle.zeroth.specs.declared.procedure.Part.{Part}

@@ -10,8 +10,8 @@ use Rattle.emit.proofs.exprs.+put_expr.Lts-put_expr as put-expr-lts
 use Rattle.emit.proofs.exprs.moved.Reads as moved-reads
 use Rattle.writer.proofs.bytes.put.Reads as put-reads
 use Rattle.writer.proofs.bytes.put_part.Reads as put-part-reads
-use Rattle.value.proofs.marks.operands.Reads as operands-reads
-use Rattle.value.proofs.marks.payload.Reads as payload-reads
+use Rattle.basics.proofs.marks.operands.Reads as operands-reads
+use Rattle.basics.proofs.marks.payload.Reads as payload-reads
 use Rattle.emit.proofs.exprs.+put_expr.{statement}
 use Rattle.emit.proofs.exprs.+put_expr.Tie.{close}
 

@@ -13,7 +13,7 @@ use Rattle.engine.proofs.evaluate.+operation.Lts-operation as operation
 use Rattle.engine.proofs.evaluate.leaf.Reads as leaf-reads
 use Rattle.engine.proofs.evaluate.one.Reads as one-reads
 use Rattle.engine.proofs.evaluate.two.Reads as two-reads
-use Rattle.value.proofs.marks.operands.Reads as operands-reads
+use Rattle.basics.proofs.marks.operands.Reads as operands-reads
 use Rattle.engine.proofs.evaluate.+operation.{statement}
 use Rattle.engine.proofs.evaluate.+operation.Tie.{close}
 

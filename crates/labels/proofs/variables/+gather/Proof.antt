@@ -9,7 +9,7 @@ use Rattle.labels.proofs.variables.gather.Kinds as gather-kinds
 use Rattle.labels.proofs.variables.+gather.Lts-gather as gather-lts
 use Rattle.labels.proofs.variables.join.Reads as join-reads
 use Rattle.labels.proofs.variables.leaf.Reads as leaf-reads
-use Rattle.value.proofs.marks.operands.Reads as operands-reads
+use Rattle.basics.proofs.marks.operands.Reads as operands-reads
 use Rattle.labels.proofs.variables.+gather.{statement}
 use Rattle.labels.proofs.variables.+gather.Tie.{close}
 

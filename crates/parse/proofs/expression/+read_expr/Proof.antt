@@ -7,8 +7,8 @@ use borrow.Fn.PlainCycle.{Measures, is, falls, and}
 use Rattle.parse.proofs.expression.read_expr.Reads as read-expr
 use Rattle.parse.proofs.expression.read_expr.Kinds as read-expr-kinds
 use Rattle.parse.proofs.expression.+read_expr.Lts-read_expr as read-expr-lts
-use Rattle.value.proofs.marks.operands.Reads as operands-reads
-use Rattle.value.proofs.marks.payload.Reads as payload-reads
+use Rattle.basics.proofs.marks.operands.Reads as operands-reads
+use Rattle.basics.proofs.marks.payload.Reads as payload-reads
 use Rattle.parse.proofs.expression.+read_expr.{statement}
 use Rattle.parse.proofs.expression.+read_expr.Tie.{close}
 

@@ -1,0 +1,153 @@
+// The operators on values. A result outside the range is no value, and so is that of an operand of the wrong kind.
+use value::Answer;
+use value::Value;
+ghost use mathlib.Core.Path.{_≡_};
+ghost use Rattle.value.specs.Values.{given, whole, apply₁, apply₂, not, neg, add, sub, mul, less, equal, and};
+ghost use Rattle.value.specs.Marks.{markOf, applied₁, applied₂};
+
+const LOWEST: i64 = -2147483648;
+
+const HIGHEST: i64 = 2147483647;
+
+// The whole number, where it is in the range: "nothing wraps and nothing is clamped".
+fn narrow(x: i64) -> Answer
+    ensures { λ r. ⌜ given r ≡ whole x ⌝ }
+{
+    if x < LOWEST {
+        return Answer::Nothing;
+    }
+    if HIGHEST < x {
+        return Answer::Nothing; // not HIGHEST
+    }
+    Answer::Is(Value::Whole(x as i32))
+}
+
+pub fn add(left: Value, right: Value) -> Answer
+    ensures { λ r. ⌜ given r ≡ apply₂ add left right ⌝ }
+{
+    let Value::Whole(a) = left else {
+        return Answer::Nothing;
+    };
+    let Value::Whole(b) = right else {
+        return Answer::Nothing;
+    };
+    narrow((a as i64) + (b as i64))
+}
+
+pub fn subtract(left: Value, right: Value) -> Answer
+    ensures { λ r. ⌜ given r ≡ apply₂ sub left right ⌝ }
+{
+    let Value::Whole(a) = left else {
+        return Answer::Nothing;
+    };
+    let Value::Whole(b) = right else {
+        return Answer::Nothing;
+    };
+    narrow((a as i64) - (b as i64))
+}
+
+pub fn multiply(left: Value, right: Value) -> Answer
+    ensures { λ r. ⌜ given r ≡ apply₂ mul left right ⌝ }
+{
+    let Value::Whole(a) = left else {
+        return Answer::Nothing;
+    };
+    let Value::Whole(b) = right else {
+        return Answer::Nothing;
+    };
+    narrow((a as i64) * (b as i64))
+}
+
+pub fn negate(operand: Value) -> Answer
+    ensures { λ r. ⌜ given r ≡ apply₁ neg operand ⌝ }
+{
+    let Value::Whole(a) = operand else {
+        return Answer::Nothing;
+    };
+    narrow(0 - (a as i64))
+}
+
+pub fn less(left: Value, right: Value) -> Answer
+    ensures { λ r. ⌜ given r ≡ apply₂ less left right ⌝ }
+{
+    let Value::Whole(a) = left else {
+        return Answer::Nothing;
+    };
+    let Value::Whole(b) = right else {
+        return Answer::Nothing;
+    };
+    Answer::Is(Value::Truth(a < b))
+}
+
+pub fn equal(left: Value, right: Value) -> Answer
+    ensures { λ r. ⌜ given r ≡ apply₂ equal left right ⌝ }
+{
+    match left {
+        Value::Whole(a) => {
+            let Value::Whole(b) = right else {
+                return Answer::Nothing; // not false
+            };
+            Answer::Is(Value::Truth(a == b))
+        }
+        Value::Location(a) => {
+            let Value::Location(b) = right else {
+                return Answer::Nothing;
+            };
+            Answer::Is(Value::Truth(a == b))
+        }
+        Value::Truth(a) => {
+            let Value::Truth(b) = right else {
+                return Answer::Nothing;
+            };
+            Answer::Is(Value::Truth(a == b))
+        }
+    }
+}
+
+// Both sides have been evaluated.
+pub fn and(left: Value, right: Value) -> Answer
+    ensures { λ r. ⌜ given r ≡ apply₂ and left right ⌝ }
+{
+    let Value::Truth(a) = left else {
+        return Answer::Nothing;
+    };
+    let Value::Truth(b) = right else {
+        return Answer::Nothing;
+    };
+    Answer::Is(Value::Truth(a & b))
+}
+
+pub fn not(operand: Value) -> Answer
+    ensures { λ r. ⌜ given r ≡ apply₁ not operand ⌝ }
+{
+    let Value::Truth(a) = operand else {
+        return Answer::Nothing;
+    };
+    Answer::Is(Value::Truth(!a))
+}
+
+// What the operator of a mark gives of one value: nothing, if it is no mark of such an operator.
+pub fn apply_one(mark: u8, operand: Value) -> Answer
+    ensures { λ r. ⌜ given r ≡ applied₁ (markOf mark) operand ⌝ }
+{
+    match mark {
+        0x16 => not(operand),
+        0x17 => negate(operand),
+        _ => Answer::Nothing,
+    }
+}
+
+// And of two.
+pub fn apply_two(mark: u8, left: Value, right: Value) -> Answer
+    ensures { λ r. ⌜ given r ≡ applied₂ (markOf mark) left right ⌝ }
+{
+    match mark {
+        0x10 => add(left, right),
+        0x11 => subtract(left, right),
+        0x12 => multiply(left, right),
+        0x13 => less(left, right),
+        0x14 => equal(left, right),
+        0x15 => and(left, right),
+        _ => Answer::Nothing,
+    }
+}
