@@ -1,5 +1,5 @@
 # Two commands: `make demo` runs the main job, `make test` proves and tests everything.
-.PHONY: demo test kit second cases zaru use lib bench more-edits
+.PHONY: demo test kit second cases zaru use lib bench
 
 kit:
 	@tools/need rt
@@ -7,7 +7,7 @@ kit:
 # B of document 01 under both orders: the sum, and the lost share
 demo: kit
 	@tools/need python3 python3
-	@rt check run cases | tail -n 1
+	@tools/prove run cases
 	@tools/demo
 
 # the second implementation's own tests
@@ -24,7 +24,7 @@ cases: second
 
 # the proved program that the command zaru asks
 zaru: kit
-	rt check cases
+	@tools/prove cases
 
 # the command line: its own tests, and the pasted output of the documents
 use: zaru
@@ -41,11 +41,8 @@ bench: zaru
 	@tools/need python3 python3
 	tools/bench
 
-# not part of the test, for their time: further wrong programs that the prover must refuse
-more-edits: kit
-	tools/more-edits
-
-test: kit cases
-	rt fmt --check
-	$(MAKE) use lib
-	rt ci
+# everything, each crate proved once; ends in 'N passed, 0 failed' if all of it passed
+test: kit
+	@tools/need cargo cargo
+	@tools/need python3 python3
+	tools/gate
