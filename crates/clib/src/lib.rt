@@ -1,5 +1,5 @@
 // The calls for programs in C: a slice is a pointer and a length, and the numbers of an answer go into a lent array, each where the
-// array has a place for it.
+// array has a place for it. May use `reader`, `translator`, `machines` and the types that they answer. Read specs/Numbers.antt first.
 use format::ReadAnswer;
 use semantics::RunAnswer;
 use translation::WriteAnswer;

@@ -1,4 +1,5 @@
 // The run program: reads a schedule length (2 bytes), a schedule and a concurrent table from standard input, and prints one line.
+// May use `figures` and the kit's input and output; read `figures::input::print` first.
 //
 // Stack, beside what the calls below use: 20,483 bytes for the input, 128 for the line.
 
