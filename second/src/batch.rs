@@ -1,7 +1,7 @@
-//! Batches of cases: how a case is written down and which line answers it.
+//! Batches of cases: how a case is written down and what answers it.
 //!
 //! A case is a header of 36 bytes, a table and a schedule. The header is: op (1 byte), whether the
-//! lent buffers are to be shown (1 byte, here 0), 2 zero bytes, table length (4), schedule length
+//! lent buffers are to be shown (1 byte, 0 or 1), 2 zero bytes, table length (4), schedule length
 //! (4), budget (8), h (4), cell buffer length (4), event buffer length (4), out buffer length (4),
 //! low byte first. A header whose op is 0 ends the batch.
 
@@ -15,6 +15,11 @@ pub const RUN_CONCURRENT: u8 = 4;
 pub const RUN_SEQUENTIAL: u8 = 5;
 /// The table is the run program's whole standard input.
 pub const LINE: u8 = 6;
+/// Asks for the version of cases and lines.
+pub const GREETING: u8 = 90;
+
+/// One more whenever a case or a line changes its form.
+pub const VERSION: u64 = 1;
 
 /// The lengths that a program without a heap has to be ready for.
 pub const LONGEST_TABLE: usize = 66_000;
@@ -26,6 +31,7 @@ pub const LONGEST_OUT: u32 = 70_000;
 #[derive(Clone, PartialEq, Eq, Debug, Default)]
 pub struct Case {
     pub op: u8,
+    pub shown: bool,
     pub table: Vec<u8>,
     pub schedule: Vec<u8>,
     pub budget: u64,
@@ -35,10 +41,24 @@ pub struct Case {
     pub out: u32,
 }
 
+/// What answers a case: its line without the newline, and the bytes of the lent buffers if they are
+/// to be shown.
+#[derive(Clone, PartialEq, Eq, Debug)]
+pub struct Answer {
+    pub line: String,
+    pub shown: Vec<u8>,
+}
+
+impl Answer {
+    pub fn bytes(&self) -> Vec<u8> {
+        [self.line.as_bytes(), b"\n", &self.shown].concat()
+    }
+}
+
 impl Case {
     /// Header, table and schedule.
     pub fn bytes(&self) -> Vec<u8> {
-        let mut bytes = vec![self.op, 0, 0, 0];
+        let mut bytes = vec![self.op, u8::from(self.shown), 0, 0];
         bytes.extend((self.table.len() as u32).to_le_bytes());
         bytes.extend((self.schedule.len() as u32).to_le_bytes());
         bytes.extend(self.budget.to_le_bytes());
@@ -60,29 +80,27 @@ impl Case {
             && self.out <= LONGEST_OUT
     }
 
-    /// The line that answers the case, without its newline: op and the answer's numbers, then the
-    /// hash of each lent buffer.
-    pub fn answer(&self) -> String {
+    /// The line has op and the answer's numbers, then the hash of each lent buffer.
+    pub fn answer(&self) -> Answer {
         match self.op {
-            READ_CONCURRENT => read_line(self.op, read_concurrent(&self.table)),
-            READ_SEQUENTIAL => read_line(self.op, read_sequential(&self.table)),
-            TRANSLATE => self.translate_line(),
-            RUN_CONCURRENT | RUN_SEQUENTIAL => self.run_line(),
-            _ => format!("{} {}", self.op, line(&self.table)),
+            READ_CONCURRENT => self.told(read_line(self.op, read_concurrent(&self.table))),
+            READ_SEQUENTIAL => self.told(read_line(self.op, read_sequential(&self.table))),
+            TRANSLATE => self.translation(),
+            RUN_CONCURRENT | RUN_SEQUENTIAL => self.run(),
+            LINE => self.told(format!("{} {}", self.op, line(&self.table))),
+            _ => self.told(format!("{} {VERSION}", self.op)),
         }
     }
 
-    fn translate_line(&self) -> String {
+    fn translation(&self) -> Answer {
         let mut out = lent(self.out);
         let answer = translate(&self.table, &mut out);
         let hash = fnv(&out);
-        format!(
-            "{} {} {} {hash:016x}",
-            self.op, answer.number, answer.length
-        )
+        let numbers = format!("{} {} {}", self.op, answer.number, answer.length);
+        self.lending(format!("{numbers} {hash:016x}"), out)
     }
 
-    fn run_line(&self) -> String {
+    fn run(&self) -> Answer {
         let mut cells = lent(self.cells);
         let mut events = lent(self.events);
         let answer = if self.op == RUN_CONCURRENT {
@@ -97,7 +115,7 @@ impl Case {
                 &mut events,
             )
         };
-        format!(
+        let line = format!(
             "{} {} {} {} {} {} {:016x} {:016x}",
             self.op,
             answer.number,
@@ -107,7 +125,17 @@ impl Case {
             answer.events,
             fnv(&cells),
             fnv(&events)
-        )
+        );
+        self.lending(line, [cells, events].concat())
+    }
+
+    fn told(&self, line: String) -> Answer {
+        self.lending(line, Vec::new())
+    }
+
+    fn lending(&self, line: String, lent: Vec<u8>) -> Answer {
+        let shown = if self.shown { lent } else { Vec::new() };
+        Answer { line, shown }
     }
 }
 
@@ -158,6 +186,7 @@ mod tests {
     fn a_case_in_bytes() {
         let case = Case {
             op: RUN_SEQUENTIAL,
+            shown: true,
             table: vec![9, 8],
             schedule: vec![7],
             budget: 0x0102_0304_0506_0708,
@@ -168,7 +197,7 @@ mod tests {
         };
         #[rustfmt::skip]
         let expected = [
-            5, 0, 0, 0, 2, 0, 0, 0, 1, 0, 0, 0, 8, 7, 6, 5, 4, 3, 2, 1, 6, 0, 0, 0, 5, 0, 0, 0,
+            5, 1, 0, 0, 2, 0, 0, 0, 1, 0, 0, 0, 8, 7, 6, 5, 4, 3, 2, 1, 6, 0, 0, 0, 5, 0, 0, 0,
             2, 1, 0, 0, 3, 0, 0, 0,
             9, 8, 7,
         ];
@@ -176,27 +205,56 @@ mod tests {
         assert_eq!(last_header(), [0; 36]);
     }
 
-    #[test]
-    fn lines_of_each_op() {
-        let case = |op| Case {
+    fn case_of_a(op: u8) -> Case {
+        Case {
             op,
             table: A.to_vec(),
             schedule: vec![0],
             ..Case::default()
-        };
+        }
+    }
+
+    #[test]
+    fn lines_of_each_op() {
+        let line = |op| case_of_a(op).answer().line;
         let empty = "cbf29ce484222325";
-        assert_eq!(case(READ_CONCURRENT).answer(), "1 0 1 0 1 1 0");
-        assert_eq!(case(READ_SEQUENTIAL).answer(), "2 1 0 0 0 0 0");
-        assert_eq!(case(TRANSLATE).answer(), format!("3 10 0 {empty}"));
-        assert_eq!(
-            case(RUN_CONCURRENT).answer(),
-            format!("4 0 0 1 0 0 {empty} {empty}")
-        );
-        assert_eq!(
-            case(RUN_SEQUENTIAL).answer(),
-            format!("5 1 0 0 0 0 {empty} {empty}")
-        );
-        assert_eq!(case(LINE).answer(), "6 refused 1");
+        assert_eq!(line(READ_CONCURRENT), "1 0 1 0 1 1 0");
+        assert_eq!(line(READ_SEQUENTIAL), "2 1 0 0 0 0 0");
+        assert_eq!(line(TRANSLATE), format!("3 10 0 {empty}"));
+        assert_eq!(line(RUN_CONCURRENT), format!("4 0 0 1 0 0 {empty} {empty}"));
+        assert_eq!(line(RUN_SEQUENTIAL), format!("5 1 0 0 0 0 {empty} {empty}"));
+        assert_eq!(line(LINE), "6 refused 1");
+        assert_eq!(line(GREETING), "90 1");
+    }
+
+    #[test]
+    fn lent_buffers_are_shown_behind_the_line() {
         assert_eq!(lent(3), [13, 20, 27]);
+        let hidden = Case {
+            cells: 2,
+            events: 1,
+            out: 3,
+            ..case_of_a(RUN_CONCURRENT)
+        };
+        let shown = |case: &Case| {
+            let case = Case {
+                shown: true,
+                ..case.clone()
+            };
+            case.answer().bytes()
+        };
+        let line = [hidden.answer().line.as_bytes(), b"\n"].concat();
+        assert_eq!(hidden.answer().bytes(), line);
+        assert_eq!(shown(&hidden), [&line[..], &[13, 20, 13]].concat());
+        let translation = Case {
+            op: TRANSLATE,
+            ..hidden.clone()
+        };
+        assert!(shown(&translation).ends_with(&[b'\n', 13, 20, 27]));
+        let read = Case {
+            op: READ_CONCURRENT,
+            ..hidden
+        };
+        assert_eq!(shown(&read), b"1 0 1 0 1 1 0\n");
     }
 }

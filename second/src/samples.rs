@@ -270,6 +270,56 @@ pub fn table_of_length(kind: Kind, length: usize) -> Vec<u8> {
     make(fours, (rest - 4 * fours) / 3)
 }
 
+/// The steps that 8 threads take together until the deepest concurrent program is finished.
+pub const DEEPEST_STEPS: usize = 8 * (15 * 16 + 3 + 15);
+
+/// Everything as deep and as wide as the rules allow: as many procedures as there may be, each with
+/// all its locals, calling in a row; each call of a concurrent program, and the last write of either,
+/// at the bottom of 16 blocks; each expression 16 deep; all cells.
+pub fn deepest(kind: Kind) -> Program {
+    let (procedures, parameters, locals) = match kind {
+        Kind::Concurrent => (16, 15, 16),
+        Kind::Sequential => (512, 4, 32),
+    };
+    let procedures = (0..procedures).map(|i| {
+        let body = match (i + 1 < procedures, kind) {
+            (true, Kind::Concurrent) => in_ifs(15, vec![deep_call(i + 1, parameters)]),
+            (true, Kind::Sequential) => vec![deep_call(i + 1, parameters)],
+            (false, _) => deep_writes(kind, locals - 1),
+        };
+        procedure(if i == 0 { 0 } else { parameters }, locals, body)
+    });
+    let procedures = procedures.collect();
+    match kind {
+        Kind::Concurrent => program(procedures, &[32; 64], &[0; 8]),
+        Kind::Sequential => program(procedures, &[16; 512], &[]),
+    }
+}
+
+fn deep_call(callee: u16, parameters: u8) -> Instruction {
+    call(callee, vec![of_depth(16); usize::from(parameters)])
+}
+
+/// Writes a cell and reads it back, at the bottom of 16 blocks.
+fn deep_writes(kind: Kind, pointer: u8) -> Block {
+    let index = || (1..16).fold(number(0), |inner, _| negate(inner));
+    let both = vec![
+        write(pointer, index(), of_depth(16)),
+        read(0, pointer, index()),
+    ];
+    let inner = match kind {
+        Kind::Concurrent => vec![atomic(in_ifs(14, both))],
+        Kind::Sequential => in_ifs(15, both),
+    };
+    [vec![assign(pointer, location(0))], inner].concat()
+}
+
+/// A block inside so many ifs, each with a true test 16 deep.
+fn in_ifs(count: usize, block: Block) -> Block {
+    let test = || (1..16).fold(truth(true), |inner, _| and(truth(true), inner));
+    (0..count).fold(block, |inner, _| vec![if_else(test(), inner, Vec::new())])
+}
+
 /// "1: under 16 bytes; wrong kind marks, distance or length; distance over length - 16"
 fn number_1(kind: Kind) -> Vec<Judged> {
     let mut shelf = Shelf::new(kind, 1);

@@ -5,7 +5,7 @@ use second::calls::*;
 use second::line::line;
 use second::program::{Instruction, Kind};
 use second::random::{damaged, holds, program_of, Random, Scale};
-use second::samples::{judged, number_9};
+use second::samples::{deepest, judged, number_9};
 use second::verdict::verdict;
 use second::write;
 
@@ -81,10 +81,11 @@ fn damaged_tables() {
 #[test]
 fn a_small_stack_is_enough() {
     let work = || {
-        let tables = judged().into_iter().chain(number_9());
-        for sample in tables {
-            give_to_all_calls(&sample.table, &[0; 50]);
-            line(&[vec![50, 0], vec![0; 50], sample.table].concat());
+        let judged = judged().into_iter().chain(number_9());
+        let deep = [Kind::Concurrent, Kind::Sequential].map(|kind| table(&deepest(kind)));
+        for bytes in judged.map(|sample| sample.table).chain(deep) {
+            give_to_all_calls(&bytes, &[0; 258]);
+            line(&[vec![2, 1], vec![0; 258], bytes].concat());
         }
     };
     let thread = std::thread::Builder::new().stack_size(128 * 1_024);

@@ -11,6 +11,7 @@ use second::machine::{End, Event, Frame, Heap};
 use second::price;
 use second::program::{Instruction, Kind, Program};
 use second::random::{program_of, schedule_for, Random, Scale};
+use second::samples::{deepest, DEEPEST_STEPS};
 use second::sequential::{Next, Sequential};
 use second::translate::translate as translate_tree;
 use second::value::Value;
@@ -340,6 +341,15 @@ fn demand_3_on_a_long_run() {
     let steps = 26 + 1 + 4_096 * (3 + 16 + 10) + 2_048 * (3 + 10_802);
     assert_eq!(copy_story.steps, steps);
     assert!(steps < BUDGET);
+}
+
+/// Everything as deep as it may be, all threads in turns up to the end.
+#[test]
+fn demand_3_on_the_deepest_program() {
+    let program = deepest(Kind::Concurrent);
+    let schedule: Vec<u8> = (0..DEEPEST_STEPS).map(|step| (step % 8) as u8).collect();
+    assert_eq!(check(&program, &schedule), End::Finished);
+    assert_eq!(check(&program, &schedule[1..]), End::Used);
 }
 
 /// A return is priced like its end label, an empty atomic block like its pc.

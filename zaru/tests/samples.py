@@ -12,6 +12,7 @@ if str(ROOT) not in sys.path:
     sys.path.insert(0, str(ROOT))
 
 from zaru import engine  # noqa: E402
+from zaru.stored import stored_cases  # noqa: E402
 
 A = bytes.fromhex("00 000000000000 0000 4350 0100 0000 0100 08000000 19000000")
 B = bytes.fromhex(
@@ -31,8 +32,6 @@ thread work
 thread work
 """
 
-CASES = ROOT / "crates" / "cases"
-
 MISSING = not engine.engine_path().is_file()
 if MISSING:
     reason = f"{engine.engine_path()} is missing; `make zaru` builds it"
@@ -46,13 +45,6 @@ def needs_engine(test: type) -> type:
 
 def stored_reads() -> Iterator[Tuple[int, bytes, bool]]:
     """The stored cases of the two reads: the call, its table, and whether it is accepted."""
-    batch = (CASES / "stdin").read_bytes()
-    lines = (CASES / "stdout").read_text().splitlines()
-    at = 0
-    for line in lines:
-        header = batch[at : at + engine.HEADER]
-        length, scheduled = (int.from_bytes(header[place : place + 4], "little") for place in (4, 8))
-        start = at + engine.HEADER
-        at = start + length + scheduled
-        if header[0] in (engine.READ_CONCURRENT, engine.READ_SEQUENTIAL):
-            yield header[0], batch[start : start + length], line.split()[1] == "0"
+    for request, line in stored_cases():
+        if request.op in (engine.READ_CONCURRENT, engine.READ_SEQUENTIAL):
+            yield request.op, request.table, line.split()[1] == "0"

@@ -7,6 +7,9 @@
 //
 // A line has the call's number, the numbers of its answer, and a hash of each lent buffer. Where they are to be shown, their bytes
 // follow it. Before a call byte i of a lent buffer is the low byte of 7 * i + 13.
+//
+// What can be called: the six calls below by 1 to 6, and the greeting by 90 (hexadecimal 5A, far from the calls that may still come). A
+// greeting's line has the version of requests and lines, so that the command `zaru` does not read the lines of another program.
 mod buffers;
 mod print;
 
@@ -39,6 +42,11 @@ const RUN_CONCURRENT: u8 = 4;
 const RUN_SEQUENTIAL: u8 = 5;
 
 const RUN_PROGRAM: u8 = 6;
+
+const GREETING: u8 = 90;
+
+// One more whenever a request, or a line that answers one, changes its form. `zaru/engine.py` and `second/src/batch.rs` have it too.
+const VERSION: u64 = 1;
 
 // What is asked for, beside the table and the schedule.
 struct Request {
@@ -179,6 +187,7 @@ fn answer(request: Request, table: &[u8], schedule: &[u8]) -> bool {
         RUN_CONCURRENT => run_machine(request, table, schedule),
         RUN_SEQUENTIAL => run_machine(request, table, schedule),
         RUN_PROGRAM => run_program(table),
+        GREETING => print::greeting(GREETING, VERSION),
         _ => return false,
     }
     true

@@ -14,6 +14,13 @@ pub fn end_line() {
     io::write_all(1, b"\n");
 }
 
+// The line of a greeting.
+pub fn greeting(call: u8, version: u64) {
+    io::print_decimal(1, call as u64);
+    number(version);
+    end_line();
+}
+
 // The line of a read.
 pub fn read(call: u8, r: ReadAnswer) {
     io::print_decimal(1, call as u64);

@@ -2,7 +2,7 @@
 //!
 //! Usage: cases STDIN STDOUT [OPS]. The batch goes to the file STDIN, the lines to the file STDOUT,
 //! and a summary to standard error. With OPS, a word of digits such as `12`, only the cases of those
-//! calls are written. The seed is fixed, so both files are always the same.
+//! calls are written, behind the greeting. The seed is fixed, so both files are always the same.
 
 use second::batch::*;
 use second::builder::*;
@@ -12,7 +12,10 @@ use second::line::BUDGET;
 use second::program::{Instruction, Kind, Program};
 use second::random::{damaged, program_of, schedule_for, Random, Scale};
 use second::run_samples::{ran, Ran};
-use second::samples::{b, judged, number_9, one_thread, sequential, translating_to, Judged, A};
+use second::samples::{
+    b, deepest, judged, number_9, one_thread, sequential, table_of_length, translating_to, Judged,
+    A, DEEPEST_STEPS,
+};
 use second::verdict::verdict;
 use second::write;
 use std::collections::BTreeMap;
@@ -48,6 +51,10 @@ fn whole_batch(ops: &str) -> Batch {
         section: "worked",
         ..Batch::default()
     };
+    batch.put(Case {
+        op: GREETING,
+        ..Case::default()
+    });
     worked(&mut batch);
     batch.section = "judged tables";
     judged_tables(&mut batch);
@@ -60,6 +67,8 @@ fn whole_batch(ops: &str) -> Batch {
     cell_buffers(&mut batch);
     batch.section = "inputs of the run program";
     inputs(&mut batch);
+    batch.section = "largest programs";
+    largest_programs(&mut batch);
     let mut random = Random::new(SEED);
     batch.section = "random programs";
     for _ in 0..RANDOM_PROGRAMS {
@@ -89,24 +98,27 @@ struct Batch {
     /// The calls whose cases are kept, a digit each.
     ops: String,
     input: Vec<u8>,
-    lines: String,
+    lines: Vec<u8>,
     section: &'static str,
     cases: BTreeMap<&'static str, usize>,
     outcomes: BTreeMap<String, usize>,
 }
 
 impl Batch {
+    /// The case, if it is one of the calls that are kept.
     fn add(&mut self, case: Case) {
-        assert!(case.keeps_limits(), "a case is over a limit");
-        if !self.ops.contains((b'0' + case.op) as char) {
-            return;
+        if self.ops.contains((b'0' + case.op) as char) {
+            self.put(case);
         }
-        let line = case.answer();
+    }
+
+    fn put(&mut self, case: Case) {
+        assert!(case.keeps_limits(), "a case is over a limit");
+        let answer = case.answer();
         *self.cases.entry(self.section).or_insert(0) += 1;
-        self.note(outcome(&line));
+        self.note(outcome(&answer.line));
         self.input.extend(case.bytes());
-        self.lines.push_str(&line);
-        self.lines.push('\n');
+        self.lines.extend(answer.bytes());
     }
 
     fn note(&mut self, what: String) {
@@ -129,6 +141,9 @@ impl Batch {
 /// What a line tells, for the summary.
 fn outcome(line: &str) -> String {
     let words: Vec<&str> = line.split(' ').collect();
+    if words[0] == GREETING.to_string() {
+        return "greeting".to_string();
+    }
     let name = match words[0] {
         "1" => "read_concurrent",
         "2" => "read_sequential",
@@ -209,6 +224,14 @@ fn input_case(input: &[u8]) -> Case {
     }
 }
 
+/// The case with the bytes of its lent buffers behind its line.
+fn shown(case: Case) -> Case {
+    Case {
+        shown: true,
+        ..case
+    }
+}
+
 /// The copy of an accepted table whose copy is not too long.
 fn copy_of(table: &[u8]) -> Option<Vec<u8>> {
     let mut out = vec![0; 65_536];
@@ -244,16 +267,18 @@ fn worked(batch: &mut Batch) {
     for (source, schedule) in cases {
         let copy = copy_of(source).expect("a worked table has a copy");
         let cells = cell_bytes(Kind::Concurrent, source);
-        batch.add(read_case(Kind::Concurrent, source));
-        batch.add(read_case(Kind::Sequential, &copy));
-        batch.add(translate_case(source, copy.len() as u32));
-        batch.add(run_case(Kind::Concurrent, source, schedule, cells, 44));
-        batch.add(Case {
+        let copy_run = Case {
             budget: BUDGET,
             h: read_concurrent(source).locations as u32,
             ..run_case(Kind::Sequential, &copy, schedule, 200, 44)
-        });
-        batch.add(line_case(schedule, source));
+        };
+        let run = run_case(Kind::Concurrent, source, schedule, cells, 44);
+        batch.add(shown(read_case(Kind::Concurrent, source)));
+        batch.add(shown(read_case(Kind::Sequential, &copy)));
+        batch.add(shown(translate_case(source, copy.len() as u32)));
+        batch.add(shown(run));
+        batch.add(shown(copy_run));
+        batch.add(shown(line_case(schedule, source)));
     }
     ranges(batch);
 }
@@ -332,12 +357,12 @@ fn long_copies(batch: &mut Batch) {
     for source in [A.to_vec(), table(&b())] {
         let length = copy_of(&source).map_or(0, |copy| copy.len() as u32);
         for out in [0, 1, length - 1, length, length + 1, length + 300] {
-            batch.add(translate_case(&source, out));
+            batch.add(shown(translate_case(&source, out)));
         }
     }
 }
 
-/// Every run written by hand, with buffers too short by one byte, exact and longer.
+/// Every run written by hand, with buffers too short by one byte, exact and longer, all shown.
 fn runs(batch: &mut Batch) {
     for sample in ran() {
         let cells = cell_bytes(sample.kind, &sample.table);
@@ -352,7 +377,7 @@ fn runs(batch: &mut Batch) {
             lengths.push((cells, 0));
         }
         for (cells, events) in lengths {
-            batch.add(case_of(&sample, cells, events));
+            batch.add(shown(case_of(&sample, cells, events)));
         }
         if sample.kind == Kind::Concurrent {
             batch.add(line_case(&sample.schedule, &sample.table));
@@ -509,6 +534,39 @@ fn inputs(batch: &mut Batch) {
         batch.add(input_case(&vec![0; length]));
         let schedule = vec![0; length - 2 - b.len()];
         batch.add(line_case(&schedule, &b));
+    }
+}
+
+/// The deepest programs and the longest tables, and runs of their copies.
+fn largest_programs(batch: &mut Batch) {
+    let turns: Vec<u8> = (0..DEEPEST_STEPS).map(|step| (step % 8) as u8).collect();
+    let deep = table(&deepest(Kind::Concurrent));
+    batch.add(read_case(Kind::Concurrent, &deep));
+    batch.add(line_case(&turns, &deep));
+    for (source, schedule) in [
+        (deep, &turns[..]),
+        (table_of_length(Kind::Concurrent, 16_384), &[0; 3]),
+        (translating_to(65_536), &[0; 5]),
+    ] {
+        let copy = copy_of(&source).expect("the largest programs have copies");
+        let cells = cell_bytes(Kind::Concurrent, &source);
+        batch.add(translate_case(&source, copy.len() as u32));
+        batch.add(run_case(Kind::Concurrent, &source, schedule, cells, 200));
+        batch.add(whole_run(&copy, schedule));
+    }
+    let deep = table(&deepest(Kind::Sequential));
+    batch.add(read_case(Kind::Sequential, &deep));
+    for source in [deep, table_of_length(Kind::Sequential, 65_536)] {
+        batch.add(whole_run(&source, &[]));
+    }
+}
+
+/// A sequential run with demand 3's budget.
+fn whole_run(source: &[u8], schedule: &[u8]) -> Case {
+    let cells = cell_bytes(Kind::Sequential, source);
+    Case {
+        budget: BUDGET,
+        ..run_case(Kind::Sequential, source, schedule, cells, 200)
     }
 }
 
