@@ -1,15 +1,26 @@
-"""Asks the proved program. A batch of requests goes to its standard input; its lines and bytes come back."""
+"""Asks the proved program. A batch of requests goes to its standard input; its lines and bytes come back.
+
+No proof says that the program that is found is the one that this script is for. So it must be no older than its
+sources, end without an error, and greet with the version of requests and lines that is known here.
+"""
 
 from __future__ import annotations
 
 import os
 import platform
+import signal
 import subprocess
 from dataclasses import dataclass
+from functools import lru_cache
 from pathlib import Path
-from typing import List
+from typing import List, Tuple
+
+from zaru.built import newer_source
 
 READ_CONCURRENT, READ_SEQUENTIAL, TRANSLATE, RUN_CONCURRENT, RUN_SEQUENTIAL, RUN_LINE = range(1, 7)
+GREETING = 90
+# The version of requests and lines; crates/cases/src/main.rt has it too.
+VERSION = 1
 
 HEADER = 36
 # What the program is ready for.
@@ -21,13 +32,16 @@ EVENT_ROOM = 11 * 4_096
 COPY_ROOM = 65_536
 
 VARIABLE = "ZARU_ENGINE"
-DEFAULT = Path(__file__).resolve().parent.parent / "target" / "bin" / "cases"
+ROOT = Path(__file__).resolve().parent.parent
+PROGRAM = "cases"
+DEFAULT = ROOT / "target" / "bin" / PROGRAM
+BUILD = "`make zaru` builds it"
 
 ENDS = ("finished", "used", "blocked", "budget")
 
 
 class EngineError(Exception):
-    """The proved program is missing, or did not answer."""
+    """The proved program is missing, old or another one, or did not answer."""
 
 
 @dataclass(frozen=True)
@@ -65,7 +79,10 @@ class Answer:
     lent: bytes
 
     def number(self, place: int) -> int:
-        return int(self.words[place])
+        try:
+            return int(self.words[place])
+        except (IndexError, ValueError) as error:
+            raise EngineError(f"{engine_path()} answered `{' '.join(self.words)}`: {BUILD}") from error
 
 
 @dataclass(frozen=True)
@@ -104,39 +121,71 @@ def engine_path() -> Path:
 
 
 def ask(requests: List[Request]) -> List[Answer]:
-    """The answers to the requests, in order."""
-    batch = b"".join(one.header() + one.table + one.schedule for one in requests) + bytes(HEADER)
-    output = call_program(batch)
+    """The answers to the requests, in order. The program has to greet first."""
+    greeting = Request(GREETING, b"")
+    output = call_program(batch_of([greeting, *requests]))
+    if not output.startswith(f"{GREETING} {VERSION}\n".encode()):
+        raise EngineError(f"{engine_path()} does not greet with version {VERSION}: {BUILD}")
+    return answers_in(output, [greeting, *requests])[1:]
+
+
+def batch_of(requests: List[Request]) -> bytes:
+    return b"".join(one.header() + one.table + one.schedule for one in requests) + bytes(HEADER)
+
+
+def answers_in(output: bytes, requests: List[Request]) -> List[Answer]:
     answers, at = [], 0
     for request in requests:
         newline = output.find(b"\n", at)
         words = output[at : max(newline, at)].decode("ascii", "replace").split()
         start, at = newline + 1, newline + 1 + request.lent()
         if newline < 0 or words[:1] != [str(request.op)] or len(output) < at:
-            raise EngineError(f"{engine_path()} did not answer call {request.op}; `make zaru` builds one that does")
+            raise EngineError(f"{engine_path()} did not answer call {request.op}: {BUILD}")
         answers.append(Answer(words[1:], output[start:at]))
+    if at < len(output):
+        raise EngineError(f"{engine_path()} answered more than it was asked: {BUILD}")
     return answers
 
 
-def program_words(path: Path, machine: str) -> List[str]:
+@lru_cache(maxsize=None)
+def program_words(path: Path, machine: str) -> Tuple[str, ...]:
     """How to run the proved program, which is for x86-64: elsewhere on the emulator that the kit brings."""
     if machine == "x86_64":
-        return [str(path)]
+        return (str(path),)
     guide = subprocess.run(["rt", "doc"], stdout=subprocess.PIPE, check=True, text=True).stdout.strip()
     tools = Path(guide).parent.parent / "on" / machine / "toolchain"
     loader = tools / "lib" / "ld-linux-x86-64.so.2"
-    return [str(tools / "bin" / "qemu-x86_64"), str(loader), "--library-path", str(loader.parent), str(path)]
+    return str(tools / "bin" / "qemu-x86_64"), str(loader), "--library-path", str(loader.parent), str(path)
 
 
 def call_program(batch: bytes) -> bytes:
     path = engine_path()
+    # Where the environment names a program, its sources are not known.
+    newer = None if os.environ.get(VARIABLE) else newer_source(ROOT, PROGRAM)
+    if newer is not None:
+        raise EngineError(f"{path} is older than {newer}: {BUILD}")
+    return output_of(path, batch, BUILD)
+
+
+def output_of(path: Path, given: bytes, cure: str) -> bytes:
+    """What a proved program writes on this input; the cure is told where it does not do so."""
     if not path.is_file():
-        raise EngineError(f"{path} is missing: `make zaru` builds the proved program")
+        raise EngineError(f"{path} is missing: {cure}")
     try:
         words = program_words(path, platform.machine())
-        return subprocess.run(words, input=batch, stdout=subprocess.PIPE, check=False).stdout
+        done = subprocess.run(words, input=given, stdout=subprocess.PIPE, check=False)
     except (OSError, subprocess.CalledProcessError) as error:
         raise EngineError(f"{path} cannot be run: {error}") from error
+    if done.returncode != 0:
+        raise EngineError(f"{path} {ending(done.returncode)}: {cure}")
+    return done.stdout
+
+
+def ending(status: int) -> str:
+    if status > 0:
+        return f"ended with status {status}"
+    names = {one.value: one.name for one in signal.Signals}
+    return f"was ended by signal {names.get(-status, -status)}"
 
 
 def accepted(answer: Answer) -> Answer:

@@ -2,6 +2,7 @@
 
 import contextlib
 import io
+import itertools
 import os
 import subprocess
 import sys
@@ -16,6 +17,7 @@ from zaru import cli
 from zaru import engine as engine_module
 from zaru import table as t
 from zaru.refusals import REFUSALS
+from zaru.stored import accepted_tables
 
 LAUNCHER = samples.ROOT / "zaru" / "zaru"
 
@@ -105,24 +107,47 @@ class WrongUse(Command):
         self.check(". cannot be read: Is a directory", "read", "c", ".")
 
 
-class WithoutEngine(Command):
+class WrongEngine(Command):
+    """A proved program that is missing, or another program in its place."""
+
+    def check(self, engine: str, message: str) -> None:
+        result = self.zaru("read", "c", "b.table", engine=engine)
+        self.assertEqual(result, Result(3, "", f"zaru: {engine} {message}\n"))
+
+    def check_script(self, script: str, message: str) -> None:
+        """A script that takes its input and does this."""
+        self.file("other", f"#!/bin/sh\ncat >/dev/null\n{script}\n".encode())
+        os.chmod(self.folder / "other", 0o755)
+        self.check(str(self.folder / "other"), message)
+
     def test_missing(self) -> None:
-        result = self.zaru("read", "c", "b.table", engine="/nowhere/cases")
-        self.assertEqual(result.status, 3)
-        self.assertEqual(result.err, "zaru: /nowhere/cases is missing: `make zaru` builds the proved program\n")
+        self.check("/nowhere/cases", "is missing: `make zaru` builds it")
 
     def test_not_a_program(self) -> None:
-        result = self.zaru("read", "c", "b.table", engine=str(self.folder / "a.table"))
-        self.assertEqual(result.status, 3)
-        self.assertIn("cannot be run", result.err)
+        path = str(self.folder / "a.table")
+        self.check(path, f"cannot be run: [Errno 13] Permission denied: '{path}'")
+
+    def test_no_greeting(self) -> None:
+        for said in ("true", "echo 90", "echo 90 0", "echo 90 11", "echo 1 0 1 1 2 4 1"):
+            self.check_script(said, "does not greet with version 1: `make zaru` builds it")
 
     def test_no_answer(self) -> None:
-        self.file("mute", b"#!/bin/sh\ncat >/dev/null\n")
-        os.chmod(self.folder / "mute", 0o755)
-        result = self.zaru("read", "c", "b.table", engine=str(self.folder / "mute"))
-        self.assertEqual(result.status, 3)
-        self.assertIn("did not answer call 1", result.err)
+        self.check_script("echo 90 1", "did not answer call 1: `make zaru` builds it")
+        self.check_script("echo 90 1; echo 2 0 1 1 0 0 1", "did not answer call 1: `make zaru` builds it")
+        self.check_script("echo 90 1; echo 1 0 1 x", "answered `0 1 x`: `make zaru` builds it")
+        self.check_script("echo 90 1; echo 1", "answered ``: `make zaru` builds it")
 
+    def test_more_than_an_answer(self) -> None:
+        lines = "echo 90 1; echo 1 0 1 1 2 4 1"
+        self.check_script(f"{lines}; echo", "answered more than it was asked: `make zaru` builds it")
+
+    def test_bad_ends(self) -> None:
+        lines = "echo 90 1; echo 1 0 1 1 2 4 1"
+        self.check_script(f"{lines}; exit 7", "ended with status 7: `make zaru` builds it")
+        self.check_script(f"{lines}; kill -SEGV $$", "was ended by signal SIGSEGV: `make zaru` builds it")
+
+
+class WithoutEngine(Command):
     def test_errors_of_a_text(self) -> None:
         self.file("wrong.zaru", b"concurrent\nprocedure p()\n  x := 1\nend\n")
         for words in (["asm", "wrong.zaru", "-o", "x"], ["run", "wrong.zaru"], ["show", "c", "wrong.zaru"]):
@@ -278,9 +303,9 @@ class WithEngine(Command):
         self.assertEqual(rows, ["m[0..15] = -7 true false m" + " 0" * 12, "m[16..17] = 0 0"])
 
     def test_random_tables_read_as_stored(self) -> None:
-        """The text of each stored accepted table is accepted again, as the same bytes."""
-        some = [table for op, table, is_accepted in samples.stored_reads() if is_accepted and op == 1][:5]
-        for table in some:
+        """The text of a stored accepted table is accepted again, as the same bytes."""
+        some = (table for kind, table in accepted_tables() if kind == t.CONCURRENT)
+        for table in itertools.islice(some, 5):
             text = self.good("show", "c", "-", given=table)
             self.file("shown.zaru", text.encode())
             self.good("asm", "shown.zaru", "-o", "shown.table")
