@@ -177,8 +177,8 @@ class Parser:
                 procedure, names = self.procedure(len(procedures))
                 procedures.append(procedure)
                 local_names.append(names)
-            elif self.accept("thread"):
-                mains.append(self.thread())
+            elif self.sees("thread"):
+                mains.append(self.thread(len(mains)))
             else:
                 raise self.expected("`location`, `procedure` or `thread`")
         self.check_calls(procedures)
@@ -193,10 +193,13 @@ class Parser:
         self.end_of_line()
         return size
 
-    def thread(self) -> int:
-        number = self.known(self.name("the name of the thread's procedure"), self.procedures, "procedure")
+    def thread(self, number: int) -> int:
+        word = self.take()
+        if number == MOST_IN_TWO_BYTES:
+            raise word.error(f"more than {MOST_IN_TWO_BYTES:,} of `thread`")
+        main = self.known(self.name("the name of the thread's procedure"), self.procedures, "procedure")
         self.end_of_line()
-        return number
+        return main
 
     def procedure(self, number: int) -> Tuple[t.Procedure, Tuple[str, ...]]:
         scope = Scope(number, {}, self.take())
@@ -482,9 +485,13 @@ def arguments(count: int) -> str:
     return f"{count} argument" if count == 1 else f"{count} arguments"
 
 
+def parsed(tokens: List[Token]) -> Tuple[t.Program, Names]:
+    """The program of a text's tokens, with its names."""
+    return Parser(tokens).program()
+
+
 def assemble(text: str) -> Tuple[t.Program, Names]:
-    """The program of a text, with its names."""
-    return Parser(tokens_of(text)).program()
+    return parsed(tokens_of(text))
 
 
 def describe(file: str, error: AsmError) -> str:

@@ -13,13 +13,14 @@ from zaru import arguments, asm, engine, refusals
 from zaru.arguments import UsageError, Words
 from zaru.copy_names import copy_names
 from zaru.engine import Request
+from zaru.fault import Fault
 from zaru.names import Names, plain_names
-from zaru.show import show
-from zaru.table import CONCURRENT, SEQUENTIAL, Program, decode, encode
+from zaru.table import CONCURRENT, SEQUENTIAL, Program, decode
+from zaru.text import table_of, text_of
 from zaru.trace import BUDGET, LONGEST_ORDER, trace
 from zaru.values import cell_lines
 
-DONE, REFUSED, WRONG_USE, NO_ENGINE = 0, 1, 2, 3
+DONE, REFUSED, WRONG_USE, NO_ENGINE, FAULT = 0, 1, 2, 3, 4
 TEXT_ENDING = ".zaru"
 READ_OPS = {CONCURRENT: engine.READ_CONCURRENT, SEQUENTIAL: engine.READ_SEQUENTIAL}
 KIND_LETTERS = {"c": CONCURRENT, "s": SEQUENTIAL}
@@ -90,23 +91,25 @@ def current_umask() -> int:
     return mask
 
 
-def assembled(name: str) -> Tuple[Program, Names]:
-    """The program of a text file."""
+def assembled(name: str) -> Source:
+    """The table of a text file."""
     try:
         text = read_file(name).decode("utf-8")
     except UnicodeDecodeError as error:
         raise TextError(f"{name}: not a text: byte {error.start} is no UTF-8") from error
     try:
-        return asm.assemble(text)
+        table, names = table_of(text)
     except asm.AsmError as error:
         raise TextError(asm.describe(name, error)) from error
+    except Fault as fault:
+        raise Fault(f"{name}: {fault}") from fault
+    return Source(fitting(name, table), names)
 
 
 def source_of(name: str) -> Source:
     """A table by its file's name; a file that ends in .zaru is a text and is assembled."""
     if name.endswith(TEXT_ENDING):
-        program, names = assembled(name)
-        return Source(fitting(name, encode(program)), names)
+        return assembled(name)
     return Source(fitting(name, read_file(name)))
 
 
@@ -175,8 +178,8 @@ def command_translate(words: Words) -> List[str]:
 def copy_text(source: Source, copy: bytes) -> str:
     """A copy as text, named after its source; both tables have been accepted."""
     program = decode(source.table)
-    names = copy_names(program, source.names_for(program))
-    return show(accepted_program(SEQUENTIAL, copy), names)
+    engine.read(engine.READ_SEQUENTIAL, copy)
+    return text_of(copy, copy_names(program, source.names_for(program)))
 
 
 def command_run(words: Words) -> List[str]:
@@ -210,16 +213,15 @@ def command_copy(words: Words) -> List[str]:
 def command_show(words: Words) -> List[str]:
     kind, source = kind_and_table(words)
     program = accepted_program(kind, source.table)
-    return show(program, source.names_for(program)).splitlines()
+    return text_of(source.table, source.names_for(program)).splitlines()
 
 
 def command_asm(words: Words) -> List[str]:
     name, output = one_file_and_output(words, "text")
     if output.endswith(TEXT_ENDING):
         raise UsageError(f"a file that ends in {TEXT_ENDING} is a text; give the table another name")
-    program, _ = assembled(name)
-    table = fitting(name, encode(program))
-    engine.read(READ_OPS[program.kind], table)
+    table = assembled(name).table
+    engine.read(READ_OPS[decode(table).kind], table)
     write_file(output, table)
     return [] if output == "-" else [f"{output}: {len(table):,} bytes"]
 
@@ -358,7 +360,8 @@ zaru: concurrent programs, their sequential copies, and what both do in a given 
   zaru help [COMMAND]               more about a command
 
 A table is a file of bytes, or of text if its name ends in {TEXT_ENDING}; - is standard input, and -o - standard output.
-Every answer comes from the proved program. Exit status: 0 done, 1 refused, 2 wrong use, 3 no proved program.
+Every answer comes from the proved program; what zaru makes of text is not proved, but checked (zaru/README.md).
+Exit status: 0 done, 1 refused, 2 wrong use, 3 no proved program or an old one, 4 a fault of zaru.
 """
 
 
@@ -402,3 +405,6 @@ def main(words: Sequence[str]) -> int:
     except engine.EngineError as error:
         complain(f"zaru: {error}")
         return NO_ENGINE
+    except Fault as fault:
+        complain(f"zaru: {fault}")
+        return FAULT

@@ -1,5 +1,7 @@
 """What the assembler reads, and its errors with their lines and columns."""
 
+import ast
+import random
 import unittest
 
 import samples  # noqa: F401  (puts the repository on the path)
@@ -54,6 +56,79 @@ class Reading(unittest.TestCase):
         self.assertEqual(program.procedures[0].body, (t.Call(1, (t.Number(1), t.Location(0))),))
         self.assertEqual(program.procedures[1].parameters, 2)
         self.assertEqual(names.procedures, ("b", "a"))
+
+
+def random_text(chance: random.Random, depth: int) -> str:
+    """An expression of few parentheses, blanks anywhere."""
+    if depth == 0 or chance.random() < 0.2:
+        return chance.choice(["v", "p", "cell", "true", "7", "-7", "- v"])
+    inner = random_text(chance, depth - 1)
+    kind = chance.randrange(10)
+    if kind == 0:
+        return f"-({inner})"
+    if kind == 1:
+        return f"({inner})"
+    if kind == 2:
+        return f"not {inner}"
+    sign = chance.choice([" + ", "-", " * ", "*", " < ", " = ", " and ", " and "])
+    return f"{inner}{sign}{random_text(chance, depth - 1)}"
+
+
+MARKS = {
+    ast.Add: t.ADD,
+    ast.Sub: t.SUBTRACT,
+    ast.Mult: t.MULTIPLY,
+    ast.Lt: t.LESS,
+    ast.Eq: t.EQUAL,
+    ast.Not: t.NOT,
+    ast.USub: t.NEGATE,
+}
+LEAVES = {"p": t.Local(0), "v": t.Local(1), "cell": t.Location(0), "true": t.Truth(True)}
+
+
+def from_python(node: ast.expr) -> t.Expression:
+    """Python's reading of an expression. Its operators bind like zaru's; it joins a row of `and` and of comparisons."""
+    if isinstance(node, ast.Name):
+        return LEAVES[node.id]
+    if isinstance(node, ast.Constant):
+        return t.Number(node.value)
+    if isinstance(node, ast.UnaryOp):
+        if isinstance(node.op, ast.UAdd):
+            return from_python(node.operand)
+        if isinstance(node.op, ast.USub) and isinstance(node.operand, ast.Constant):
+            return t.Number(-node.operand.value)
+        return t.Operation(MARKS[type(node.op)], (from_python(node.operand),))
+    if isinstance(node, ast.BinOp):
+        return t.Operation(MARKS[type(node.op)], (from_python(node.left), from_python(node.right)))
+    if isinstance(node, ast.Compare):
+        if len(node.ops) > 1:
+            raise ValueError("a second comparison")
+        return t.Operation(MARKS[type(node.ops[0])], (from_python(node.left), from_python(node.comparators[0])))
+    assert isinstance(node, ast.BoolOp)
+    left = from_python(node.values[0])
+    for right in node.values[1:]:
+        left = t.Operation(t.AND, (left, from_python(right)))
+    return left
+
+
+class AgainstPython(unittest.TestCase):
+    """How operators group, against Python's reading of the same expression."""
+
+    def test_random_expressions(self) -> None:
+        chance = random.Random(20170301)
+        refused = 0
+        for _ in range(3000):
+            text = random_text(chance, 4)
+            try:
+                found = value(text)
+            except AsmError as error:
+                self.assertRegex(error.message, "a second comparison|expected an expression, found `not`|at most 16 deep")
+                refused += 1
+                continue
+            # Python's tree does not tell -(7) from -7; the plus keeps them apart.
+            node = ast.parse(text.replace("=", "==").replace("(7)", "(+7)"), mode="eval").body
+            self.assertEqual(found, from_python(node), text)
+        self.assertLess(refused, 1500)
 
 
 class Errors(unittest.TestCase):

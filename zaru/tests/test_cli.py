@@ -17,6 +17,7 @@ from zaru import cli
 from zaru import engine as engine_module
 from zaru import table as t
 from zaru.refusals import REFUSALS
+from zaru.show import show
 from zaru.stored import accepted_tables
 
 LAUNCHER = samples.ROOT / "zaru" / "zaru"
@@ -145,6 +146,31 @@ class WrongEngine(Command):
         lines = "echo 90 1; echo 1 0 1 1 2 4 1"
         self.check_script(f"{lines}; exit 7", "ended with status 7: `make zaru` builds it")
         self.check_script(f"{lines}; kill -SEGV $$", "was ended by signal SIGSEGV: `make zaru` builds it")
+
+
+class Faults(Command):
+    """Where zaru's own ways differ it says so, and neither prints nor writes anything else."""
+
+    def check(self, message: str, *words: str) -> None:
+        before = self.listed()
+        self.assertEqual(self.zaru(*words), Result(4, "", f"zaru: {message}\n"))
+        self.assertEqual(self.listed(), before)
+
+    def test_a_text_that_is_read_wrongly(self) -> None:
+        """Every command that takes a text: the last number of each is read as one more."""
+        message = "b.zaru: a fault of zaru: the text that it shows is read as another program"
+        commands = ["read c b.zaru", "translate b.zaru -o new", "translate b.zaru -o new.zaru", "run b.zaru 0 0"]
+        commands += ["trace b.zaru 0 0", "copy b.zaru 0", "show c b.zaru", "asm b.zaru -o new"]
+        with mock.patch("zaru.asm.literal", lambda token, sign: t.Number(sign * int(token.text) + 1)):
+            for command in commands:
+                self.check(message, *command.split())
+
+    @samples.needs_engine
+    def test_a_text_that_is_shown_wrongly(self) -> None:
+        message = "a fault of zaru: the text that it shows cannot be read: expected `:=` or `[`, found `=`"
+        with mock.patch("zaru.text.show", lambda program, names: show(program, names).replace(" := x", " = x")):
+            self.check(message, "show", "c", "b.table")
+            self.check(message, "translate", "b.table", "-o", "new.zaru")
 
 
 class WithoutEngine(Command):

@@ -1,15 +1,22 @@
 """Tables to text and back."""
 
 import unittest
+from dataclasses import replace
+from typing import Callable, Dict
+from unittest import mock
 
 import samples
 from zaru import table as t
-from zaru.asm import assemble
+from zaru.asm import Expressions, Parser, Scope, Token, assemble
+from zaru.fault import Fault
 from zaru.names import plain_names
-from zaru.show import show
+from zaru.show import TWO_OPERANDS, Operator, show
+from zaru.stored import accepted_tables
+from zaru.text import table_of, text_of
 
 NUMBER = t.Number(5)
 LOCAL = t.Local(0)
+PARSERS_IF_ELSE = Parser.if_else
 
 
 def shown(program: t.Program) -> str:
@@ -120,12 +127,103 @@ class RoundTrip(unittest.TestCase):
         self.check_program(concurrent(procedure(*block)))
 
     def test_stored_cases(self) -> None:
-        """Every table that the stored cases accept, of both kinds."""
-        accepted = {(op, table) for op, table, is_accepted in samples.stored_reads() if is_accepted}
-        self.assertGreater(len(accepted), 500)
-        self.assertEqual({op for op, _ in accepted}, {1, 2})
-        for _, table in accepted:
+        """Every table of the stored cases that is accepted, of both kinds, copies among them."""
+        counts = {t.CONCURRENT: 0, t.SEQUENTIAL: 0}
+        for kind, table in accepted_tables():
+            counts[kind] += 1
             self.check_table(table)
+        self.assertGreater(min(counts.values()), 500, counts)
+
+
+LOOSE_TEXT = """\
+concurrent
+thread b   // before what it names
+procedure b()
+  locals v
+  locals w, u
+  v := ((1) + (2))
+  w := -007
+  u := -(007)
+  if (not (v = 3)) and true
+    w := 0
+  else
+  end
+  call a(1, (cell))
+end
+procedure a(x, y)
+end
+location cell[07]
+thread b
+"""
+
+
+class Held(unittest.TestCase):
+    """A text is taken or given only if it and its table give each other."""
+
+    def test_loose_texts(self) -> None:
+        for text in (LOOSE_TEXT, samples.B_TEXT, "sequential\nprocedure p()\nend\n"):
+            program, names = assemble(text)
+            self.assertEqual(table_of(text), (t.encode(program), names))
+            self.assertEqual(table_of(text_of(t.encode(program), names)), (t.encode(program), names))
+
+    def check(self, name: str, wrong: object, message: str, text: str = LOOSE_TEXT) -> None:
+        """With this wrong function a text is not taken."""
+        with mock.patch(name, wrong), self.assertRaisesRegex(Fault, f"^a fault of zaru: {message}"):
+            table_of(text)
+
+    def test_operands_in_the_wrong_order(self) -> None:
+        def chain(self: Expressions, signs: Dict[str, int], operand: Callable, nesting: int) -> t.Expression:
+            left = operand(nesting)
+            while self.parser.token.text in signs:
+                mark = signs[self.parser.take().text]
+                left = t.Operation(mark, (operand(nesting), left))
+            return left
+
+        self.check("zaru.asm.Expressions.chain", chain, "the text that it shows is read as another program")
+
+    def test_a_wrong_number(self) -> None:
+        def literal(token: Token, sign: int) -> t.Number:
+            return t.Number(sign * int(token.text) % 5)
+
+        self.check("zaru.asm.literal", literal, "the program that was read is shown with other words")
+
+    def test_an_else_that_is_lost(self) -> None:
+        def if_else(self: Parser, inner: Scope) -> t.Instruction:
+            right = PARSERS_IF_ELSE(self, inner)
+            assert isinstance(right, t.If)
+            return t.If(right.test, right.then, ())
+
+        text = LOOSE_TEXT.replace("  else\n", "  else\n    w := 1\n")
+        self.check("zaru.asm.Parser.if_else", if_else, "the program that was read is shown with other words", text)
+
+    def test_a_thread_that_is_lost(self) -> None:
+        def encode(program: t.Program) -> bytes:
+            return t.encode(replace(program, mains=program.mains[:1]))
+
+        self.check("zaru.text.encode", encode, "the program that was read is shown with other words")
+
+    def test_a_wrong_sign_shown(self) -> None:
+        wrong = {**TWO_OPERANDS, t.ADD: TWO_OPERANDS[t.SUBTRACT]}
+        self.check("zaru.show.TWO_OPERANDS", wrong, "the text that it shows is read as another program")
+
+    def test_parentheses_that_are_not_shown(self) -> None:
+        wrong = {**TWO_OPERANDS, t.MULTIPLY: Operator("*", 5, 4, 6)}
+        text = LOOSE_TEXT.replace("((1) + (2))", "(1 + 2) * 3")
+        self.check("zaru.show.TWO_OPERANDS", wrong, "the text that it shows is read as another program", text)
+
+    def test_wrong_names(self) -> None:
+        program, names = assemble(LOOSE_TEXT)
+        rows = names.local_names
+        for other, message in (
+            (replace(names, procedures=("b", "b")), "cannot be read: a second procedure is called `b`"),
+            (replace(names, procedures=("b", "b c")), "cannot be read"),
+            (replace(names, locations=("v",)), "cannot be read: `v` is a location"),
+            (replace(names, locations=()), "more or fewer names"),
+            (replace(names, local_names=(rows[1], rows[0])), "more or fewer names"),
+            (replace(names, procedures=("b", "a()//")), "read as another program"),
+        ):
+            with self.assertRaisesRegex(Fault, message):
+                text_of(t.encode(program), other)
 
 
 class Look(unittest.TestCase):
