@@ -1,4 +1,4 @@
-"""Labels: which instruction of an accepted concurrent program each one is, and where tests lead.
+"""Labels: which instruction of an accepted concurrent program each one is, and which labels follow it.
 
 "Procedures in order; in each, instructions in textual order, those inside an atomic block having none, then one end
 label. Count from 1".
@@ -18,6 +18,8 @@ class Spot:
 
     procedure: int
     instruction: Optional[Instruction]
+    # The label that comes after; of a call, after its return.
+    after: int = 0
     # For a test: the labels that follow a true and a false one.
     if_true: int = 0
     if_false: int = 0
@@ -72,14 +74,14 @@ class Walk:
     def instruction(self, instruction: Instruction, label: int, after: int) -> None:
         if isinstance(instruction, While):
             inside = label + 1 if instruction.body else label
-            self.found.append(Spot(self.procedure, instruction, inside, after))
+            self.found.append(Spot(self.procedure, instruction, after, inside, after))
             self.block(instruction.body, label)
         elif isinstance(instruction, If):
             otherwise = label + 1 + of_block(instruction.then)
             if_true = label + 1 if instruction.then else after
             if_false = otherwise if instruction.otherwise else after
-            self.found.append(Spot(self.procedure, instruction, if_true, if_false))
+            self.found.append(Spot(self.procedure, instruction, after, if_true, if_false))
             self.block(instruction.then, after)
             self.block(instruction.otherwise, after)
         else:
-            self.found.append(Spot(self.procedure, instruction))
+            self.found.append(Spot(self.procedure, instruction, after))

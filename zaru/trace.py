@@ -1,8 +1,9 @@
-"""A run, step by step, out of proved answers alone.
+"""A run, step by step, out of proved answers.
 
 The state before and after each step is the copy's memory at its loop head, which holds the label and the locals of
 each thread (document 01, "The translation"): for each prefix of the order the copy is run once. The events of a step
-are those that the program's run with one entry more has more.
+are those that the program's run with one entry more has more. Which instruction a label is, and where the copy keeps
+what, is worked out here and is not proved: `follow` holds it against those answers before anything is told.
 """
 
 from __future__ import annotations
@@ -13,41 +14,17 @@ from typing import List, Sequence, Tuple
 from zaru import engine
 from zaru import table as t
 from zaru.engine import Request, Run
+from zaru.follow import Follower
 from zaru.labels import Spot, spots
 from zaru.names import Names
 from zaru.show import Shower
-from zaru.values import Event, events_of, split_cells, value_text
+from zaru.state import State, state_of
+from zaru.values import Event, events_of, value_text
 
 BUDGET = 140_000_000
 LONGEST_ORDER = 512
 # The widest instruction that is printed whole.
 WIDEST = 40
-
-
-@dataclass(frozen=True)
-class State:
-    """What the copy's cells say at its loop head."""
-
-    # The label of each thread; 0 is a finished one.
-    labels: Tuple[int, ...]
-    # For each procedure and each of its locals: its value for each thread.
-    local_values: Tuple[Tuple[Tuple[bytes, ...], ...], ...]
-
-
-def state_of(program: t.Program, cells: bytes) -> State:
-    """The copy's locations: the source's, ptid (size 1), pct, a `from` for each procedure, then the locals."""
-    threads = len(program.mains)
-    local_count = sum(procedure.local_count for procedure in program.procedures)
-    sizes = list(program.sizes) + [1] + [threads] * (1 + len(program.procedures) + local_count)
-    rows = split_cells(cells, sizes)
-    pct = len(program.sizes) + 1
-    labels = tuple(int.from_bytes(cell[1:5], "little") for cell in rows[pct])
-    at = pct + 1 + len(program.procedures)
-    local_values = []
-    for procedure in program.procedures:
-        local_values.append(tuple(tuple(row) for row in rows[at : at + procedure.local_count]))
-        at += procedure.local_count
-    return State(labels, tuple(local_values))
 
 
 @dataclass(frozen=True)
@@ -81,14 +58,14 @@ class Teller:
     """Tells the steps of a run in words."""
 
     def __init__(self, program: t.Program, names: Names, steps: Steps, schedule: bytes) -> None:
-        self.program = program
         self.names = names
-        self.spots = spots(program)
         self.steps = steps
         self.schedule = schedule
         self.events = events_of(steps.run.event_bytes)
+        self.follower = Follower(program, spots(program))
 
     def lines(self) -> List[str]:
+        self.follower.hold(self.steps.states[0])
         rows = [self.row(number) for number in range(self.steps.run.steps)]
         width = max([len(row[3]) for row in rows] + [len("instruction")])
         heading = [f"step  thread  label  {'instruction':<{width}}  what it did"] if rows else []
@@ -99,13 +76,18 @@ class Teller:
         return heading + lines + [self.ending()]
 
     def row(self, number: int) -> Tuple[int, int, int, str, str]:
-        """The step from state `number` to the next."""
+        """The step from state `number` to the next; the rows before it have been told."""
         before, after = self.steps.states[number], self.steps.states[number + 1]
         thread = self.schedule[number]
-        label = before.labels[thread]
-        spot = self.spots[label - 1]
+        label, spot = self.follower.labels[thread], self.follower.spot(thread)
+        events, missing = self.step_events(number)
+        if missing == 0:
+            self.follower.hold_events(thread, before, after, events)
+        self.follower.go_on(thread, after)
         did = self.locals_set(spot, before, after, thread) + self.went(spot, after.labels[thread])
-        return number + 1, thread, label, cut(self.text(spot)), "; ".join(did + self.step_events(number))
+        did += [event.text(self.names.locations) for event in events]
+        did += [f"{missing} more events"] if missing else []
+        return number + 1, thread, label, cut(self.text(spot)), "; ".join(did)
 
     def text(self, spot: Spot) -> str:
         if spot.instruction is None:
@@ -143,12 +125,11 @@ class Teller:
             return [f"back to label {label}" if label else "thread finished"]
         return []
 
-    def step_events(self, number: int) -> List[str]:
+    def step_events(self, number: int) -> Tuple[Sequence[Event], int]:
+        """The events of a step, and how many more of them were only counted."""
         first, last = self.steps.event_counts[number], self.steps.event_counts[number + 1]
-        shown: Sequence[Event] = self.events[first:last]
-        missing = last - first - len(shown)
-        rest = [f"{missing} more events"] if missing else []
-        return [event.text(self.names.locations) for event in shown] + rest
+        written = self.events[first:last]
+        return written, last - first - len(written)
 
     def ending(self) -> str:
         run = self.steps.run
@@ -161,10 +142,10 @@ class Teller:
         return f"blocked {count}, {plural(run.unused, 'entry', 'entries')} unused: {self.blocked_at(thread)}"
 
     def blocked_at(self, thread: int) -> str:
-        label = self.steps.states[-1].labels[thread]
+        label = self.follower.labels[thread]
         if label == 0:
             return f"thread {thread} is finished"
-        return f"thread {thread} at label {label}, {self.text(self.spots[label - 1])}"
+        return f"thread {thread} at label {label}, {self.text(self.follower.spot(thread))}"
 
 
 def cut(text: str) -> str:

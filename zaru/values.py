@@ -21,6 +21,11 @@ def value_text(five: bytes, locations: Sequence[str]) -> str:
     return "false" if five[0] == FALSE else "true"
 
 
+def location_bytes(number: int) -> bytes:
+    """The 5 bytes of a location as a value."""
+    return bytes([LOCATION]) + number.to_bytes(2, "little") + bytes(2)
+
+
 def split_cells(cells: bytes, sizes: Sequence[int]) -> List[List[bytes]]:
     """The cells of each location."""
     found, at = [], 0

@@ -5,14 +5,12 @@ from __future__ import annotations
 import sys
 import unittest
 from pathlib import Path
-from typing import Iterator, Tuple
 
 ROOT = Path(__file__).resolve().parent.parent.parent
 if str(ROOT) not in sys.path:
     sys.path.insert(0, str(ROOT))
 
 from zaru import engine  # noqa: E402
-from zaru.stored import stored_cases  # noqa: E402
 
 A = bytes.fromhex("00 000000000000 0000 4350 0100 0000 0100 08000000 19000000")
 B = bytes.fromhex(
@@ -41,10 +39,3 @@ if MISSING:
 def needs_engine(test: type) -> type:
     """Tests that ask the proved program are skipped where it is not there."""
     return unittest.skipIf(MISSING, "the proved program is missing")(test)
-
-
-def stored_reads() -> Iterator[Tuple[int, bytes, bool]]:
-    """The stored cases of the two reads: the call, its table, and whether it is accepted."""
-    for request, line in stored_cases():
-        if request.op in (engine.READ_CONCURRENT, engine.READ_SEQUENTIAL):
-            yield request.op, request.table, line.split()[1] == "0"

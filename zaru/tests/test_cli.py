@@ -16,6 +16,7 @@ import samples
 from zaru import cli
 from zaru import engine as engine_module
 from zaru import table as t
+from zaru.labels import spots
 from zaru.refusals import REFUSALS
 from zaru.show import show
 from zaru.stored import accepted_tables
@@ -171,6 +172,15 @@ class Faults(Command):
         with mock.patch("zaru.text.show", lambda program, names: show(program, names).replace(" := x", " = x")):
             self.check(message, "show", "c", "b.table")
             self.check(message, "translate", "b.table", "-o", "new.zaru")
+
+    @samples.needs_engine
+    def test_wrong_labels(self) -> None:
+        told = "a fault of zaru, nothing of this trace is told: after 0 steps"
+        with mock.patch("zaru.follow.first_labels", lambda program: (2,)):
+            message = f"{told} thread 0 is at label 2 by the text and at 1 by the copy's memory"
+            self.check(message, "trace", "b.zaru", "0", "0")
+        with mock.patch("zaru.trace.spots", lambda program: spots(program)[1:]):
+            self.check(f"{told} the next step has events that do not fit label 1", "trace", "b.zaru", "0", "0")
 
 
 class WithoutEngine(Command):

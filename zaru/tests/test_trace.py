@@ -1,15 +1,20 @@
 """Traces: the lines of small runs, and the events and labels of longer ones against the program's own run."""
 
 import unittest
+from dataclasses import replace
+from typing import Callable, Dict, List
+from unittest import mock
 
 import samples
 from zaru import engine
 from zaru import table as t
 from zaru.asm import assemble
-from zaru.labels import first_labels, spots
+from zaru.fault import Fault
+from zaru.labels import Spot, first_labels, spots
 from zaru.names import Names, plain_names
-from zaru.trace import Steps, cut, steps_of, trace
-from zaru.values import events_of
+from zaru.state import State, state_of
+from zaru.stored import accepted_tables
+from zaru.trace import cut, steps_of, trace
 
 
 def told(text: str, order: str) -> list:
@@ -29,6 +34,7 @@ class Labels(unittest.TestCase):
         found = [(spot.if_true, spot.if_false) for spot in spots(program)]
         # 1 v := 0; 2 while; 3 if; 4 v := 1; 5 while true; 6 v := 2; 7 end
         self.assertEqual(found, [(0, 0), (3, 6), (5, 4), (0, 0), (5, 2), (0, 0), (0, 0)])
+        self.assertEqual([spot.after for spot in spots(program)], [2, 6, 5, 5, 2, 7, 0])
         self.assertIsNone(spots(program)[6].instruction)
 
     def test_first_labels(self) -> None:
@@ -96,8 +102,8 @@ class Traces(unittest.TestCase):
         self.assertTrue(lines[-2].endswith("20 more events") or lines[-3].endswith("20 more events"), lines[-3:])
 
     def test_stored_programs(self) -> None:
-        """Labels and events of random programs: each line's label is one, and all events of the run are told."""
-        tables = [table for op, table, is_accepted in samples.stored_reads() if is_accepted and op == 1]
+        """Random programs: each thread begins at its first label, all are finished at the end, all events are told."""
+        tables = [table for kind, table in accepted_tables() if kind == t.CONCURRENT]
         for table in tables[::10]:
             program = t.decode(table)
             self.check_run(program, plain_names(program), table)
@@ -114,35 +120,99 @@ class Traces(unittest.TestCase):
         self.assertEqual(len(steps.states), steps.run.steps + 1)
         self.assertEqual(steps.event_counts[-1], steps.run.events)
         self.assertEqual(steps.run.end == "finished", not any(steps.states[-1].labels))
-        for number in range(steps.run.steps):
-            self.check_step(program, steps, number, schedule[number])
         lines = trace(program, names, table, schedule)
         self.assertEqual(sum(line.count("read m") + line.count("write m") for line in lines), steps.run.events)
 
-    def check_step(self, program: t.Program, steps: Steps, number: int, thread: int) -> None:
-        """What the copy's memory says of a step agrees with the program's text and its events."""
-        before, after = steps.states[number], steps.states[number + 1]
-        spot = spots(program)[before.labels[thread] - 1]
-        label, instruction = after.labels[thread], spot.instruction
-        events = events_of(steps.run.event_bytes)[steps.event_counts[number] : steps.event_counts[number + 1]]
-        if isinstance(instruction, (t.While, t.If)):
-            self.assertIn(label, (spot.if_true, spot.if_false))
-        elif isinstance(instruction, t.Call):
-            self.assertEqual(label, first_labels(program)[instruction.procedure])
-        elif isinstance(instruction, t.Read):
-            [event] = events
-            self.assertFalse(event.is_write)
-            self.assertEqual(after.local_values[spot.procedure][instruction.target][thread], event.value)
-        elif isinstance(instruction, t.Write):
-            [event] = events
-            self.assertTrue(event.is_write)
-            pointer = before.local_values[spot.procedure][instruction.pointer][thread]
-            self.assertEqual(pointer[:3], bytes([2]) + event.location.to_bytes(2, "little"))
-        else:
-            self.assertTrue(not events or isinstance(instruction, t.Atomic))
-        self.assertTrue(all(event.thread == thread for event in events))
-        others = [place for place in range(len(before.labels)) if place != thread]
-        self.assertEqual([before.labels[place] for place in others], [after.labels[place] for place in others])
+
+def rotated(program: t.Program) -> List[Spot]:
+    """Each label is what the next one is."""
+    found = spots(program)
+    return found[1:] + found[:1]
+
+
+def past_the_loop(program: t.Program) -> List[Spot]:
+    """The end of a loop body leads past the loop."""
+    found = spots(program)
+    loops = {label: spot.after for label, spot in enumerate(found, 1) if isinstance(spot.instruction, t.While)}
+    return [
+        replace(spot, after=loops[spot.after]) if spot.after in loops and spot.after < label else spot
+        for label, spot in enumerate(found, 1)
+    ]
+
+
+def one_way(program: t.Program) -> List[Spot]:
+    """A test that is true leads where a false one does."""
+    return [replace(spot, if_true=spot.if_false, if_false=spot.if_false) for spot in spots(program)]
+
+
+def swapped_accesses(program: t.Program) -> List[Spot]:
+    """A write where the program reads, and the other way round."""
+    found = spots(program)
+    places = [place for place, spot in enumerate(found) if isinstance(spot.instruction, (t.Read, t.Write))]
+    first, second = places[:2]
+    one, other = found[first], found[second]
+    found[first] = replace(one, instruction=other.instruction)
+    found[second] = replace(other, instruction=one.instruction)
+    return found
+
+
+def too_few(program: t.Program) -> List[Spot]:
+    return spots(program)[:2]
+
+
+WRONG_SPOTS: Dict[Callable[[t.Program], List[Spot]], str] = {
+    rotated: "after 1 steps thread 0 is at label 3 by the text and at 2 by the copy's memory",
+    past_the_loop: "after 6 steps thread 0 is at label 7 by the text and at 3 by the copy's memory",
+    one_way: "after 3 steps thread 0 is at label 7 by the text and at 4 by the copy's memory",
+    swapped_accesses: "after 3 steps the next step has events that do not fit label 4",
+    too_few: "after 2 steps thread 0 is at label 3; the text has 2",
+}
+
+
+@samples.needs_engine
+class WrongLabels(unittest.TestCase):
+    """A trace whose labels are not those of the proved run is not told."""
+
+    text = body("p := m", "v := 0", "while v < 2", "v := p[0]", "p[0] := v + 1", "v := v + 1", "end")
+
+    def check(self, name: str, wrong: Callable, message: str) -> None:
+        with mock.patch(name, wrong), self.assertRaises(Fault) as caught:
+            told(self.text, "0" * 20)
+        self.assertEqual(str(caught.exception), f"a fault of zaru, nothing of this trace is told: {message}")
+
+    def test_right_labels(self) -> None:
+        self.assertEqual(told(self.text, "0" * 20)[-1], "finished after 12 steps, 8 entries unused")
+
+    def test_wrong_labels(self) -> None:
+        for wrong, message in WRONG_SPOTS.items():
+            with self.subTest(wrong.__name__):
+                self.check("zaru.trace.spots", wrong, message)
+
+    def test_a_wrong_first_label(self) -> None:
+        message = "after 0 steps thread 0 is at label 2 by the text and at 1 by the copy's memory"
+        self.check("zaru.follow.first_labels", lambda program: (2,), message)
+
+    def test_locals_in_the_wrong_place(self) -> None:
+        """The copy keeps the locals one location further on than is thought."""
+
+        def shifted(program: t.Program, cells: bytes) -> State:
+            state = state_of(program, cells)
+            return replace(state, local_values=tuple(rows[1:] + rows[:1] for rows in state.local_values))
+
+        self.check("zaru.trace.state_of", shifted, "after 3 steps the next step has events that do not fit label 4")
+
+    def test_a_wrong_return(self) -> None:
+        """A call that returns to itself."""
+
+        def to_itself(program: t.Program) -> List[Spot]:
+            return [
+                replace(spot, after=label) if isinstance(spot.instruction, t.Call) else spot
+                for label, spot in enumerate(spots(program), 1)
+            ]
+
+        text = "concurrent\nprocedure a()\ncall b()\nend\nprocedure b()\nend\nthread a\n"
+        with mock.patch("zaru.trace.spots", to_itself), self.assertRaisesRegex(Fault, "at label 1 by .* at 2 by"):
+            told(text, "000")
 
 
 if __name__ == "__main__":
