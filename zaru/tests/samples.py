@@ -1,10 +1,13 @@
-"""Tables for the tests, and the proved program where it is there."""
+"""Tables for the tests, the proved program where it is there, and the scripts of tools/."""
 
 from __future__ import annotations
 
+import importlib.util
 import sys
 import unittest
+from importlib.machinery import SourceFileLoader
 from pathlib import Path
+from types import ModuleType
 
 ROOT = Path(__file__).resolve().parent.parent.parent
 if str(ROOT) not in sys.path:
@@ -39,3 +42,14 @@ if MISSING:
 def needs_engine(test: type) -> type:
     """Tests that ask the proved program are skipped where it is not there."""
     return unittest.skipIf(MISSING, "the proved program is missing")(test)
+
+
+def load_tool(name: str) -> ModuleType:
+    """A script of tools/ as a module."""
+    loader = SourceFileLoader(name.replace("-", "_"), str(ROOT / "tools" / name))
+    spec = importlib.util.spec_from_loader(loader.name, loader)
+    assert spec is not None
+    module = importlib.util.module_from_spec(spec)
+    sys.modules[loader.name] = module
+    loader.exec_module(module)
+    return module

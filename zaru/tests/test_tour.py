@@ -1,31 +1,15 @@
 """The checker of pasted commands."""
 
 import contextlib
-import importlib.util
 import io
-import sys
 import tempfile
 import unittest
-from importlib.machinery import SourceFileLoader
 from pathlib import Path
-from types import ModuleType
 from typing import Tuple
 
 import samples
 
-
-def load_checker() -> ModuleType:
-    """tools/check-tour as a module."""
-    loader = SourceFileLoader("check_tour", str(samples.ROOT / "tools" / "check-tour"))
-    spec = importlib.util.spec_from_loader(loader.name, loader)
-    assert spec is not None
-    module = importlib.util.module_from_spec(spec)
-    sys.modules[loader.name] = module
-    loader.exec_module(module)
-    return module
-
-
-TOUR = load_checker()
+TOUR = samples.load_tool("check-tour")
 
 GOOD = """\
 # Title
