@@ -1,5 +1,6 @@
-/* Zarukohen for C: read, translate and run tables. The calls are proved: none traps or runs without end, whatever the bytes, and each
- * determines every number of its answer and every byte of the lent buffers. docs/CONTRACTS.md says in words what each promises.
+/* Zarukohen for C: read, translate and run tables. The calls are proved: on a stack that is large enough (below) none traps or runs
+ * without end, whatever the bytes, and each determines every number of its answer and every byte of the lent buffers. docs/CONTRACTS.md
+ * says in words what each promises.
  *
  * A buffer is a pointer and its length. Pointers must be valid for their lengths; a buffer of length 0 needs a non-null pointer. Lent
  * buffers must not overlap each other or the inputs. The numbers of an answer go into `answer`, each where the array has a place for it.
@@ -24,6 +25,14 @@ enum { ZARU_READ_NUMBERS = 6, ZARU_TRANSLATE_NUMBERS = 2, ZARU_RUN_NUMBERS = 5 }
 /* The most steps that a translated program's copy may need, and the longest copy. */
 #define ZARU_BUDGET UINT64_C(140000000)
 #define ZARU_LONGEST_COPY 65536
+
+/* The bytes of stack that each call needs, measured and not proved: lib/stored.c makes each call on a thread that has exactly so many, on
+ * every stored case, the deepest programs among them, and at least 8 KB are left. On a smaller stack the process ends by a fault in the
+ * guard page: frames are touched page by page. The main thread has enough as a rule; another gets it by pthread_attr_setstacksize. */
+#define ZARU_STACK_READ (32 * 1024)
+#define ZARU_STACK_TRANSLATE (48 * 1024)
+#define ZARU_STACK_RUN_CONCURRENT (432 * 1024)
+#define ZARU_STACK_RUN_SEQUENTIAL (352 * 1024)
 
 /* answer: number, procedures, locations, threads, labels (sequential: 0), cells. */
 void zaru_read_concurrent(const uint8_t *table, size_t table_length, uint64_t *answer, size_t answer_length);
