@@ -10,6 +10,7 @@ from pathlib import Path
 from typing import Callable, Dict, List, Optional, Sequence, Tuple
 
 from zaru import arguments, asm, engine, refusals
+from zaru.accepted import READ_OPS, accepted_program
 from zaru.arguments import UsageError, Words
 from zaru.copy_names import copy_names
 from zaru.engine import Request
@@ -22,7 +23,6 @@ from zaru.values import cell_lines
 
 DONE, REFUSED, WRONG_USE, NO_ENGINE, FAULT = 0, 1, 2, 3, 4
 TEXT_ENDING = ".zaru"
-READ_OPS = {CONCURRENT: engine.READ_CONCURRENT, SEQUENTIAL: engine.READ_SEQUENTIAL}
 KIND_LETTERS = {"c": CONCURRENT, "s": SEQUENTIAL}
 MOST_IN_FOUR_BYTES = 2**32 - 1
 MOST_IN_EIGHT_BYTES = 2**64 - 1
@@ -119,12 +119,6 @@ def fitting(name: str, table: bytes) -> bytes:
     return table
 
 
-def accepted_program(kind: str, table: bytes) -> Program:
-    """The program of a table once the proved reader has accepted it."""
-    engine.read(READ_OPS[kind], table)
-    return decode(table)
-
-
 # ---- arguments ----
 
 
@@ -176,9 +170,9 @@ def command_translate(words: Words) -> List[str]:
 
 
 def copy_text(source: Source, copy: bytes) -> str:
-    """A copy as text, named after its source; both tables have been accepted."""
-    program = decode(source.table)
-    engine.read(engine.READ_SEQUENTIAL, copy)
+    """A copy as text, named after its source."""
+    program = accepted_program(CONCURRENT, source.table)
+    accepted_program(SEQUENTIAL, copy)
     return text_of(copy, copy_names(program, source.names_for(program)))
 
 
@@ -221,7 +215,7 @@ def command_asm(words: Words) -> List[str]:
     if output.endswith(TEXT_ENDING):
         raise UsageError(f"a file that ends in {TEXT_ENDING} is a text; give the table another name")
     table = assembled(name).table
-    engine.read(READ_OPS[decode(table).kind], table)
+    accepted_program(decode(table).kind, table)
     write_file(output, table)
     return [] if output == "-" else [f"{output}: {len(table):,} bytes"]
 

@@ -8,8 +8,9 @@ import subprocess
 import sys
 import tempfile
 import unittest
+from dataclasses import replace
 from pathlib import Path
-from typing import List, NamedTuple, Optional
+from typing import Dict, List, NamedTuple, Optional
 from unittest import mock
 
 import samples
@@ -172,6 +173,18 @@ class Faults(Command):
         with mock.patch("zaru.text.show", lambda program, names: show(program, names).replace(" := x", " = x")):
             self.check(message, "show", "c", "b.table")
             self.check(message, "translate", "b.table", "-o", "new.zaru")
+
+    @samples.needs_engine
+    def test_a_table_that_is_taken_apart_wrongly(self) -> None:
+        message = "a fault of zaru: it takes the table apart otherwise than the proved reader"
+        wrongs: Dict[str, object] = {
+            "zaru.accepted.decode": lambda table: replace(t.decode(table), sizes=(2,)),
+            "zaru.accepted.spots": lambda program: spots(program)[1:],
+        }
+        for name, wrong in wrongs.items():
+            with mock.patch(name, wrong):
+                for command in ("run b.table 0", "trace b.table 0", "show c b.table", "translate b.table -o new.zaru"):
+                    self.check(message, *command.split())
 
     @samples.needs_engine
     def test_wrong_labels(self) -> None:
