@@ -6,7 +6,7 @@ from dataclasses import dataclass
 from typing import Tuple
 
 from zaru import table as t
-from zaru.values import split_cells
+from zaru.values import NUMBER, split_cells
 
 
 @dataclass(frozen=True)
@@ -27,10 +27,15 @@ def state_of(program: t.Program, cells: bytes) -> State:
     sizes = list(program.sizes) + [1] + [threads] * (1 + len(program.procedures) + local_count)
     rows = split_cells(cells, sizes)
     pct = len(program.sizes) + 1
-    labels = tuple(int.from_bytes(cell[1:5], "little") for cell in rows[pct])
+    labels = tuple(label_of(cell) for cell in rows[pct])
     at = pct + 1 + len(program.procedures)
     local_values = []
     for procedure in program.procedures:
         local_values.append(tuple(tuple(row) for row in rows[at : at + procedure.local_count]))
         at += procedure.local_count
     return State(labels, tuple(local_values))
+
+
+def label_of(cell: bytes) -> int:
+    """The number in a cell; -1, which is no label, if it holds something else."""
+    return int.from_bytes(cell[1:5], "little") if cell[0] == NUMBER else -1

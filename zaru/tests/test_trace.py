@@ -12,7 +12,7 @@ from zaru.asm import assemble
 from zaru.fault import Fault
 from zaru.labels import Spot, first_labels, spots
 from zaru.names import Names, plain_names
-from zaru.state import State, state_of
+from zaru.state import State, label_of, state_of
 from zaru.stored import accepted_tables
 from zaru.trace import cut, steps_of, trace
 
@@ -200,6 +200,16 @@ class WrongLabels(unittest.TestCase):
             return replace(state, local_values=tuple(rows[1:] + rows[:1] for rows in state.local_values))
 
         self.check("zaru.trace.state_of", shifted, "after 3 steps the next step has events that do not fit label 4")
+
+    def test_labels_in_the_wrong_place(self) -> None:
+        """The location behind `pct` is taken for it."""
+
+        def moved(program: t.Program, cells: bytes) -> State:
+            return state_of(replace(program, sizes=(*program.sizes, 1)), cells + bytes(5))
+
+        message = "after 0 steps thread 0 is at label 1 by the text and at 0 by the copy's memory"
+        self.check("zaru.trace.state_of", moved, message)
+        self.assertEqual([label_of(bytes([kind, 2, 0, 0, 0])) for kind in (1, 2, 3)], [2, -1, -1])
 
     def test_a_wrong_return(self) -> None:
         """A call that returns to itself."""
