@@ -26,12 +26,13 @@ cases: second
 zaru: kit
 	@tools/prove cases
 
-# the command line: its own tests, and the pasted output of the documents; the run program on all its stored inputs
-use: zaru
+# the command line: its own tests; the documents: what they name and what they paste; the run program on all its stored inputs
+use: kit
 	@tools/need python3 python3
+	@tools/prove cases run
 	python3 -m unittest discover --quiet --start-directory zaru/tests
-	tools/check-tour README.md examples/README.md
-	rt check run
+	tools/check-tour README.md examples/README.md docs/READING.md
+	tools/check-docs --edits README.md docs/*.md
 	tools/check-run
 
 # target/staticlib/libzaru.a for C programs (header: lib/zaru.h), and its test
