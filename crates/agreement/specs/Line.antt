@@ -7,6 +7,9 @@ use lib.Dec.{ltb, eqb}
 use Rattle.value.specs.Maybe.{pick}
 use Rattle.value.specs.Lists.{over}
 use Rattle.value.specs.Values.{unbytes}
+use Rattle.format.specs.Rules.{limits}
+use Rattle.format.specs.Syntax.{concurrent}
+use Rattle.semantics.specs.Calls.{maxEntries}
 use Rattle.agreement.specs.declared.Figures.{Figures}
 use Rattle.agreement.specs.Figures.{refusal, figuresCall}
 
@@ -80,9 +83,9 @@ scheduleOf input = take (unbytes (take 2 input)) (drop 2 input)
 abbrev pub tableOf : List ℕ → List ℕ
 tableOf input = drop (unbytes (take 2 input)) (drop 2 input)
 
--- "an input over 20,482 bytes is answered 2"
+-- "an input over 20,482 bytes is answered 2": the schedule's length, the longest schedule, the longest table
 abbrev pub maxInput : ℕ
-maxInput = 20482
+maxInput = 2 + maxEntries + limits concurrent .bytes
 
 -- the figures of an input
 unfoldable pub told : List ℕ → Figures

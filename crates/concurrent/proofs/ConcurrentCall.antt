@@ -10,7 +10,7 @@ use lib.Dec.{ltb, leb}
 use borrow.Author.Tests.{ltb-true, ltb-false, lt-ltb, le-ltb, le-leb, lt-leb, leb-true}
 use Rattle.value.specs.Maybe.{is, both}
 use Rattle.value.specs.Lists.{at, all, sum, over}
-use Rattle.value.specs.Values.{bytes, numberAt}
+use Rattle.value.specs.Values.{bytes, numberAt, cellSize}
 use Rattle.value.specs.Laws.Tests.{by-test, both-passed, never}
 use Rattle.value.specs.Laws.Lists.{Each, each-so, each-at, at-below, at-getD, all-passed}
 use Rattle.value.specs.Laws.Bytes.{Bytes, number-at}
@@ -35,7 +35,7 @@ use Rattle.semantics.specs.declared.RunAnswer.{RunAnswer}
 use Rattle.concurrent.specs.declared.machine.Ran.{Ran}
 use Rattle.semantics.specs.Memory.{Memory}
 use Rattle.semantics.specs.Threads as P
-use Rattle.semantics.specs.Buffers.{cellSize, cells}
+use Rattle.semantics.specs.Buffers.{cells}
 use Rattle.semantics.specs.Calls.{Outcome, refusal, untouched, maxEntries, scheduled, roomy, runAs, concurrentOutcome, concurrentCall, result}
 use Rattle.engine.specs.Work.{localWords, cellWords, flat, Bases, sizesAt, Starts, Writes}
 use Rattle.concurrent.specs.Concurrent.{scheduledBelow, SaysScheduled, Entries, MainsAt, Begins, Starting, RanAs, Runs, Accepted, Outcomes}

@@ -7,7 +7,7 @@ use lib.ListN.{length, getD}
 use lib.Dec.{ltb, leb}
 use Rattle.value.specs.Maybe.{both}
 use Rattle.value.specs.Lists.{all, sum}
-use Rattle.value.specs.Values.{numberAt}
+use Rattle.value.specs.Values.{numberAt, cellSize}
 use Rattle.format.specs.Syntax.{Program, Plain, concurrent}
 use Rattle.format.specs.Encode.{table}
 use Rattle.format.specs.Labels.{labelled}
@@ -18,7 +18,6 @@ use Rattle.concurrent.specs.declared.machine.Ran.{Ran}
 use Rattle.semantics.specs.Memory.{fresh, Event}
 use Rattle.semantics.specs.Threads.{End}
 use Rattle.semantics.specs.Threads as P
-use Rattle.semantics.specs.Buffers.{cellSize}
 use Rattle.semantics.specs.Calls.{endNumber, maxEntries, Outcome, concurrentRun, concurrentOutcome}
 use Rattle.engine.specs.Work.{localWords, Holds}
 use Rattle.engine.specs.Events.{Logged}

@@ -41,6 +41,10 @@ marked inner (oneMark o) bs = inner bs >>= λ (a, r). is (one o a, r)
 marked inner (twoMark o) bs = inner bs >>= λ (a, r). inner r >>= λ (b, q). is (two o a b, q)
 marked inner noExpr bs = nothing
 
+-- "An expression nests at most 16 deep"
+abbrev pub maxDepth : ℕ
+maxDepth = 16
+
 -- an expression at most d deep
 abbrev pub expr : ℕ → List ℕ → Read Expr
 expr zero bs = nothing
@@ -57,12 +61,12 @@ forms = replicate 0x20 noForm ++ (assignForm ∷ writeForm ∷ readForm ∷ whil
 
 -- what follows an instruction byte, where `inner` reads a block inside
 abbrev pub formed : (List ℕ → Read (Block Plain)) → Form → List ℕ → Read (Instr Plain)
-formed inner assignForm bs = byte bs >>= λ (x, r). expr 16 r >>= λ (e, r). is (assign x e, r)
-formed inner writeForm bs = byte bs >>= λ (y, r). expr 16 r >>= λ (o, r). expr 16 r >>= λ (e, r). is (write y o e, r)
-formed inner readForm bs = byte bs >>= λ (x, r). byte r >>= λ (y, r). expr 16 r >>= λ (o, r). is (read x y o, r)
-formed inner whileForm bs = expr 16 bs >>= λ (e, r). inner r >>= λ (b, r). is (while e b, r)
-formed inner ifForm bs = expr 16 bs >>= λ (e, r). inner r >>= λ (b, r). inner r >>= λ (c, r). is (if e b c, r)
-formed inner callForm bs = number 2 bs >>= λ (m, r). byte r >>= λ (n, r). times (expr 16) n r >>= λ (es, r). is (call m es, r)
+formed inner assignForm bs = byte bs >>= λ (x, r). expr maxDepth r >>= λ (e, r). is (assign x e, r)
+formed inner writeForm bs = byte bs >>= λ (y, r). expr maxDepth r >>= λ (o, r). expr maxDepth r >>= λ (e, r). is (write y o e, r)
+formed inner readForm bs = byte bs >>= λ (x, r). byte r >>= λ (y, r). expr maxDepth r >>= λ (o, r). is (read x y o, r)
+formed inner whileForm bs = expr maxDepth bs >>= λ (e, r). inner r >>= λ (b, r). is (while e b, r)
+formed inner ifForm bs = expr maxDepth bs >>= λ (e, r). inner r >>= λ (b, r). inner r >>= λ (c, r). is (if e b c, r)
+formed inner callForm bs = number 2 bs >>= λ (m, r). byte r >>= λ (n, r). times (expr maxDepth) n r >>= λ (es, r). is (call m es, r)
 formed inner atomicForm bs = inner bs >>= λ (b, r). is (atomic b, r)
 formed inner selectForm bs = number 2 bs >>= λ (a, r). number 2 r >>= λ (b, r). is (select a b, r)
 formed inner noForm bs = nothing
@@ -78,6 +82,10 @@ row inner zero bs = nothing
 row inner (suc f) [] = nothing
 row inner (suc f) (zero ∷ bs) = is (end, bs)
 row inner (suc f) (suc m ∷ bs) = instr inner (suc m ∷ bs) >>= λ (i, r). row inner f r >>= λ (b, r). is (step tt i b, r)
+
+-- "A body is at depth 1; depth at most 16"
+abbrev pub maxNesting : ℕ
+maxNesting = 16
 
 -- a block with at most d blocks one in the other
 abbrev pub block : ℕ → List ℕ → Read (Block Plain)

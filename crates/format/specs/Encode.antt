@@ -55,7 +55,11 @@ pub record Head : Type 0 where
   pub locals : ℕ
   pub at : ℕ
 
--- "per procedure 6 bytes: parameters, locals, body offset (4)"
+-- "per procedure 6 bytes"
+abbrev pub recordSize : ℕ
+recordSize = 6
+
+-- "parameters, locals, body offset (4)"
 abbrev pub head : Head → List ℕ
 head h = h .params ∷ h .locals ∷ bytes 4 (h .at)
 
@@ -75,6 +79,10 @@ abbrev pub middle : Middle → List ℕ
 middle m = each head (m .heads) ++ (each (bytes 2) (m .sizes) ++ each (bytes 2) (m .mains))
 
 -- "Last a 16-byte trailer"
+abbrev pub trailerSize : ℕ
+trailerSize = 16
+
+-- what it says
 pub record Trailer : Type 0 where
   pub kind : ℕ
   pub mark : ℕ
@@ -93,9 +101,13 @@ abbrev pub kindMark : Kind → ℕ
 kindMark concurrent = 0x43
 kindMark sequential = 0x53
 
+-- the second of these bytes
+abbrev pub formMark : ℕ
+formMark = 0x50
+
 -- from the trailer back to the records
 abbrev pub distance : ℕ → ℕ → ℕ → ℕ
-distance P M T = 6 * P + 2 * M + 2 * T
+distance P M T = recordSize * P + 2 * M + 2 * T
 
 -- the bodies of procedures, in order
 abbrev pub bodiesOf : {A : Type 0} → List (Proc A) → List (Block A)
@@ -116,7 +128,7 @@ trailerOf k p =
     let P : ℕ = length (p .procs) in
     let M : ℕ = length (p .sizes) in
     let T : ℕ = length (p .mains) in
-    record { kind = kindMark k; mark = 0x50; procs = P; places = M; threads = T; back = distance P M T; whole = length (front p) + 16 }
+    record { kind = kindMark k; mark = formMark; procs = P; places = M; threads = T; back = distance P M T; whole = length (front p) + trailerSize }
 
 -- the whole table
 abbrev pub table : {A : Type 0} → Kind → Program A → List ℕ

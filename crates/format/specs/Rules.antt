@@ -11,8 +11,8 @@ use Rattle.value.specs.declared.Value.the-variants.{Whole, Location, Truth}
 use Rattle.format.specs.Syntax.{Expr, constant, local, one, two}
 use Rattle.format.specs.Syntax.{Instr, assign, write, read, while, if, call, atomic, select, Block, end, step, Proc}
 use Rattle.format.specs.Syntax.{Program, Plain, Kind, concurrent, sequential}
-use Rattle.format.specs.Encode.{Head, Middle, Trailer, kindMark, distance, block}
-use Rattle.format.specs.Decode.{times, finish, but, last}
+use Rattle.format.specs.Encode.{Head, Middle, Trailer, kindMark, distance, block, trailerSize, formMark}
+use Rattle.format.specs.Decode.{times, finish, but, last, maxNesting}
 use Rattle.format.specs.Decode as D
 use Rattle.format.specs.Labels.{counts}
 
@@ -34,6 +34,14 @@ abbrev pub limits : Kind → Limits
 limits concurrent = record { bytes = 16384; procs = 16; places = 64; fewest = 1; threads = 8; locals = 16; cells = 2048 }
 limits sequential = record { bytes = 65536; procs = 512; places = 512; fewest = 0; threads = 0; locals = 32; cells = 8192 }
 
+-- "locals over 16": the most that a procedure of a concurrent program has
+abbrev pub maxLocals : ℕ
+maxLocals = limits concurrent .locals
+
+-- "size not 1..256", of both kinds
+abbrev pub maxSize : ℕ
+maxSize = 256
+
 -- number 6
 abbrev pub maxLabels : ℕ
 maxLabels = 400
@@ -48,10 +56,10 @@ within lo hi n = both (leb lo n) (leb n hi)
 abbrev pub rightTrailer : Kind → List ℕ → Trailer → Bool
 rightTrailer k t r =
     both (eqb (r .kind) (kindMark k))
-    (both (eqb (r .mark) 0x50)
+    (both (eqb (r .mark) formMark)
     (both (eqb (r .back) (distance (r .procs) (r .places) (r .threads)))
     (both (eqb (r .whole) (length t))
-    (leb (r .back) (length t - 16)))))
+    (leb (r .back) (length t - trailerSize)))))
 
 -- ---- 2: the counts
 
@@ -82,7 +90,7 @@ abbrev pub rightRecords : Kind → Middle → Bool
 rightRecords k m =
     let l : Limits = limits k in
     both (all (λ h. both (leb (h .params) (h .locals)) (leb (h .locals) (l .locals))) (m .heads))
-    (both (all (within 1 256) (m .sizes))
+    (both (all (within 1 maxSize) (m .sizes))
     (both (leb (sum (m .sizes)) (l .cells))
     (all (begun (m .heads)) (starts k (m .mains)))))
 
@@ -140,7 +148,7 @@ bind (h ∷ hs) (b ∷ bs) = record { params = h .params; locals = h .locals; bo
 -- the program of these bodies and records; nothing where 4 applies
 abbrev pub program : Kind → List ℕ → Middle → Maybe (Program Plain)
 program k code m =
-    finish (times (D.block 16) (length (m .heads)) code) >>= λ bs.
+    finish (times (D.block maxNesting) (length (m .heads)) code) >>= λ bs.
     when (both (placed 0 (m .heads) bs) (allAllowed k 0 bs))
     (is (record { procs = bind (m .heads) bs; sizes = m .sizes; mains = m .mains }))
 
@@ -286,8 +294,8 @@ require n false v = refused n
 -- "The smallest number that applies is answered"
 abbrev pub verdict : Kind → List ℕ → Verdict
 verdict k t =
-    demand 1 (finish (D.trailer (last 16 t))) λ r.
-    let body : List ℕ = but 16 t in
+    demand 1 (finish (D.trailer (last trailerSize t))) λ r.
+    let body : List ℕ = but trailerSize t in
     require 1 (rightTrailer k t r)
     (require 2 (rightCounts k t r)
     (demand 1 (finish (D.middle (r .procs) (r .places) (r .threads) (last (r .back) body))) λ m.

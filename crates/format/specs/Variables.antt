@@ -7,6 +7,7 @@ use lib.Dec.{eqb}
 use Rattle.value.specs.Maybe.{either}
 use Rattle.value.specs.Lists.{upto}
 use Rattle.format.specs.Syntax.{Expr, constant, local, one, two}
+use Rattle.format.specs.Rules.{maxLocals}
 
 -- does an expression mention x
 abbrev pub mentioned : ℕ → Expr → Bool
@@ -32,9 +33,9 @@ variables x (suc n) es = keep (mentions x es) x (variables (suc x) n es)
 
 -- ---- as a row of flags
 
--- "locals over 16" are refused: a flag for each
+-- a flag for each local that a procedure of a concurrent program can have
 abbrev pub flags : (ℕ → Bool) → List Bool
-flags f = map f (upto 0 16)
+flags f = map f (upto 0 maxLocals)
 
 -- two rows together
 abbrev pub joined : List Bool → List Bool → List Bool

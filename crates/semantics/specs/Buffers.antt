@@ -6,11 +6,7 @@ use Rattle.value.specs.Values.{bytes, cellBytes}
 use Rattle.format.specs.Encode.{each}
 use Rattle.semantics.specs.Memory.{Memory, Way, reading, writing, Event}
 
--- "Final cells are written as such values, in location order"; a cell takes this many bytes
-abbrev pub cellSize : ℕ
-cellSize = 5
-
--- memory as bytes
+-- "Final cells are written as such values, in location order"
 abbrev pub cells : Memory → List ℕ
 cells η = each (each cellBytes) η
 

@@ -7,6 +7,7 @@ use lib.ListN.{length}
 use lib.Dec.{ltb, leb}
 use Rattle.value.specs.Maybe.{both}
 use Rattle.value.specs.Lists.{all, sum, over}
+use Rattle.value.specs.Values.{cellSize}
 use Rattle.format.specs.Syntax.{Program, Plain, Kind, concurrent, sequential}
 use Rattle.format.specs.Labels.{labelled}
 use Rattle.format.specs.Rules.{Verdict, refused, accepted, verdict}
@@ -15,7 +16,7 @@ use Rattle.semantics.specs.Memory.{Memory, Event}
 use Rattle.semantics.specs.Threads.{End, finished, used, blocked, spent}
 use Rattle.semantics.specs.Threads as P
 use Rattle.semantics.specs.Copy as C
-use Rattle.semantics.specs.Buffers.{cellSize, cells, log}
+use Rattle.semantics.specs.Buffers.{cells, log}
 
 -- a number for each end: the paper has words only, and none for a run at its budget
 abbrev pub endNumber : End → ℕ

@@ -8,7 +8,7 @@ use lib.ListN.{length, getD, drop, replicate, length-append, length-drop, length
 use lib.Dec.{ltb}
 use borrow.Author.Tests.{ltb-true, ltb-false, le-leb, lt-leb}
 use Rattle.value.specs.Lists.{sum, over}
-use Rattle.value.specs.Values.{bytes}
+use Rattle.value.specs.Values.{bytes, cellSize}
 use Rattle.value.specs.Laws.Tests.{by-test}
 use Rattle.value.specs.Laws.Lists.{Each, each-so}
 use Rattle.value.specs.Laws.Bytes.{Bytes}
@@ -29,7 +29,7 @@ use Rattle.format.specs.Laws.TablePlaces.{recordsAt, all-bodies, trailer-at, le
 use Rattle.sequential.specs.declared.machine.Ran.{Ran}
 use Rattle.semantics.specs.Memory.{Memory, fresh}
 use Rattle.semantics.specs.Copy as C
-use Rattle.semantics.specs.Buffers.{cellSize, cells, log}
+use Rattle.semantics.specs.Buffers.{cells, log}
 use Rattle.semantics.specs.declared.RunAnswer.{RunAnswer}
 use Rattle.semantics.specs.Calls.{Outcome, refusal, untouched, maxEntries, scheduled, roomy}
 use Rattle.semantics.specs.Calls.{runAs, sequentialRun, sequentialOutcome, sequentialCall, result}

@@ -34,7 +34,7 @@ use Rattle.sequential.specs.declared.machine.State.{State}
 use Rattle.semantics.specs.Memory.{evals}
 use Rattle.semantics.specs.Step.{Frame, Stack}
 use Rattle.semantics.specs.Copy as C
-use Rattle.engine.specs.Work.{Beside, frameWords, localWords, Framed, Bases}
+use Rattle.engine.specs.Work.{Beside, frameWords, Framed, Bases}
 use Rattle.decide.specs.Decided.{Act, assigns, writes, reads, tests, calls, returns, actOf, actEnd, argsOf, Tests, ActAt, Poised, Lies}
 use Rattle.decide.specs.Decided.{Kept, DecidesAll, SelectHere, Selects, Selectable}
 use Rattle.jumps.specs.Jumps.{Settled, last, first}

@@ -7,7 +7,7 @@ use lib.ListN.{length, getD, set, drop}
 use lib.Dec.{ltb}
 use Rattle.value.specs.Maybe.{is, pick}
 use Rattle.value.specs.Lists.{sum}
-use Rattle.value.specs.Values.{numberAt}
+use Rattle.value.specs.Values.{numberAt, cellSize}
 use Rattle.value.specs.declared.Value.{Value}
 use Rattle.format.specs.Syntax.{Expr, Instr, call, select, Block, end, step, _⊕_, Program, Plain, sequential}
 use Rattle.format.specs.Encode.{table}
@@ -24,7 +24,6 @@ use Rattle.semantics.specs.Memory.{evals, fresh, Event}
 use Rattle.semantics.specs.Step.{Frame, Stack}
 use Rattle.semantics.specs.Threads.{End}
 use Rattle.semantics.specs.Copy as C
-use Rattle.semantics.specs.Buffers.{cellSize}
 use Rattle.semantics.specs.Calls.{endNumber, Outcome, sequentialOutcome}
 use Rattle.engine.specs.Work.{Clears, frameWords, localWords, Framed, Holds, Bases}
 use Rattle.engine.specs.Events.{Logged, wayOf}

@@ -10,6 +10,7 @@ use borrow.Author.Tests.{le-leb, le-ltb, ltb-false}
 use Rattle.value.specs.Lists.{sum, all}
 use Rattle.value.specs.Laws.Tests.{by-test, both-passed}
 use Rattle.value.specs.Laws.Bytes.{Bytes}
+use Rattle.value.specs.Values.{cellSize}
 use Rattle.format.specs.declared.ReadAnswer.{ReadAnswer}
 use Rattle.format.specs.Calls.{readCall}
 use Rattle.format.specs.Syntax.{Program, Plain, Kind, concurrent, sequential}
@@ -21,7 +22,6 @@ use Rattle.translation.specs.Translate.{translate}
 use Rattle.translation.specs.Calls.{writes, writesTable, translateCall}
 use Rattle.translation.specs.Laws.Called.{Copied, call-copies}
 use Rattle.semantics.specs.declared.RunAnswer.{RunAnswer}
-use Rattle.semantics.specs.Buffers.{cellSize}
 use Rattle.semantics.specs.Calls.{Outcome, maxEntries, scheduled, roomy, runAs, concurrentOutcome, concurrentCall, sequentialOutcome, sequentialCall}
 use Rattle.agreement.specs.Agreement.{budget}
 use Rattle.agreement.specs.Figures.{refusal, figures, figuresOf, figuresAs, figuresCall}
@@ -46,21 +46,26 @@ as-enough k t ts cs es go h room = by (verdict k t) refl
         (λ a. rw (a, roomy-enough k t cs p h e room, runAs, answerAs))
         (λ a. rw (a, runAs, answerAs))
 
--- THE PROGRAM'S RUN, with 10,240 bytes for its cells
-pub program-answers : (t ts cs es : List ℕ) → Bytes t → 10240 ≤ length cs → concurrentCall t ts cs es .answer ≡ programAnswer t ts
-unfolding programAnswer
-program-answers t ts cs es h room = as-enough concurrent t ts cs es (concurrentOutcome ts cs es) h (omega arith)
+-- the bytes of the most cells that a table of kind k has
+abbrev pub mostCells : Kind → ℕ
+mostCells k = cellSize * limits k .cells
 
--- THE COPY'S RUN, with 40,960 bytes for its cells
-pub copy-answers : (t ts cs es : List ℕ) (h : ℕ) → Bytes t → 40960 ≤ length cs → sequentialCall budget h t ts cs es .answer ≡ copyAnswer t ts h
+-- THE PROGRAM'S RUN, with room for its cells
+pub program-answers : (t ts cs es : List ℕ) → Bytes t → mostCells concurrent ≤ length cs → concurrentCall t ts cs es .answer ≡ programAnswer t ts
+unfolding programAnswer
+program-answers t ts cs es h room = as-enough concurrent t ts cs es (concurrentOutcome ts cs es) h room
+
+-- THE COPY'S RUN, with room for its cells
+pub copy-answers : (t ts cs es : List ℕ) (h : ℕ) → Bytes t → mostCells sequential ≤ length cs
+    → sequentialCall budget h t ts cs es .answer ≡ copyAnswer t ts h
 unfolding copyAnswer
-copy-answers t ts cs es h bytes room = as-enough sequential t ts cs es (sequentialOutcome budget h ts cs es) bytes (omega arith)
+copy-answers t ts cs es h bytes room = as-enough sequential t ts cs es (sequentialOutcome budget h ts cs es) bytes room
 
 -- ---- the figures
 
 module _ (t ts out : List ℕ) {o : List ℕ} {w : WriteAnswer} (W : record { answer = w; out = o } ≡ translateCall t out) where
   -- a table that is not translated: 1 to 9, since the copy has room
-  pub told-unwritten : 65536 ≤ length out → (w .number ≡ 0 → ⊥) → refusal (w .number) ≡ figuresCall t ts
+  pub told-unwritten : limits sequential .bytes ≤ length out → (w .number ≡ 0 → ⊥) → refusal (w .number) ≡ figuresCall t ts
   told-unwritten room z = by (verdict concurrent t) refl
     where
       by : (v : Verdict) → verdict concurrent t ≡ v → refusal (w .number) ≡ figuresAs v ts
@@ -83,7 +88,7 @@ module _ (t ts out : List ℕ) {o : List ℕ} {w : WriteAnswer} (W : record { an
         rw n at (call-copies t out bytes (sym (ap (λ x. x .answer .number) W) ∙ written))
 
     -- it lies in the buffer
-    pub told-fits : 65536 ≤ length out → w .length ≤ length o
+    pub told-fits : limits sequential .bytes ≤ length out → w .length ≤ length o
     told-fits room =
         let c : Copied t out (w .length) (told-copy .0) = told-copy .1 in
         omega (arith, c .count, c .short, ap (λ x. length (x .out)) W ∙ c .length)

@@ -9,20 +9,20 @@ use lib.IntN.{pos}
 use borrow.Author.Tests.{le-leb}
 use Rattle.value.specs.Maybe.{is}
 use Rattle.value.specs.Lists.{over}
-use Rattle.value.specs.Values.{given, cellBytes, withValue}
+use Rattle.value.specs.Values.{given, cellBytes, withValue, cellSize}
 use Rattle.value.specs.declared.Value.{Value}
 use Rattle.value.specs.declared.Value.the-variants.{Whole}
 use Rattle.value.specs.declared.Answer.{Answer}
 use Rattle.value.specs.declared.Answer.the-variants.{Is, Nothing}
 use Rattle.value.specs.Laws.Maybes.{is-inj, missing}
 use Rattle.value.specs.Laws.Lists.{at-getD, length-over}
+use Rattle.value.specs.Laws.Cells.{length-cell}
 use Rattle.format.specs.Encode.{each}
 use Rattle.format.specs.Laws.Sections.{length-each}
 use Rattle.semantics.specs.Memory.{Memory}
-use Rattle.semantics.specs.Buffers.{cellSize, cells}
+use Rattle.semantics.specs.Buffers.{cells}
 use Rattle.engine.specs.Words.{held}
 use Rattle.engine.specs.Work.{flat, Holds, WritesOne, Writes}
-use Rattle.semantics.specs.Laws.Called.{length-cell}
 
 -- ---- one thing after others
 
@@ -85,7 +85,7 @@ module _ {cs : List ℕ} {n : ℕ} {o : List ℕ} where
         let front : List ℕ = each cellBytes (take i vs) in
         let value : held w ≡ is v = rw q (h .each i below ∙ at-getD vs i d below) in
         let size : length front ≡ i * 5 =
-        length-each cellBytes 5 length-cell (take i vs) ∙ rw (length-take-le i vs (omega arith)) (omega arith)
+        length-each cellBytes cellSize length-cell (take i vs) ∙ rw (length-take-le i vs (omega arith)) (omega arith)
         in
         let fits : i * 5 + 5 ≤ length o′ = omega (arith, W .long) in
         let next : take (i + 1) vs ≡ take i vs ++ (v ∷ []) = let one : i + 1 ≡ suc i = omega arith in rw one (take-suc vs i d below) in

@@ -20,6 +20,7 @@ use Rattle.format.specs.Laws.Formed.{Formed}
 use Rattle.format.specs.Laws.Judged.{labels?}
 use Rattle.format.specs.Laws.Passes.{small, takes-below, formed-judged}
 use Rattle.format.specs.Laws.Holds.{Holds, passes, holds}
+use Rattle.format.specs.Decode.{maxNesting}
 
 -- ---- a sound program's table is formed of it
 
@@ -31,7 +32,7 @@ takes-few most (p ∷ ps) (suc m) n h t = takes-few most ps m n (h .1) t
 
 module _ (k : Kind) (p : Program Plain) (sound : Sound k p) where
   -- the bodies fit: their names mean something
-  pub bodies-fit : Each (BlockFits 16) (bodiesOf (p .procs))
+  pub bodies-fit : Each (BlockFits maxNesting) (bodiesOf (p .procs))
   bodies-fit = go (p .procs) (sound .locals) (sound .bodies) (sound .named)
     where
       arity : (m n : ℕ) → Takes (p .procs) m n → (m < 2 ^ 16) × (n < 2 ^ 8)
@@ -42,7 +43,7 @@ module _ (k : Kind) (p : Program Plain) (sound : Sound k p) where
 
       go : (ps : List (Proc Plain)) → Each (LocalsRight (limits k .locals)) ps → Each BodyRight (bodiesOf ps)
           → Each (λ q. Names p (q .locals) (q .body)) ps
-          → Each (BlockFits 16) (bodiesOf ps)
+          → Each (BlockFits maxNesting) (bodiesOf ps)
       go [] l h i = tt
       go (q ∷ ps) l h i = (
         body-fits p (q .locals) (omega (arith, l .0 .locals, small k)) (omega (arith, sound .places, small k)) arity (q .body) (h .0) (i .0),

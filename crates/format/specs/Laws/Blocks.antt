@@ -13,7 +13,7 @@ use Rattle.value.specs.Laws.Lists.{Each}
 use Rattle.format.specs.Syntax.{Instr, assign, write, read, while, if, call, atomic, select, Block, end, step, Plain}
 use Rattle.format.specs.Encode.{each}
 use Rattle.format.specs.Encode as E
-use Rattle.format.specs.Decode.{times, expr}
+use Rattle.format.specs.Decode.{times, expr, maxDepth, maxNesting}
 use Rattle.format.specs.Decode.{Form, assignForm, writeForm, readForm, whileForm, ifForm, callForm, atomicForm, selectForm, noForm, forms}
 use Rattle.format.specs.Decode.{formed, instr, row, block}
 use Rattle.value.specs.Laws.Tables.{looked-up}
@@ -40,8 +40,8 @@ pub form-right : (m : ℕ) → forms? m (getD forms m noForm) ≡ true
 form-right m = looked-up forms? forms noForm (λ n. refl) refl m
 
 -- n expressions at most 16 deep
-exprs-exact : (n : ℕ) → Exact (times (expr 16) n) (each E.expr) (λ es. (length es ≡ n) × Each (ExprFits 16) es)
-exprs-exact = times-exact (expr 16) E.expr (ExprFits 16) (expr-exact 16)
+exprs-exact : (n : ℕ) → Exact (times (expr maxDepth) n) (each E.expr) (λ es. (length es ≡ n) × Each (ExprFits maxDepth) es)
+exprs-exact = times-exact (expr maxDepth) E.expr (ExprFits maxDepth) (expr-exact maxDepth)
 
 -- ---- the first byte of an instruction
 
@@ -79,17 +79,21 @@ nesting-pos (step a i b) = omega arith
 module _ (d : ℕ) (inner : Exact (block d) E.block (BlockFits d)) where
   -- an instruction is read back
   instr-undoes : (i : Instr Plain) → InstrFits d i → (rest : List ℕ) → instr (block d) (E.instr i ++ rest) ≡ is (i, rest)
-  instr-undoes (assign x e) h rest = rw (expr-exact 16 .undoes e (h .1 .1) rest)
+  instr-undoes (assign x e) h rest = rw (expr-exact maxDepth .undoes e (h .1 .1) rest)
   instr-undoes (write y o e) h rest =
-      rw (append-assoc (E.expr o) (E.expr e) rest, expr-exact 16 .undoes o (h .1 .1) (E.expr e ++ rest), expr-exact 16 .undoes e (h .1 .2) rest)
-  instr-undoes (read x y o) h rest = rw (expr-exact 16 .undoes o (h .1 .2) rest)
+      rw (
+        append-assoc (E.expr o) (E.expr e) rest,
+        expr-exact maxDepth .undoes o (h .1 .1) (E.expr e ++ rest),
+        expr-exact maxDepth .undoes e (h .1 .2) rest,
+      )
+  instr-undoes (read x y o) h rest = rw (expr-exact maxDepth .undoes o (h .1 .2) rest)
   instr-undoes (while e b) h rest =
-      rw (append-assoc (E.expr e) (E.block b) rest, expr-exact 16 .undoes e (h .1 .0) (E.block b ++ rest), inner .undoes b (h .0, h .1 .1) rest)
+      rw (append-assoc (E.expr e) (E.block b) rest, expr-exact maxDepth .undoes e (h .1 .0) (E.block b ++ rest), inner .undoes b (h .0, h .1 .1) rest)
   instr-undoes (if e b c) h rest =
       rw (
         append-assoc (E.expr e) (E.block b ++ E.block c) rest,
         append-assoc (E.block b) (E.block c) rest,
-        expr-exact 16 .undoes e (h .1 .0) (E.block b ++ (E.block c ++ rest)),
+        expr-exact maxDepth .undoes e (h .1 .0) (E.block b ++ (E.block c ++ rest)),
         inner .undoes b (omega (arith, h .0), h .1 .1) (E.block c ++ rest),
         inner .undoes c (omega (arith, h .0), h .1 .2) rest,
       )
@@ -102,27 +106,27 @@ module _ (d : ℕ) (inner : Exact (block d) E.block (BlockFits d)) where
   after-form : (m : ℕ) (bs : List ℕ) → Bytes bs → (k : Form) → forms? m k ≡ true → If (Took E.instr (InstrFits d) (m ∷ bs)) (formed (block d) k bs)
   after-form m bs h assignForm t =
       chain _ (byte-exact .only bs h) λ (x, r) target.
-      chain _ (expr-exact 16 .only r (left target h)) λ (e, q) source.
+      chain _ (expr-exact maxDepth .only r (left target h)) λ (e, q) source.
       read-as (assign x e) q (rw (eqb-true m 0x20 t, target .same, source .same)) (omega arith, (target .fits, source .fits))
   after-form m bs h writeForm t =
       chain _ (byte-exact .only bs h) λ (y, r) target.
-      chain _ (expr-exact 16 .only r (left target h)) λ (o, q) offset.
-      chain _ (expr-exact 16 .only q (left offset (left target h))) λ (e, s) source.
+      chain _ (expr-exact maxDepth .only r (left target h)) λ (o, q) offset.
+      chain _ (expr-exact maxDepth .only q (left offset (left target h))) λ (e, s) source.
       read-as (write y o e) s (rw (eqb-true m 0x21 t, target .same, offset .same, source .same, append-assoc (E.expr o) (E.expr e) s))
       (omega arith, (target .fits, offset .fits, source .fits))
   after-form m bs h readForm t =
       chain _ (byte-exact .only bs h) λ (x, r) target.
       chain _ (byte-exact .only r (left target h)) λ (y, q) source.
-      chain _ (expr-exact 16 .only q (left source (left target h))) λ (o, s) offset.
+      chain _ (expr-exact maxDepth .only q (left source (left target h))) λ (o, s) offset.
       read-as (read x y o) s (rw (eqb-true m 0x22 t, target .same, source .same, offset .same))
       (omega arith, (target .fits, source .fits, offset .fits))
   after-form m bs h whileForm t =
-      chain _ (expr-exact 16 .only bs h) λ (e, r) test.
+      chain _ (expr-exact maxDepth .only bs h) λ (e, r) test.
       chain _ (inner .only r (left test h)) λ (b, q) body.
       read-as (while e b) q (rw (eqb-true m 0x23 t, test .same, body .same, append-assoc (E.expr e) (E.block b) q))
       (body .fits .0, (test .fits, body .fits .1))
   after-form m bs h ifForm t =
-      chain _ (expr-exact 16 .only bs h) λ (e, r) test.
+      chain _ (expr-exact maxDepth .only bs h) λ (e, r) test.
       chain _ (inner .only r (left test h)) λ (b, q) yes.
       chain _ (inner .only q (left yes (left test h))) λ (c, s) no.
       read-as (if e b c) s
@@ -204,5 +208,5 @@ block-exact zero = record { undoes = λ b h rest. absurd (omega (arith, nesting-
 block-exact (suc d) = around d (block-exact d)
 
 -- the reader of n bodies is exact
-pub bodies-exact : (n : ℕ) → Exact (times (block 16) n) (each E.block) (λ bs. (length bs ≡ n) × Each (BlockFits 16) bs)
-bodies-exact = times-exact (block 16) E.block (BlockFits 16) (block-exact 16)
+pub bodies-exact : (n : ℕ) → Exact (times (block maxNesting) n) (each E.block) (λ bs. (length bs ≡ n) × Each (BlockFits maxNesting) bs)
+bodies-exact = times-exact (block maxNesting) E.block (BlockFits maxNesting) (block-exact maxNesting)

@@ -4,6 +4,7 @@ use lib.Signed.{mag}
 use Rattle.value.specs.declared.Value.the-variants.{Whole, Location, Truth}
 use Rattle.value.specs.Laws.Lists.{Each}
 use Rattle.format.specs.Syntax.{Expr, constant, local, one, two, Instr, assign, write, read, while, if, call, atomic, select, Block, end, step}
+use Rattle.format.specs.Decode.{maxDepth, maxNesting}
 
 -- a leaf has depth 1
 abbrev pub depth : Expr → ℕ
@@ -23,7 +24,7 @@ WholesRight (two o a b) = WholesRight a × WholesRight b
 
 -- an expression is at most 16 deep
 pub record ExprRight (e : Expr) : Type 0 where
-  pub deep : depth e ≤ 16
+  pub deep : depth e ≤ maxDepth
   pub wholes : WholesRight e
 
 -- how many blocks an instruction holds one in the other, and how many a block is; a body is at depth 1
@@ -62,5 +63,5 @@ abbrev mutual
 
 -- a body is at depth 1, and at most 16 deep
 pub record BodyRight {A : Type 0} (b : Block A) : Type 0 where
-  pub deep : nesting b ≤ 16
+  pub deep : nesting b ≤ maxNesting
   pub exprs : ExprsRight b

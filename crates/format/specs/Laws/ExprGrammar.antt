@@ -17,6 +17,7 @@ use Rattle.format.specs.Encode as E
 use Rattle.format.specs.Laws.Fits.{ExprFits}
 use Rattle.format.specs.Laws.Exprs.{depth-pos}
 use Rattle.format.specs.Laws.Stands.{Stands, first, others, front, back, number-at}
+use Rattle.format.specs.Decode.{maxDepth}
 
 -- ---- what stands there
 
@@ -29,7 +30,7 @@ pub record ExprAt (t : List ℕ) (i d : ℕ) (e : Expr) (j : ℕ) : Type 0 where
 pub record ExprsAt (t : List ℕ) (i n : ℕ) (es : List Expr) (j : ℕ) : Type 0 where
   pub stands : Stands t i (each E.expr es) j
   pub count : length es ≡ n
-  pub fits : Each (ExprFits 16) es
+  pub fits : Each (ExprFits maxDepth) es
 
 -- ---- expressions, by their marks
 
@@ -153,7 +154,7 @@ pub record MoreAt (t : List ℕ) (i n : ℕ) (es : List Expr) (j : ℕ) : Type 0
   pub rest : List Expr
   pub is : es ≡ e ∷ rest
   pub k : ℕ
-  pub here : ExprAt t i 16 e k
+  pub here : ExprAt t i maxDepth e k
   pub after : ExprsAt t k (n - 1) rest j
 
 module _ {t : List ℕ} {i n : ℕ} where

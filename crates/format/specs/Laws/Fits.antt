@@ -7,6 +7,7 @@ use Rattle.value.specs.declared.Value.the-variants.{Whole, Location, Truth}
 use Rattle.value.specs.Laws.Lists.{Each}
 use Rattle.format.specs.Syntax.{Expr, constant, local, one, two, Instr, assign, write, read, while, if, call, atomic, select, Block, end, step}
 use Rattle.format.specs.Laws.Depths.{depth, nesting, nestingI}
+use Rattle.format.specs.Decode.{maxDepth}
 
 -- a whole number in 32 bits, a location in 2 bytes
 abbrev pub ValueFits : Value → Type 0
@@ -28,12 +29,12 @@ ExprFits d e = (depth e ≤ d) × NumbersFit e
 -- each number of an instruction and of a block fits its bytes, and no expression is deeper than 16
 abbrev mutual
   pub SaysI : {A : Type 0} → Instr A → Type 0
-  SaysI (assign x e) = (x < 2 ^ 8) × ExprFits 16 e
-  SaysI (write y o e) = (y < 2 ^ 8) × ExprFits 16 o × ExprFits 16 e
-  SaysI (read x y o) = (x < 2 ^ 8) × (y < 2 ^ 8) × ExprFits 16 o
-  SaysI (while e b) = ExprFits 16 e × Says b
-  SaysI (if e b c) = ExprFits 16 e × Says b × Says c
-  SaysI (call m es) = (m < 2 ^ 16) × (length es < 2 ^ 8) × Each (ExprFits 16) es
+  SaysI (assign x e) = (x < 2 ^ 8) × ExprFits maxDepth e
+  SaysI (write y o e) = (y < 2 ^ 8) × ExprFits maxDepth o × ExprFits maxDepth e
+  SaysI (read x y o) = (x < 2 ^ 8) × (y < 2 ^ 8) × ExprFits maxDepth o
+  SaysI (while e b) = ExprFits maxDepth e × Says b
+  SaysI (if e b c) = ExprFits maxDepth e × Says b × Says c
+  SaysI (call m es) = (m < 2 ^ 16) × (length es < 2 ^ 8) × Each (ExprFits maxDepth) es
   SaysI (atomic b) = Says b
   SaysI (select a b) = (a < 2 ^ 16) × (b < 2 ^ 16)
 

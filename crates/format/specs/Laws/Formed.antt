@@ -7,8 +7,8 @@ use lib.ListN.{length}
 use Rattle.value.specs.Lists.{sum}
 use Rattle.value.specs.Laws.Lists.{Each}
 use Rattle.format.specs.Syntax.{Program, Plain, Kind}
-use Rattle.format.specs.Encode.{Head, Middle, middle, Trailer, trailer, kindMark, distance, table, bodiesOf}
-use Rattle.format.specs.Rules.{limits, starts, allNamed, fewLabels, noCycle, setFirst, Verdict, accepted, require}
+use Rattle.format.specs.Encode.{Head, Middle, middle, Trailer, trailer, kindMark, distance, table, bodiesOf, trailerSize, formMark}
+use Rattle.format.specs.Rules.{limits, starts, allNamed, fewLabels, noCycle, setFirst, Verdict, accepted, require, maxSize}
 use Rattle.format.specs.Laws.Names.{Takes, AllNames}
 use Rattle.format.specs.Laws.Depths.{BodyRight}
 use Rattle.format.specs.Laws.Permits.{AllPermitted}
@@ -16,16 +16,17 @@ use Rattle.format.specs.Laws.SetFirst.{SetFirst}
 use Rattle.format.specs.Laws.Fits.{BlockFits}
 use Rattle.format.specs.Laws.Sections.{MiddleFits, TrailerFits}
 use Rattle.format.specs.Laws.Sound.{Within, LocalsRight, FewLabels, NoCycle}
+use Rattle.format.specs.Decode.{maxNesting}
 
 -- 1: "under 16 bytes; wrong kind marks, distance or length; distance over length - 16": t is `rest` and a trailer, which is right
 pub record RightTrailer (k : Kind) (t rest : List ℕ) (r : Trailer) : Type 0 where
   pub same : t ≡ rest ++ trailer r
   pub fits : TrailerFits r
   pub kind : r .kind ≡ kindMark k
-  pub mark : r .mark ≡ 0x50
+  pub mark : r .mark ≡ formMark
   pub back : r .back ≡ distance (r .procs) (r .places) (r .threads)
   pub whole : r .whole ≡ length t
-  pub room : r .back ≤ length t - 16
+  pub room : r .back ≤ length t - trailerSize
 
 -- 2: "over 16,384 bytes, P not 1..16, M over 64, T not 1..8"
 pub record RightCounts (k : Kind) (t : List ℕ) (r : Trailer) : Type 0 where
@@ -50,7 +51,7 @@ pub record RightRecords (k : Kind) (r : Trailer) (rest code : List ℕ) (m : Mid
   pub same : rest ≡ code ++ middle m
   pub fits : MiddleFits (r .procs) (r .places) (r .threads) m
   pub locals : Each (HeadRight (limits k .locals)) (m .heads)
-  pub sizes : Each (Within 1 256) (m .sizes)
+  pub sizes : Each (Within 1 maxSize) (m .sizes)
   pub cells : sum (m .sizes) ≤ limits k .cells
   pub mains : Each (Begun (m .heads)) (starts k (m .mains))
 
@@ -62,13 +63,13 @@ pub record Formed (k : Kind) (t : List ℕ) (p : Program Plain) : Type 0 where
   pub places : length (p .sizes) ≤ limits k .places
   pub threads : Within (limits k .fewest) (limits k .threads) (length (p .mains))
   pub locals : Each (LocalsRight (limits k .locals)) (p .procs)
-  pub sizes : Each (Within 1 256) (p .sizes)
+  pub sizes : Each (Within 1 maxSize) (p .sizes)
   pub cells : sum (p .sizes) ≤ limits k .cells
   pub mains : Each (λ m. Takes (p .procs) m 0) (starts k (p .mains))
   pub bodies : Each BodyRight (bodiesOf (p .procs))
   pub allowed : AllPermitted k 0 (bodiesOf (p .procs))
   -- beyond Sound: each number fits its bytes, so p is the one program of this table
-  pub fits : Each (BlockFits 16) (bodiesOf (p .procs))
+  pub fits : Each (BlockFits maxNesting) (bodiesOf (p .procs))
 
 -- the rules up to n hold of t
 pub data Upto (k : Kind) (t : List ℕ) : ℕ → Type 0 where

@@ -9,6 +9,7 @@ use Rattle.format.specs.Syntax.{Expr, Instr, assign, write, read, while,
 use Rattle.format.specs.Encode.{each}
 use Rattle.format.specs.Encode as E
 use Rattle.format.specs.Decode.{Form, assignForm, writeForm, readForm, whileForm, ifForm, callForm, atomicForm, selectForm, noForm, forms}
+use Rattle.format.specs.Decode.{maxDepth}
 use Rattle.format.specs.Laws.Fits.{InstrFits, BlockFits}
 use Rattle.format.specs.Laws.Blocks.{begins, nesting-pos}
 use Rattle.format.specs.Laws.Stands.{Stands, inside, first, others, front, back, number-at}
@@ -49,7 +50,7 @@ module _ {A : Type 0} (t : List ℕ) (i d : ℕ) (s : Instr A) (j : ℕ) where
   pub record AssignAt : Type 0 where
     pub e : Expr
     pub is : s ≡ assign (getD t (i + 1) 0) e
-    pub source : ExprAt t (i + 2) 16 e j
+    pub source : ExprAt t (i + 2) maxDepth e j
 
   -- "21 y o e: y[o] := e"
   pub record WriteAt : Type 0 where
@@ -57,14 +58,14 @@ module _ {A : Type 0} (t : List ℕ) (i d : ℕ) (s : Instr A) (j : ℕ) where
     pub e : Expr
     pub is : s ≡ write (getD t (i + 1) 0) o e
     pub k : ℕ
-    pub offset : ExprAt t (i + 2) 16 o k
-    pub source : ExprAt t k 16 e j
+    pub offset : ExprAt t (i + 2) maxDepth o k
+    pub source : ExprAt t k maxDepth e j
 
   -- "22 x y o: x := y[o]"
   pub record ReadAt : Type 0 where
     pub o : Expr
     pub is : s ≡ read (getD t (i + 1) 0) (getD t (i + 2) 0) o
-    pub offset : ExprAt t (i + 3) 16 o j
+    pub offset : ExprAt t (i + 3) maxDepth o j
 
   -- "23 e block: while"
   pub record WhileAt : Type 0 where
@@ -72,7 +73,7 @@ module _ {A : Type 0} (t : List ℕ) (i d : ℕ) (s : Instr A) (j : ℕ) where
     pub b : Block A
     pub is : s ≡ while e b
     pub k : ℕ
-    pub test : ExprAt t (i + 1) 16 e k
+    pub test : ExprAt t (i + 1) maxDepth e k
     pub body : BlockAt t k d b j
 
   -- "24 e block block: if, then, else"
@@ -83,7 +84,7 @@ module _ {A : Type 0} (t : List ℕ) (i d : ℕ) (s : Instr A) (j : ℕ) where
     pub is : s ≡ if e b c
     pub k : ℕ
     pub l : ℕ
-    pub test : ExprAt t (i + 1) 16 e k
+    pub test : ExprAt t (i + 1) maxDepth e k
     pub first : BlockAt t k d b l
     pub second : BlockAt t l d c j
 

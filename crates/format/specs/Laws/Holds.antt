@@ -10,10 +10,12 @@ use Rattle.value.specs.Laws.Tests.{Decides, itself, _and_}
 use Rattle.value.specs.Lists.{sum}
 use Rattle.value.specs.Laws.Lists.{Each, each-so}
 use Rattle.format.specs.Syntax.{Block, Program, Plain, Kind}
-use Rattle.format.specs.Encode.{each, Middle, Trailer, heads, bodiesOf, middleOf, front, trailerOf, block, kindMark, distance}
+use Rattle.format.specs.Encode.{each, Middle, Trailer, heads, bodiesOf, middleOf, front, trailerOf, block, kindMark, distance, trailerSize}
 use Rattle.format.specs.Encode as E
-use Rattle.format.specs.Decode.{but, last}
+use Rattle.format.specs.Encode.{formMark}
+use Rattle.format.specs.Decode.{but, last, maxNesting}
 use Rattle.format.specs.Rules.{limits, starts, placed, bind, program, rightRecords, Verdict, accepted, refused, demand, require, verdict}
+use Rattle.format.specs.Rules.{maxSize}
 use Rattle.value.specs.Laws.Bytes.{Bytes}
 use Rattle.format.specs.Laws.Ranges.{body-right}
 use Rattle.format.specs.Laws.Reading.{If, so, none, chain, tested}
@@ -34,7 +36,7 @@ use Rattle.format.specs.Laws.Judged.{labels?, trailer?, counts?, records
 record Made (k : Kind) (code : List ℕ) (m : Middle) (p : Program Plain) : Type 0 where
   bodies : code ≡ each block (bodiesOf (p .procs))
   middle : m ≡ middleOf p
-  fit : Each (BlockFits 16) (bodiesOf (p .procs))
+  fit : Each (BlockFits maxNesting) (bodiesOf (p .procs))
   allowed : AllPermitted k 0 (bodiesOf (p .procs))
 
 -- what is read as the program of these bodies and records is made of them
@@ -49,7 +51,7 @@ program-only k code m h =
     of bs = record { procs = bind (m .heads) bs; sizes = m .sizes; mains = m .mains }
 
     made : (bs : List (Block Plain)) → bodiesOf (bind (m .heads) bs) ≡ bs → code ≡ each block bs → heads 0 (bind (m .heads) bs) ≡ m .heads
-        → Each (BlockFits 16) bs → AllPermitted k 0 bs → Made k code m (of bs)
+        → Each (BlockFits maxNesting) bs → AllPermitted k 0 bs → Made k code m (of bs)
     made bs same bytes heads fit allowed = record { bodies = rw same bytes; middle = rw heads; fit = rw same fit; allowed = rw same allowed }
 
 -- two parts, joined
@@ -58,7 +60,7 @@ joined e f g = cc
 
 -- the trailer of a table that p's sections make
 trailer-is : (k : Kind) (p : Program Plain) (t : List ℕ) (r : Trailer) → MiddleFits (r .procs) (r .places) (r .threads) (middleOf p)
-    → r .kind ≡ kindMark k → r .mark ≡ 0x50 → r .back ≡ distance (r .procs) (r .places) (r .threads) → r .whole ≡ length t
+    → r .kind ≡ kindMark k → r .mark ≡ formMark → r .back ≡ distance (r .procs) (r .places) (r .threads) → r .whole ≡ length t
     → t ≡ front p ++ E.trailer r
     → r ≡ trailerOf k p
 trailer-is k p t r fits kind mark back whole same =
@@ -66,16 +68,17 @@ trailer-is k p t r fits kind mark back whole same =
     let places : r .places ≡ length (p .sizes) = sym (fits .sizes .0) in
     let threads : r .threads ≡ length (p .mains) = sym (fits .mains .0) in
     let far : r .back ≡ distance (length (p .procs)) (length (p .sizes)) (length (p .mains)) = omega arith in
-    let long : r .whole ≡ length (front p) + 16 = whole ∙ ap length same ∙ length-append (front p) (E.trailer r) in
+    let long : r .whole ≡ length (front p) + trailerSize = whole ∙ ap length same ∙ length-append (front p) (E.trailer r) in
     λ i. record { kind = kind i; mark = mark i; procs = procs i; places = places i; threads = threads i; back = far i; whole = long i }
 
 -- ---- the sections that were read
 
 -- 1 holds
-closed-by : (k : Kind) (t : List ℕ) (r : Trailer) → All E.trailer TrailerFits (last 16 t) r → r .kind ≡ kindMark k → r .mark ≡ 0x50
-    → r .back ≡ distance (r .procs) (r .places) (r .threads) → r .whole ≡ length t → r .back ≤ length t - 16 → RightTrailer k t (but 16 t) r
+closed-by : (k : Kind) (t : List ℕ) (r : Trailer) → All E.trailer TrailerFits (last trailerSize t) r → r .kind ≡ kindMark k → r .mark ≡ formMark
+    → r .back ≡ distance (r .procs) (r .places) (r .threads) → r .whole ≡ length t → r .back ≤ length t - trailerSize
+    → RightTrailer k t (but trailerSize t) r
 closed-by k t r read kind mark back whole room = record {
-  same = but-last 16 t ∙ ap (but 16 t ++_) (read .same);
+  same = but-last trailerSize t ∙ ap (but trailerSize t ++_) (read .same);
   fits = read .fits;
   kind = kind;
   mark = mark;
@@ -87,7 +90,7 @@ closed-by k t r read kind mark back whole room = record {
 -- 3 holds
 records-by : (k : Kind) (r : Trailer) (rest : List ℕ) (m : Middle)
     → All E.middle (MiddleFits (r .procs) (r .places) (r .threads)) (last (r .back) rest) m
-    → Each (HeadRight (limits k .locals)) (m .heads) × (Each (Within 1 256) (m .sizes) ×
+    → Each (HeadRight (limits k .locals)) (m .heads) × (Each (Within 1 maxSize) (m .sizes) ×
     ((sum (m .sizes) ≤ limits k .cells) × Each (Begun (m .heads)) (starts k (m .mains))))
     → RightRecords k r rest (but (r .back) rest) m
 records-by k r rest m read right = record {
@@ -146,18 +149,18 @@ module _ (k : Kind) (t : List ℕ) where
   -- of every verdict
   pub holds : Bytes t → Holds (verdict k t)
   holds h =
-      demanded 0 _ upto0 (finish-only trailer-exact (last 16 t) (bytes-last 16 t h)) λ r closing.
+      demanded 0 _ upto0 (finish-only trailer-exact (last trailerSize t) (bytes-last trailerSize t h)) λ r closing.
       required 0 _ upto0 (trailer? k t r) λ (kind, (mark, (back, (whole, room)))).
-      let closed : RightTrailer k t (but 16 t) r = closed-by k t r closing kind mark back whole room in
+      let closed : RightTrailer k t (but trailerSize t) r = closed-by k t r closing kind mark back whole room in
       required 1 _ (upto1 closed) (counts? k t r) λ counts.
       demanded 0 _ upto0
-      (finish-only (middle-exact (r .procs) (r .places) (r .threads)) (last (r .back) (but 16 t))
-      (bytes-last (r .back) (but 16 t) (bytes-but 16 t h)))
+      (finish-only (middle-exact (r .procs) (r .places) (r .threads)) (last (r .back) (but trailerSize t))
+      (bytes-last (r .back) (but trailerSize t) (bytes-but trailerSize t h)))
       λ m middle.
       required 2 _ (upto2 closed counts) (records? k m) λ right.
-      let records : RightRecords k r (but 16 t) (but (r .back) (but 16 t)) m = records-by k r (but 16 t) m middle right in
+      let records : RightRecords k r (but trailerSize t) (but (r .back) (but trailerSize t)) m = records-by k r (but trailerSize t) m middle right in
       demanded 3 _ (upto3 closed counts records)
-      (program-only k (but (r .back) (but 16 t)) m (bytes-but (r .back) (but 16 t) (bytes-but 16 t h)))
+      (program-only k (but (r .back) (but trailerSize t)) m (bytes-but (r .back) (but trailerSize t) (bytes-but trailerSize t h)))
       λ p made.
       let formed : Formed k t p = formed-by k t closed counts records made in
       required 4 _ (upto4 formed) (all-names? p) λ named.

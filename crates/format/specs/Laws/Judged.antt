@@ -9,8 +9,8 @@ use Rattle.value.specs.Lists.{sum, all}
 use Rattle.value.specs.Laws.Tests.{Decides, always, never?, decides-as, _and_, le?, eq?}
 use Rattle.value.specs.Laws.Lists.{Each, all?}
 use Rattle.format.specs.Syntax.{Proc, Program, Plain, Kind, concurrent, sequential}
-use Rattle.format.specs.Encode.{Head, Middle, Trailer, heads, middleOf, block, kindMark, distance}
-use Rattle.format.specs.Rules.{limits, within, begun, starts, fewLabels, rightTrailer, rightCounts, rightRecords}
+use Rattle.format.specs.Encode.{Head, Middle, Trailer, heads, middleOf, block, kindMark, distance, trailerSize, formMark}
+use Rattle.format.specs.Rules.{limits, within, begun, starts, fewLabels, rightTrailer, rightCounts, rightRecords, maxSize}
 use Rattle.format.specs.Laws.Names.{Takes}
 use Rattle.format.specs.Laws.Sound.{Within, LocalsRight, FewLabels}
 use Rattle.format.specs.Laws.Formed.{RightCounts, HeadRight, Begun}
@@ -47,7 +47,7 @@ labels? sequential p = always
 -- 1
 pub trailer? : (k : Kind) (t : List ℕ) (r : Trailer)
     → Decides (rightTrailer k t r) ((r .kind ≡ kindMark k) ×
-    ((r .mark ≡ 0x50) × ((r .back ≡ distance (r .procs) (r .places) (r .threads)) × ((r .whole ≡ length t) × (r .back ≤ length t - 16)))))
+    ((r .mark ≡ formMark) × ((r .back ≡ distance (r .procs) (r .places) (r .threads)) × ((r .whole ≡ length t) × (r .back ≤ length t - trailerSize)))))
 trailer? k t r = eq? _ _ and eq? _ _ and eq? _ _ and eq? _ _ and le? _ _
 
 -- 2
@@ -60,15 +60,15 @@ counts? k t r =
 -- 3, of the records
 pub records? : (k : Kind) (m : Middle)
     → Decides (rightRecords k m) (Each (HeadRight (limits k .locals)) (m .heads) ×
-    (Each (Within 1 256) (m .sizes) × ((sum (m .sizes) ≤ limits k .cells) × Each (Begun (m .heads)) (starts k (m .mains)))))
+    (Each (Within 1 maxSize) (m .sizes) × ((sum (m .sizes) ≤ limits k .cells) × Each (Begun (m .heads)) (starts k (m .mains)))))
 records? k m =
     all? (λ h. decides-as (λ p. record { params = p .0; locals = p .1 }) (λ r. (r .params, r .locals)) (le? _ _ and le? _ _)) (m .heads)
-    and all? (within? 1 256) (m .sizes) and le? _ _ and all? (begun? (m .heads)) (starts k (m .mains))
+    and all? (within? 1 maxSize) (m .sizes) and le? _ _ and all? (begun? (m .heads)) (starts k (m .mains))
 
 -- 3, of the procedures whose records these are
 pub procedures? : (k : Kind) (p : Program Plain)
     → Decides (rightRecords k (middleOf p)) (Each (LocalsRight (limits k .locals)) (p .procs) ×
-    (Each (Within 1 256) (p .sizes) × ((sum (p .sizes) ≤ limits k .cells) × Each (λ m. Takes (p .procs) m 0) (starts k (p .mains)))))
+    (Each (Within 1 maxSize) (p .sizes) × ((sum (p .sizes) ≤ limits k .cells) × Each (λ m. Takes (p .procs) m 0) (starts k (p .mains)))))
 procedures? k p =
-    locals? (limits k .locals) 0 (p .procs) and all? (within? 1 256) (p .sizes) and le? _ _ and
+    locals? (limits k .locals) 0 (p .procs) and all? (within? 1 maxSize) (p .sizes) and le? _ _ and
     all? (takes-begun? 0 (p .procs)) (starts k (p .mains))

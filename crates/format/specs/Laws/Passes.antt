@@ -10,11 +10,11 @@ use Rattle.value.specs.Lists.{sum}
 use Rattle.value.specs.Laws.Tests.{Decides, never, itself, _and_}
 use Rattle.value.specs.Laws.Lists.{Each, each-so}
 use Rattle.format.specs.Syntax.{Proc, Program, Plain, Kind, concurrent, sequential}
-use Rattle.format.specs.Encode.{each, Middle, Trailer, heads, bodiesOf, middleOf, front, trailerOf, block, kindMark}
+use Rattle.format.specs.Encode.{each, Middle, Trailer, heads, bodiesOf, middleOf, front, trailerOf, block, kindMark, trailerSize}
 use Rattle.format.specs.Encode as E
-use Rattle.format.specs.Decode.{times, finish, but, last}
+use Rattle.format.specs.Decode.{times, finish, but, last, maxNesting}
 use Rattle.format.specs.Decode as D
-use Rattle.format.specs.Rules.{Limits, limits, rightCounts, rightRecords, placed, starts, program, Verdict, demand, require, verdict}
+use Rattle.format.specs.Rules.{Limits, limits, rightCounts, rightRecords, placed, starts, program, Verdict, demand, require, verdict, maxSize}
 use Rattle.format.specs.Laws.Reading.{test-passed}
 use Rattle.format.specs.Laws.Names.{Takes}
 use Rattle.format.specs.Laws.Blocks.{bodies-exact}
@@ -37,11 +37,11 @@ found n next e f = rw e f
 
 -- the bounds fit the bytes
 pub record Small (l : Limits) : Type 0 where
-  pub bytes : l .bytes ≤ 65536
-  pub procs : l .procs ≤ 512
-  pub places : l .places ≤ 512
-  pub threads : l .threads ≤ 8
-  pub locals : l .locals ≤ 32
+  pub bytes : l .bytes < 2 ^ 32
+  pub procs : l .procs < 2 ^ 16
+  pub places : l .places < 2 ^ 16
+  pub threads : l .threads < 2 ^ 16
+  pub locals : l .locals < 2 ^ 8
 
 -- those of both kinds do
 pub small : (k : Kind) → Small (limits k)
@@ -79,13 +79,13 @@ heads-fit most at end (p ∷ ps) small far room h =
 
 module _ (k : Kind) (t : List ℕ) {rest : List ℕ} {r : Trailer} (closed : RightTrailer k t rest r) where
   -- the bytes before the trailer
-  cut-rest : but 16 t ≡ rest
-  cut-rest = ap (but 16) (closed .same) ∙ but-append rest (E.trailer r) 16 refl
+  cut-rest : but trailerSize t ≡ rest
+  cut-rest = ap (but trailerSize) (closed .same) ∙ but-append rest (E.trailer r) trailerSize refl
 
   -- the trailer is read
-  pub trailer-read : finish (D.trailer (last 16 t)) ≡ is r
+  pub trailer-read : finish (D.trailer (last trailerSize t)) ≡ is r
   trailer-read =
-      let cut : last 16 t ≡ E.trailer r = ap (last 16) (closed .same) ∙ last-append rest (E.trailer r) 16 refl in
+      let cut : last trailerSize t ≡ E.trailer r = ap (last trailerSize) (closed .same) ∙ last-append rest (E.trailer r) trailerSize refl in
       rw cut (finish-undoes trailer-exact r (closed .fits))
 
   module _ {code : List ℕ} {m : Middle} (records : RightRecords k r rest code m) where
@@ -94,20 +94,20 @@ module _ (k : Kind) (t : List ℕ) {rest : List ℕ} {r : Trailer} (closed : Rig
     middle-length = omega (arith, length-middle m, records .fits .heads .0, records .fits .sizes .0, records .fits .mains .0, closed .back)
 
     -- the middle is read
-    pub middle-read : finish (D.middle (r .procs) (r .places) (r .threads) (last (r .back) (but 16 t))) ≡ is m
+    pub middle-read : finish (D.middle (r .procs) (r .places) (r .threads) (last (r .back) (but trailerSize t))) ≡ is m
     middle-read =
         rw (cut-rest, records .same, last-append code (E.middle m) (r .back) middle-length)
         (finish-undoes (middle-exact (r .procs) (r .places) (r .threads)) m (records .fits))
 
     -- what is left are the bodies
-    cut-code : but (r .back) (but 16 t) ≡ code
+    cut-code : but (r .back) (but trailerSize t) ≡ code
     cut-code = rw (cut-rest, records .same) (but-append code (E.middle m) (r .back) middle-length)
 
 -- ---- 4: the program
 
 module _ (k : Kind) (t : List ℕ) (p : Program Plain) (formed : Formed k t p) where
   -- the trailer has 16 bytes
-  whole-length : length (front p) + 16 ≡ length t
+  whole-length : length (front p) + trailerSize ≡ length t
   whole-length = sym (ap length (formed .same) ∙ length-append (front p) (E.trailer (trailerOf k p)))
 
   -- before it stand the bodies and the middle
@@ -165,14 +165,14 @@ module _ (k : Kind) (t : List ℕ) (p : Program Plain) (formed : Formed k t p) w
     mains = right .1 .1 .1;
   }
     where
-      right : Each (HeadRight (limits k .locals)) (middleOf p .heads) × (Each (Within 1 256) (p .sizes) ×
+      right : Each (HeadRight (limits k .locals)) (middleOf p .heads) × (Each (Within 1 maxSize) (p .sizes) ×
           ((sum (p .sizes) ≤ limits k .cells) × Each (Begun (middleOf p .heads)) (starts k (p .mains))))
       right = records? k (middleOf p) .so (procedures? k p .of (formed .locals, (formed .sizes, (formed .cells, formed .mains))))
 
   -- the bodies are read, and with the records they make the program
-  pub program-read : program k (but (trailerOf k p .back) (but 16 t)) (middleOf p) ≡ is p
+  pub program-read : program k (but (trailerOf k p .back) (but trailerSize t)) (middleOf p) ≡ is p
   program-read =
-      let bodies : finish (times (D.block 16) (length (heads 0 (p .procs))) (each block (bodiesOf (p .procs)))) ≡ is (bodiesOf (p .procs))
+      let bodies : finish (times (D.block maxNesting) (length (heads 0 (p .procs))) (each block (bodiesOf (p .procs)))) ≡ is (bodiesOf (p .procs))
       = finish-undoes (bodies-exact _) (bodiesOf (p .procs)) (length-bodies (p .procs) ∙ sym (length-heads 0 (p .procs)), formed .fits) in
       rw (cut-code k t formed-trailer formed-records, bodies)
       (test-passed _ (itself (placed 0 (heads 0 (p .procs)) (bodiesOf (p .procs))) and all-permitted? k 0 (bodiesOf (p .procs)))
@@ -185,11 +185,13 @@ module _ (k : Kind) (t : List ℕ) (p : Program Plain) (formed : Formed k t p) w
 module _ (k : Kind) (t : List ℕ) where
   -- after 3: 4 to 8
   abbrev pub left3 : Trailer → Middle → Verdict
-  left3 r m = demand 4 (program k (but (r .back) (but 16 t)) m) (judged k)
+  left3 r m = demand 4 (program k (but (r .back) (but trailerSize t)) m) (judged k)
 
   -- after 2: 3 to 8, if the middle is there
   abbrev pub left2 : Trailer → Verdict
-  left2 r = demand 1 (finish (D.middle (r .procs) (r .places) (r .threads) (last (r .back) (but 16 t)))) λ m. require 3 (rightRecords k m) (left3 r m)
+  left2 r =
+      demand 1 (finish (D.middle (r .procs) (r .places) (r .threads) (last (r .back) (but trailerSize t)))) λ m.
+      require 3 (rightRecords k m) (left3 r m)
 
   -- after 1: 2 to 8
   abbrev pub left1 : Trailer → Verdict

@@ -8,7 +8,7 @@ use lib.Seq.{drop-drop}
 use borrow.Author.Tests.{le-leb}
 use Rattle.value.specs.Maybe.{is}
 use Rattle.value.specs.Values.{unbytes}
-use Rattle.format.specs.Encode.{Head, Middle, distance}
+use Rattle.format.specs.Encode.{Head, Middle, distance, recordSize, trailerSize}
 use Rattle.format.specs.Decode.{Read, byte, number, times, finish, head, middle, but, last}
 
 -- a reader that takes k bytes, and reads `value` of them
@@ -60,11 +60,11 @@ rows-at value k (suc n) bs (suc i) d h =
 abbrev pub headAt : List ℕ → Head
 headAt bs = record { params = getD bs 0 0; locals = getD (drop 1 bs) 0 0; at = unbytes (take 4 (drop 2 bs)) }
 
--- it is read where there are 6 bytes
-pub head-fixed : Fixed head 6 headAt
+-- it is read where there are so many bytes
+pub head-fixed : Fixed head recordSize headAt
 head-fixed = record { reads = reads }
   where
-    reads : (bs : List ℕ) → 6 ≤ length bs → head bs ≡ is (headAt bs, drop 6 bs)
+    reads : (bs : List ℕ) → recordSize ≤ length bs → head bs ≡ is (headAt bs, drop recordSize bs)
     reads bs h =
         let one : 1 ≤ length (drop 1 bs) = rw length-drop (omega arith) in
         let four : 4 ≤ length (drop 2 bs) = rw length-drop (omega arith) in
@@ -79,25 +79,26 @@ head-fixed = record { reads = reads }
 -- records, sizes and mains, by their places
 abbrev pub middleAt : ℕ → ℕ → ℕ → List ℕ → Middle
 middleAt P M T bs = record {
-  heads = rows headAt 6 P bs;
-  sizes = rows (λ bs. unbytes (take 2 bs)) 2 M (drop (P * 6) bs);
-  mains = rows (λ bs. unbytes (take 2 bs)) 2 T (drop (P * 6 + M * 2) bs);
+  heads = rows headAt recordSize P bs;
+  sizes = rows (λ bs. unbytes (take 2 bs)) 2 M (drop (P * recordSize) bs);
+  mains = rows (λ bs. unbytes (take 2 bs)) 2 T (drop (P * recordSize + M * 2) bs);
 }
 
 -- it is read where there are as many bytes as the distance says
-pub middle-fixed : (P M T : ℕ) → Fixed (middle P M T) (P * 6 + M * 2 + T * 2) (middleAt P M T)
+pub middle-fixed : (P M T : ℕ) → Fixed (middle P M T) (P * recordSize + M * 2 + T * 2) (middleAt P M T)
 middle-fixed P M T = record { reads = reads }
   where
-    reads : (bs : List ℕ) → P * 6 + M * 2 + T * 2 ≤ length bs → middle P M T bs ≡ is (middleAt P M T bs, drop (P * 6 + M * 2 + T * 2) bs)
+    reads : (bs : List ℕ) → P * recordSize + M * 2 + T * 2 ≤ length bs
+        → middle P M T bs ≡ is (middleAt P M T bs, drop (P * recordSize + M * 2 + T * 2) bs)
     reads bs h =
-        let sizes : M * 2 ≤ length (drop (P * 6) bs) = rw length-drop (omega arith) in
-        let mains : T * 2 ≤ length (drop (P * 6 + M * 2) bs) = rw length-drop (omega arith) in
+        let sizes : M * 2 ≤ length (drop (P * recordSize) bs) = rw length-drop (omega arith) in
+        let mains : T * 2 ≤ length (drop (P * recordSize + M * 2) bs) = rw length-drop (omega arith) in
         rw (
           times-fixed head-fixed P .reads bs (omega arith),
-          times-fixed (number-fixed 2) M .reads (drop (P * 6) bs) sizes,
-          drop-drop (M * 2) (P * 6) bs,
-          times-fixed (number-fixed 2) T .reads (drop (P * 6 + M * 2) bs) mains,
-          drop-drop (T * 2) (P * 6 + M * 2) bs,
+          times-fixed (number-fixed 2) M .reads (drop (P * recordSize) bs) sizes,
+          drop-drop (M * 2) (P * recordSize) bs,
+          times-fixed (number-fixed 2) T .reads (drop (P * recordSize + M * 2) bs) mains,
+          drop-drop (T * 2) (P * recordSize + M * 2) bs,
         )
 
 -- a reader that takes all bytes leaves none
@@ -108,9 +109,9 @@ finish-fixed {k = k} fixed bs h =
     rw (fixed .reads bs (omega arith), none)
 
 -- a table with a right distance has a middle: its second refusal 1 is never given
-pub middle-there : (t : List ℕ) (P M T : ℕ) → distance P M T ≤ length t - 16
-    → finish (middle P M T (last (distance P M T) (but 16 t))) ≡ is (middleAt P M T (last (distance P M T) (but 16 t)))
-middle-there t P M T h = finish-fixed (middle-fixed P M T) (last (distance P M T) (but 16 t)) long
+pub middle-there : (t : List ℕ) (P M T : ℕ) → distance P M T ≤ length t - trailerSize
+    → finish (middle P M T (last (distance P M T) (but trailerSize t))) ≡ is (middleAt P M T (last (distance P M T) (but trailerSize t)))
+middle-there t P M T h = finish-fixed (middle-fixed P M T) (last (distance P M T) (but trailerSize t)) long
   where
-    long : length (last (distance P M T) (but 16 t)) ≡ P * 6 + M * 2 + T * 2
+    long : length (last (distance P M T) (but trailerSize t)) ≡ P * recordSize + M * 2 + T * 2
     long = simp (length-drop, length-take) (omega arith)

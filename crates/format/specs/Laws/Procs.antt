@@ -11,7 +11,7 @@ use Rattle.value.specs.Lists.{at}
 use Rattle.value.specs.Laws.Maybes.{is-inj, missing}
 use Rattle.value.specs.Laws.Lists.{each-at}
 use Rattle.format.specs.Syntax.{Block, Proc, Program, Plain, Kind, concurrent}
-use Rattle.format.specs.Encode.{each, block, bodiesOf, middleOf, middle, front, trailerOf, trailer, table}
+use Rattle.format.specs.Encode.{each, block, bodiesOf, middleOf, middle, front, trailerOf, trailer, table, trailerSize}
 use Rattle.format.specs.Rules.{takes, Here, Known, limits, allowed, after}
 use Rattle.format.specs.Laws.Names.{Takes, takes?, Names}
 use Rattle.format.specs.Laws.Depths.{BodyRight}
@@ -94,7 +94,7 @@ body-among (p ∷ ps) (suc m) e = omega (arith, length-append (block (p .body)) 
 
 -- a procedure's body and 16 bytes more are not longer than the table
 pub body-in-table : (k : Kind) (p : Program Plain) (m : ℕ) {q : Proc Plain} → at (p .procs) m ≡ is q
-    → length (block (q .body)) + 16 ≤ length (table k p)
+    → length (block (q .body)) + trailerSize ≤ length (table k p)
 body-in-table k p m e =
     omega (
       arith,

@@ -11,6 +11,7 @@ use Rattle.format.specs.Syntax.{Plain}
 use Rattle.format.specs.Laws.Names.{Takes, Ranges, Names, NamesI}
 use Rattle.format.specs.Laws.Depths.{WholesRight, ExprRight, ExprsRight, ExprsRightI, BodyRight}
 use Rattle.format.specs.Laws.Fits.{NumbersFit, ExprFits, Says, SaysI, BlockFits}
+use Rattle.format.specs.Decode.{maxDepth, maxNesting}
 
 -- ---- what fits is right
 
@@ -24,7 +25,7 @@ wholes-right (one o a) h = wholes-right a h
 wholes-right (two o a b) h = (wholes-right a (h .0), wholes-right b (h .1))
 
 -- and is right
-expr-right : (e : Expr) → ExprFits 16 e → ExprRight e
+expr-right : (e : Expr) → ExprFits maxDepth e → ExprRight e
 expr-right e h = record { deep = h .0; wholes = wholes-right e (h .1) }
 
 mutual
@@ -45,7 +46,7 @@ mutual
   exprs-right (step a i b) h = (exprs-rightI i (h .0), exprs-right b (h .1))
 
 -- a body that fits is right
-pub body-right : (b : Block Plain) → BlockFits 16 b → BodyRight b
+pub body-right : (b : Block Plain) → BlockFits maxNesting b → BodyRight b
 body-right b h = record { deep = h .0; exprs = exprs-right b (h .1) }
 
 -- ---- what is right fits, where its names mean something
@@ -62,11 +63,11 @@ module _ (p : Program Plain) (X : ℕ) (few : X ≤ 2 ^ 8) (most : length (p .si
   numbers-fit (two o a b) h i = (numbers-fit a (h .0) (i .0), numbers-fit b (h .1) (i .1))
 
   -- can be said by bytes
-  expr-fits : (e : Expr) → ExprRight e → Ranges p X e → ExprFits 16 e
+  expr-fits : (e : Expr) → ExprRight e → Ranges p X e → ExprFits maxDepth e
   expr-fits e h i = (h .deep, numbers-fit e (h .wholes) i)
 
   -- so can several
-  exprs-fit : (es : List Expr) → Each ExprRight es → Each (Ranges p X) es → Each (ExprFits 16) es
+  exprs-fit : (es : List Expr) → Each ExprRight es → Each (Ranges p X) es → Each (ExprFits maxDepth) es
   exprs-fit [] h i = tt
   exprs-fit (e ∷ es) h i = (expr-fits e (h .0) (i .0), exprs-fit es (h .1) (i .1))
 
@@ -88,5 +89,5 @@ module _ (p : Program Plain) (X : ℕ) (few : X ≤ 2 ^ 8) (most : length (p .si
     says (step a i b) h j = (saysI i (h .0) (j .0), says b (h .1) (j .1))
 
   -- a body whose names mean something fits
-  pub body-fits : (b : Block Plain) → BodyRight b → Names p X b → BlockFits 16 b
+  pub body-fits : (b : Block Plain) → BodyRight b → Names p X b → BlockFits maxNesting b
   body-fits b h i = (h .deep, says b (h .exprs) i)

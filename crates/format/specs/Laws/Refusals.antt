@@ -12,7 +12,7 @@ use Rattle.value.specs.Maybe.{Maybe, is, nothing, _>>=_}
 use Rattle.value.specs.Laws.Maybes.{is-inj}
 use Rattle.value.specs.Laws.Tests.{Decides, itself, by-test}
 use Rattle.format.specs.Syntax.{Program, Plain, Kind}
-use Rattle.format.specs.Encode.{Trailer, Middle, distance, front, trailerOf}
+use Rattle.format.specs.Encode.{Trailer, Middle, distance, front, trailerOf, trailerSize}
 use Rattle.format.specs.Decode.{finish, but, last}
 use Rattle.format.specs.Decode as D
 use Rattle.format.specs.Rules.{rightCounts, rightRecords, program, allNamed, fewLabels, noCycle, setFirst}
@@ -90,24 +90,24 @@ module _ {n : ℕ} where
   module _ (k : Kind) (t : List ℕ) (r : Trailer) where
     -- from 4 on
     later4 : (m : Middle) → n < 4 → Later n (left3 k t r m)
-    later4 m h = demanded 4 (program k (but (r .back) (but 16 t)) m) _ h (omega arith) λ p. later5 k p (omega arith)
+    later4 m h = demanded 4 (program k (but (r .back) (but trailerSize t)) m) _ h (omega arith) λ p. later5 k p (omega arith)
 
     -- from 3 on: the middle is there
-    later3 : r .back ≡ distance (r .procs) (r .places) (r .threads) → r .back ≤ length t - 16 → n < 3 → Later n (left2 k t r)
+    later3 : r .back ≡ distance (r .procs) (r .places) (r .threads) → r .back ≤ length t - trailerSize → n < 3 → Later n (left2 k t r)
     later3 back room h =
-        let m : Middle = middleAt (r .procs) (r .places) (r .threads) (last (r .back) (but 16 t)) in
-        let read : finish (D.middle (r .procs) (r .places) (r .threads) (last (r .back) (but 16 t))) ≡ is m
+        let m : Middle = middleAt (r .procs) (r .places) (r .threads) (last (r .back) (but trailerSize t)) in
+        let read : finish (D.middle (r .procs) (r .places) (r .threads) (last (r .back) (but trailerSize t))) ≡ is m
         = rw back (middle-there t (r .procs) (r .places) (r .threads) (omega arith)) in
         rw read (required 3 _ (itself (rightRecords k m)) h (omega arith) λ right. later4 m (omega arith))
 
     -- from 2 on
-    later2 : r .back ≡ distance (r .procs) (r .places) (r .threads) → r .back ≤ length t - 16 → n < 2 → Later n (left1 k t r)
+    later2 : r .back ≡ distance (r .procs) (r .places) (r .threads) → r .back ≤ length t - trailerSize → n < 2 → Later n (left1 k t r)
     later2 back room h = required 2 _ (itself (rightCounts k t r)) h (omega arith) λ counts. later3 back room (omega arith)
 
   -- from 1 on
   later1 : (k : Kind) (t : List ℕ) → n < 1 → Later n (verdict k t)
   later1 k t h =
-      demanded 1 (finish (D.trailer (last 16 t))) _ h (omega arith) λ r.
+      demanded 1 (finish (D.trailer (last trailerSize t))) _ h (omega arith) λ r.
       required 1 _ (trailer? k t r) h (omega arith) λ (kind, (mark, (back, (whole, room)))).
       later2 k t r back room (omega arith)
 
@@ -178,9 +178,9 @@ module _ (k : Kind) (t : List ℕ) where
 -- the program that a table is read as, before the rules judge it
 abbrev readAs : Kind → List ℕ → Maybe (Program Plain)
 readAs k t =
-    finish (D.trailer (last 16 t)) >>= λ r.
-    finish (D.middle (r .procs) (r .places) (r .threads) (last (r .back) (but 16 t))) >>= λ m.
-    program k (but (r .back) (but 16 t)) m
+    finish (D.trailer (last trailerSize t)) >>= λ r.
+    finish (D.middle (r .procs) (r .places) (r .threads) (last (r .back) (but trailerSize t))) >>= λ m.
+    program k (but (r .back) (but trailerSize t)) m
 
 -- a formed table is read as its program
 formed-read : (k : Kind) (t : List ℕ) (p : Program Plain) → Formed k t p → readAs k t ≡ is p

@@ -12,7 +12,7 @@ use Rattle.value.specs.Marks.{Mark, wholeMark, locationMark, noMark, yesMark, l
 use Rattle.value.specs.Laws.Tests.{by-test, le?}
 use Rattle.format.specs.Syntax.{Expr, Block, end, step, Plain}
 use Rattle.format.specs.Decode.{Read, byte, number, times, marked, expr, Form, assignForm, writeForm, readForm, whileForm, ifForm, callForm}
-use Rattle.format.specs.Decode.{atomicForm, selectForm, noForm, forms, formed, instr, row, block}
+use Rattle.format.specs.Decode.{atomicForm, selectForm, noForm, forms, formed, instr, row, block, maxDepth}
 use Rattle.format.specs.Laws.Reading.{If, so, none, chain, chain-same, tested, if-so}
 
 -- r is what is left of bs when some bytes are taken
@@ -86,21 +86,21 @@ expr-leaves (suc d) [] = none
 expr-leaves (suc d) (m ∷ bs) = if-so (λ got. rest-after m) (marked-leaves (expr d) (expr-leaves d) (markOf m) bs)
 
 module _ (inner : List ℕ → Read (Block Plain)) (leaves : (bs : List ℕ) → Leaves bs (inner bs)) where
-  -- at most 16 deep
-  abbrev e16 : (bs : List ℕ) → Leaves bs (expr 16 bs)
-  e16 = expr-leaves 16
+  -- an expression in it
+  abbrev inside : (bs : List ℕ) → Leaves bs (expr maxDepth bs)
+  inside = expr-leaves maxDepth
 
   -- an instruction
   formed-leaves : (k : Form) (bs : List ℕ) → Leaves bs (formed inner k bs)
-  formed-leaves assignForm bs = then _ (byte-leaves bs) λ x r. then _ (e16 r) λ e r. done _ r
-  formed-leaves writeForm bs = then _ (byte-leaves bs) λ y r. then _ (e16 r) λ o r. then _ (e16 r) λ e r. done _ r
-  formed-leaves readForm bs = then _ (byte-leaves bs) λ x r. then _ (byte-leaves r) λ y r. then _ (e16 r) λ o r. done _ r
-  formed-leaves whileForm bs = then _ (e16 bs) λ e r. then _ (leaves r) λ b r. done _ r
-  formed-leaves ifForm bs = then _ (e16 bs) λ e r. then _ (leaves r) λ b r. then _ (leaves r) λ c r. done _ r
+  formed-leaves assignForm bs = then _ (byte-leaves bs) λ x r. then _ (inside r) λ e r. done _ r
+  formed-leaves writeForm bs = then _ (byte-leaves bs) λ y r. then _ (inside r) λ o r. then _ (inside r) λ e r. done _ r
+  formed-leaves readForm bs = then _ (byte-leaves bs) λ x r. then _ (byte-leaves r) λ y r. then _ (inside r) λ o r. done _ r
+  formed-leaves whileForm bs = then _ (inside bs) λ e r. then _ (leaves r) λ b r. done _ r
+  formed-leaves ifForm bs = then _ (inside bs) λ e r. then _ (leaves r) λ b r. then _ (leaves r) λ c r. done _ r
   formed-leaves callForm bs =
       then _ (number-leaves 2 bs) λ m r.
       then _ (byte-leaves r) λ n r.
-      then _ (times-leaves (expr 16) e16 n r) λ es r.
+      then _ (times-leaves (expr maxDepth) inside n r) λ es r.
       done _ r
   formed-leaves atomicForm bs = then _ (leaves bs) λ b r. done _ r
   formed-leaves selectForm bs = then _ (number-leaves 2 bs) λ a r. then _ (number-leaves 2 r) λ b r. done _ r

@@ -8,7 +8,7 @@ use lib.Seq.{take-at, drop-at}
 use Rattle.value.specs.Maybe.{is, nothing}
 use Rattle.value.specs.Values.{bytes}
 use Rattle.value.specs.Laws.Lists.{Each}
-use Rattle.format.specs.Encode.{each, Head, Middle, Trailer}
+use Rattle.format.specs.Encode.{each, Head, Middle, Trailer, recordSize}
 use Rattle.format.specs.Encode as E
 use Rattle.format.specs.Decode.{Read, number, times, finish, head, middle, trailer, but, last}
 use Rattle.value.specs.Laws.Bytes.{Bytes, bytes-take, bytes-drop}
@@ -192,7 +192,7 @@ length-middle m =
     simp length-append
     (omega (
       arith,
-      length-each E.head 6 (λ h. refl) (m .heads),
+      length-each E.head recordSize (λ h. refl) (m .heads),
       length-each (bytes 2) 2 (λ n. refl) (m .sizes),
       length-each (bytes 2) 2 (λ n. refl) (m .mains),
     ))

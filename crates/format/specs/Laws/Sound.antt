@@ -6,7 +6,7 @@ use Rattle.value.specs.Laws.Lists.{Each}
 use Rattle.format.specs.Syntax.{Proc, Program, Plain, Kind, concurrent, sequential}
 use Rattle.format.specs.Encode.{table, bodiesOf}
 use Rattle.format.specs.Labels.{counts}
-use Rattle.format.specs.Rules.{limits, maxLabels, starts}
+use Rattle.format.specs.Rules.{limits, maxLabels, starts, maxSize}
 use Rattle.format.specs.Laws.Names.{Takes, AllNames}
 use Rattle.format.specs.Laws.Depths.{BodyRight}
 use Rattle.format.specs.Laws.Permits.{AllPermitted}
@@ -41,7 +41,7 @@ pub record Sound (k : Kind) (p : Program Plain) : Type 0 where
   pub threads : Within (limits k .fewest) (limits k .threads) (length (p .mains))
   -- 3: the records; each main, and procedure 0 of a sequential program, is there and has no parameters
   pub locals : Each (LocalsRight (limits k .locals)) (p .procs)
-  pub sizes : Each (Within 1 256) (p .sizes)
+  pub sizes : Each (Within 1 maxSize) (p .sizes)
   pub cells : sum (p .sizes) ≤ limits k .cells
   pub mains : Each (λ m. Takes (p .procs) m 0) (starts k (p .mains))
   -- 4: the bodies: nothing is too deep, and each instruction is allowed where it stands

@@ -19,6 +19,7 @@ use Rattle.format.specs.Laws.Sections.{HeadFits, TrailerFits}
 use Rattle.format.specs.Laws.Sound.{Sound}
 use Rattle.format.specs.Laws.Passes.{formed-trailer, formed-records}
 use Rattle.format.specs.Laws.Accepted.{bodies-fit, sound-formed}
+use Rattle.format.specs.Decode.{maxDepth, maxNesting}
 
 -- bytes, and then bytes
 bytes-append : (xs ys : List ℕ) → Bytes xs → Bytes ys → Bytes (xs ++ ys)
@@ -70,7 +71,7 @@ mutual
   instr-bytes (call m es) h = (
     omega arith,
     bytes-append (bytes 2 m) (length es ∷ each E.expr es) (bytes-bytes 2 m)
-        (h .1, bytes-each E.expr (ExprFits 16) (λ e f. expr-bytes e (f .1)) es (h .2)),
+        (h .1, bytes-each E.expr (ExprFits maxDepth) (λ e f. expr-bytes e (f .1)) es (h .2)),
   )
   instr-bytes (atomic b) h = (omega arith, block-bytes b h)
   instr-bytes (select a b) h = (omega arith, bytes-append (bytes 2 a) (bytes 2 b) (bytes-bytes 2 a) (bytes-bytes 2 b))
@@ -93,7 +94,7 @@ table-bytes k p sound =
     let fits : TrailerFits (trailerOf k p) = formed-trailer k (table k p) p (sound-formed k p sound) .fits in
     bytes-append (front p) (E.trailer (trailerOf k p))
     (bytes-append (each E.block (bodiesOf (p .procs))) (E.middle (middleOf p))
-    (bytes-each E.block (BlockFits 16) (λ b f. block-bytes b (f .1)) (bodiesOf (p .procs)) (bodies-fit k p sound))
+    (bytes-each E.block (BlockFits maxNesting) (λ b f. block-bytes b (f .1)) (bodiesOf (p .procs)) (bodies-fit k p sound))
     (bytes-append (each E.head (middleOf p .heads)) (each (bytes 2) (p .sizes) ++ each (bytes 2) (p .mains))
     (bytes-each E.head HeadFits (λ h f. (f .0, (f .1, bytes-bytes 4 (h .at)))) (middleOf p .heads)
     (formed-records k (table k p) p (sound-formed k p sound) .fits .heads .1))

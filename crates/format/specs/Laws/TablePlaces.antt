@@ -9,7 +9,8 @@ use Rattle.value.specs.Values.{bytes}
 use Rattle.value.specs.Lists.{at}
 use Rattle.value.specs.Laws.Maybes.{is-inj, missing}
 use Rattle.format.specs.Syntax.{Proc, Program, Kind}
-use Rattle.format.specs.Encode.{each, head, heads, middleOf, bodiesOf, block, front, Trailer, trailer, trailerOf, table, distance}
+use Rattle.format.specs.Encode.{each, head, heads, middleOf, bodiesOf, block, front, Trailer, trailer, trailerOf, table, distance, recordSize}
+use Rattle.format.specs.Encode.{trailerSize}
 use Rattle.format.specs.Laws.Sections.{length-each, length-middle}
 use Rattle.format.specs.Laws.Heads.{length-heads}
 use Rattle.format.specs.Laws.Stands.{Stands, others, whole, front as left, back as right}
@@ -97,9 +98,9 @@ module _ {A : Type 0} (k : Kind) (p : Program A) {t : List ℕ} (e : t ≡ table
   middle-stands = at-position (right bodies (records ++ numbers) front-stands) (omega arith) refl
 
   -- the sizes and the mains
-  numbers-stand : Stands t (recordsAt p + 6 * P) numbers (length (front p))
+  numbers-stand : Stands t (recordsAt p + recordSize * P) numbers (length (front p))
   numbers-stand =
-      let long : length records ≡ 6 * length (heads 0 (p .procs)) = length-each head 6 (λ h. refl) (heads 0 (p .procs)) in
+      let long : length records ≡ recordSize * length (heads 0 (p .procs)) = length-each head recordSize (λ h. refl) (heads 0 (p .procs)) in
       at-position (right records numbers middle-stands) (omega (arith, length-heads 0 (p .procs))) refl
 
   -- the bodies, up to the records
@@ -113,35 +114,36 @@ module _ {A : Type 0} (k : Kind) (p : Program A) {t : List ℕ} (e : t ≡ table
 
   -- its record: parameters, locals, and where its body begins
   pub record-stands : (m : ℕ) {q : Proc A} → at (p .procs) m ≡ is q
-      → Stands t (recordsAt p + 6 * m) (q .params ∷ q .locals ∷ bytes 4 (bodyAt (p .procs) m)) (recordsAt p + 6 * m + 6)
+      → Stands t (recordsAt p + recordSize * m) (q .params ∷ q .locals ∷ bytes 4 (bodyAt (p .procs) m)) (recordsAt p + recordSize * m + recordSize)
   record-stands m {q} h =
       let far : 0 + bodyAt (p .procs) m ≡ bodyAt (p .procs) m = omega arith in
-      rw far at (nth-stands head 6 (λ h. refl) (heads 0 (p .procs)) m (left records numbers middle-stands) (heads-at 0 (p .procs) m h))
+      rw far at (nth-stands head recordSize (λ h. refl) (heads 0 (p .procs)) m (left records numbers middle-stands) (heads-at 0 (p .procs) m h))
 
   -- the size of location n
-  pub size-stands : (n : ℕ) {s : ℕ} → at (p .sizes) n ≡ is s → Stands t (recordsAt p + 6 * P + 2 * n) (bytes 2 s) (recordsAt p + 6 * P + 2 * n + 2)
+  pub size-stands : (n : ℕ) {s : ℕ} → at (p .sizes) n ≡ is s
+      → Stands t (recordsAt p + recordSize * P + 2 * n) (bytes 2 s) (recordsAt p + recordSize * P + 2 * n + 2)
   size-stands n h = nth-stands (bytes 2) 2 (λ n. refl) (p .sizes) n (left (each (bytes 2) (p .sizes)) (each (bytes 2) (p .mains)) numbers-stand) h
 
   -- the main of thread n
   pub main-stands : (n : ℕ) {m : ℕ} → at (p .mains) n ≡ is m
-      → Stands t (recordsAt p + 6 * P + 2 * M + 2 * n) (bytes 2 m) (recordsAt p + 6 * P + 2 * M + 2 * n + 2)
+      → Stands t (recordsAt p + recordSize * P + 2 * M + 2 * n) (bytes 2 m) (recordsAt p + recordSize * P + 2 * M + 2 * n + 2)
   main-stands n h =
       let long : length (each (bytes 2) (p .sizes)) ≡ 2 * M = length-each (bytes 2) 2 (λ n. refl) (p .sizes) in
-      let mains : Stands t (recordsAt p + 6 * P + 2 * M) (each (bytes 2) (p .mains)) (length (front p)) =
+      let mains : Stands t (recordsAt p + recordSize * P + 2 * M) (each (bytes 2) (p .mains)) (length (front p)) =
       at-position (right (each (bytes 2) (p .sizes)) (each (bytes 2) (p .mains)) numbers-stand) (omega arith) refl
       in
       nth-stands (bytes 2) 2 (λ n. refl) (p .mains) n mains h
 
   -- "Last a 16-byte trailer"
-  pub length-table : length t ≡ length (front p) + 16
+  pub length-table : length t ≡ length (front p) + trailerSize
   length-table = ap length e ∙ length-append (front p) (trailer (trailerOf k p))
 
   -- it stands at the end
-  pub trailer-stands : Stands t (length t - 16) (trailer (trailerOf k p)) (length t)
+  pub trailer-stands : Stands t (length t - trailerSize) (trailer (trailerOf k p)) (length t)
   trailer-stands = at-position (right (front p) (trailer (trailerOf k p)) (whole e)) (omega (arith, length-table)) refl
 
   -- it begins behind the mains
-  pub trailer-at : length t - 16 ≡ recordsAt p + distance (length (p .procs)) (length (p .sizes)) (length (p .mains))
+  pub trailer-at : length t - trailerSize ≡ recordsAt p + distance (length (p .procs)) (length (p .sizes)) (length (p .mains))
   trailer-at = omega (arith, length-table, length-append bodies (records ++ numbers), length-middle (middleOf p), length-heads 0 (p .procs))
 
   -- ---- the fields of the trailer

@@ -14,6 +14,7 @@ use Rattle.value.specs.Laws.Lists.{Each}
 use Rattle.format.specs.Syntax.{Expr, constant, local, one, two}
 use Rattle.format.specs.Variables.{mentioned, mentions, keep, variables, flags, joined}
 use Rattle.format.specs.Laws.Names.{InRange}
+use Rattle.format.specs.Rules.{maxLocals}
 
 -- ---- rows of flags
 
@@ -24,11 +25,11 @@ map-upto f s (suc n) zero d h = ap f (omega arith)
 map-upto f s (suc n) (suc x) d h = map-upto f (suc s) n x d (omega arith) ∙ ap f (omega arith)
 
 -- the flag of x
-pub flag-at : (f : ℕ → Bool) (x : ℕ) (d : Bool) → x < 16 → getD (flags f) x d ≡ f x
-flag-at f x d h = map-upto f 0 16 x d h ∙ ap f (omega arith)
+pub flag-at : (f : ℕ → Bool) (x : ℕ) (d : Bool) → x < maxLocals → getD (flags f) x d ≡ f x
+flag-at f x d h = map-upto f 0 maxLocals x d h ∙ ap f (omega arith)
 
 -- a row is known by its flags
-pub row-is : (f : ℕ → Bool) (row : List Bool) → length row ≡ 16 → ((x : ℕ) → x < 16 → getD row x false ≡ f x) → row ≡ flags f
+pub row-is : (f : ℕ → Bool) (row : List Bool) → length row ≡ maxLocals → ((x : ℕ) → x < maxLocals → getD row x false ≡ f x) → row ≡ flags f
 row-is f row l h = ext-getD false row (flags f) l (λ x k. h x (omega arith) ∙ sym (flag-at f x false (omega arith)))
 
 -- two rows together
@@ -41,7 +42,7 @@ joined-flags f g =
 -- ---- rows of several expressions
 
 -- of none
-pub flags-none : replicate 16 false ≡ flags (λ x. mentions x [])
+pub flags-none : replicate maxLocals false ≡ flags (λ x. mentions x [])
 flags-none = refl
 
 -- of one
@@ -60,7 +61,7 @@ chosen row x zero = []
 chosen row x (suc n) = keep (getD row x false) x (chosen row (suc x) n)
 
 -- they are those that the expressions mention
-pub chosen-variables : (es : List Expr) (x n : ℕ) → x + n ≤ 16 → chosen (flags (λ y. mentions y es)) x n ≡ variables x n es
+pub chosen-variables : (es : List Expr) (x n : ℕ) → x + n ≤ maxLocals → chosen (flags (λ y. mentions y es)) x n ≡ variables x n es
 chosen-variables es x zero h = refl
 chosen-variables es x (suc n) h = rw (flag-at (λ y. mentions y es) x false (omega arith), chosen-variables es (suc x) n (omega arith))
 
@@ -90,8 +91,8 @@ some-beyond X M es x (suc n) k i h =
     let same : suc n + k ≡ suc (n + k) = omega arith in
     rw (same, some-beyond X M es (suc x) n k i (omega arith))
 
--- all sixteen flags give those of the procedure's locals
-pub variables-sixteen : (X M : ℕ) (es : List Expr) → Each (InRange X M) es → X ≤ 16 → variables 0 16 es ≡ variables 0 X es
-variables-sixteen X M es i h =
-    let same : 16 ≡ X + (16 - X) = omega arith in
-    ap (λ (n : ℕ). variables 0 n es) same ∙ some-beyond X M es 0 X (16 - X) i (omega arith)
+-- all flags together give those of the procedure's locals
+pub variables-most : (X M : ℕ) (es : List Expr) → Each (InRange X M) es → X ≤ maxLocals → variables 0 maxLocals es ≡ variables 0 X es
+variables-most X M es i h =
+    let same : maxLocals ≡ X + (maxLocals - X) = omega arith in
+    ap (λ (n : ℕ). variables 0 n es) same ∙ some-beyond X M es 0 X (maxLocals - X) i (omega arith)

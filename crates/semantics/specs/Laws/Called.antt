@@ -1,19 +1,17 @@
--- What the run calls leave: buffers of the same length, with 5 bytes for each cell and 11 for each event.
+-- What the run calls leave: buffers of the same length, with the bytes of each cell and of each event.
 use Prim.Native.Nat.{ℕ, _*_, _/_, _≤_, _<_}
 use native.Mathlib.Omega.{arith}
 use mathlib.Core.Path.{_≡_, refl, sym, ap, _∙_}
 use mathlib.Core.Logic.{_↔_}
 use mathlib.Core.List.{List, [], _∷_}
-use mathlib.Core.Bool.{true, false}
 use lib.ListN.{length, take, length-append, length-take}
 use borrow.Author.Tests.{leb-true, leb-false, le-leb, lt-leb}
 use Rattle.value.specs.Lists.{sum}
-use Rattle.value.specs.Values.{cellBytes}
-use Rattle.value.specs.declared.Value.{Value}
-use Rattle.value.specs.declared.Value.the-variants.{Whole, Location, Truth}
+use Rattle.value.specs.Values.{cellBytes, cellSize}
 use Rattle.value.specs.Laws.Tests.{Decides, never, by-test, _and_, le?, lt?}
 use Rattle.value.specs.Laws.Lists.{Each, all?, length-over}
 use Rattle.value.specs.Laws.Bytes.{Bytes}
+use Rattle.value.specs.Laws.Cells.{cell-parts, length-cell}
 use Rattle.format.specs.Syntax.{Program, Plain, Kind, concurrent, sequential}
 use Rattle.format.specs.Encode.{each}
 use Rattle.format.specs.Labels.{labelled}
@@ -24,7 +22,7 @@ use Rattle.semantics.specs.Memory.{Memory, Event}
 use Rattle.semantics.specs.Threads.{End}
 use Rattle.semantics.specs.Threads as P
 use Rattle.semantics.specs.Copy as C
-use Rattle.semantics.specs.Buffers.{cellSize, cells, eventSize, eventBytes, log}
+use Rattle.semantics.specs.Buffers.{cells, eventSize, eventBytes, log}
 use Rattle.semantics.specs.Calls.{Outcome, result, maxEntries, scheduled, roomy, runAs}
 use Rattle.semantics.specs.Calls.{concurrentRun, concurrentOutcome, concurrentCall, sequentialRun, sequentialOutcome, sequentialCall}
 use Rattle.semantics.specs.Laws.Cells.{shape, shape-fresh}
@@ -32,41 +30,28 @@ use Rattle.semantics.specs.Laws.Shapes.{run-shape, copy-shape}
 
 -- ---- lengths
 
--- a value has five bytes
-pub length-cell : (v : Value) → length (cellBytes v) ≡ cellSize
-length-cell (Whole z) = refl
-length-cell (Location l) = refl
-length-cell (Truth true) = refl
-length-cell (Truth false) = refl
-
--- memory has five for each cell
+-- memory has the bytes of a value for each cell
 pub length-cells : (η : Memory) → length (cells η) ≡ cellSize * sum (shape η)
 length-cells [] = refl
 length-cells (row ∷ η) =
     omega (
       arith,
       length-append (each cellBytes row) (cells η),
-      length-each cellBytes 5 length-cell row,
+      length-each cellBytes cellSize length-cell row,
       length-cells η,
     )
 
--- an event has eleven
+-- an event has as many as is said
 pub length-event : (e : Event) → length (eventBytes e) ≡ eventSize
-length-event e = by (e .value)
-  where
-    by : (v : Value) → length (e .thread ∷ 0 ∷ 0 ∷ 0 ∷ 0 ∷ 0 ∷ cellBytes v) ≡ eventSize
-    by (Whole z) = refl
-    by (Location l) = refl
-    by (Truth true) = refl
-    by (Truth false) = refl
+length-event e = rw (cell-parts (e .value))
 
 -- those that are written fit
 pub length-log : (room : ℕ) (evs : List Event) → length (log room evs) ≤ room
 length-log room evs =
     omega (
       arith,
-      length-each eventBytes 11 length-event (take (room / 11) evs),
-      length-take (room / 11) evs,
+      length-each eventBytes eventSize length-event (take (room / eventSize) evs),
+      length-take (room / eventSize) evs,
     )
 
 -- ---- the calls

@@ -20,6 +20,7 @@ use Rattle.format.specs.Laws.SetFirst.{set-first?}
 use Rattle.format.specs.Laws.Sound.{Sound}
 use Rattle.format.specs.Laws.Accepted.{accepted-of, accepted-exactly}
 use Rattle.format.specs.Laws.Procs.{takes-at, ProcSound, proc-sound}
+use Rattle.format.specs.Decode.{maxNesting}
 use Rattle.translation.specs.Layout.{layout, sizes}
 use Rattle.translation.specs.Translate.{each, simulations, interleavings, endsOf, begins, zeroth, later, translate}
 use Rattle.translation.specs.Laws.Right.{Right}
@@ -120,7 +121,7 @@ module _ (q : Program Plain) (sound : Sound concurrent q) where
       main m e = let found : Callee (translate q) (layout q) (begins q) m 0 = callee m 0 e in record { from = found .from; start = found .start }
 
   -- so it is right
-  first-right : Right (translate q) 4 top After 16 (λ x. ltb x 0) (interleavings (layout q) (begins q) (q .mains) (counts (q .procs)))
+  first-right : Right (translate q) 4 top After maxNesting (λ x. ltb x 0) (interleavings (layout q) (begins q) (q .mains) (counts (q .procs)))
   first-right = interleavings-right stage (q .mains) mains-right (omega (arith, sound .threads .high)) (omega arith) (λ x. ltb x 0)
 
   -- ---- all together

@@ -9,13 +9,14 @@ use lib.Dec.{ltb}
 use Rattle.value.specs.Laws.Lists.{Each, each-append}
 use Rattle.format.specs.Syntax.{Expr, Instr, assign, write, read, while, if, call, atomic, select, Block, end, step, Proc, Program, Plain}
 use Rattle.format.specs.Labels.{count, countI, tag, tagI, label, labelI, first}
-use Rattle.format.specs.Rules.{Here, Known, named}
+use Rattle.format.specs.Rules.{Here, Known, named, maxLocals}
 use Rattle.format.specs.Laws.Names.{Takes, InRange, Names, NamesI}
 use Rattle.format.specs.Laws.Depths.{ExprRight, nesting, nestingI, ExprsRight, ExprsRightI}
 use Rattle.format.specs.Laws.Blocks.{nesting-pos}
 use Rattle.format.specs.Laws.Sets.{and-more}
+use Rattle.format.specs.Decode.{maxNesting}
 use Rattle.translation.specs.Layout.{Layout}
-use Rattle.translation.specs.Code.{tid, pc, inside, insideI, code}
+use Rattle.translation.specs.Code.{tid, moved, pc, inside, insideI, code}
 use Rattle.translation.specs.Translate.{simulating, heldBy, each}
 use Rattle.translation.specs.Laws.Right.{Right, end-right, if-right}
 use Rattle.translation.specs.Laws.Pieces.{Source, Scene, Fine, Follows}
@@ -25,9 +26,9 @@ use Rattle.translation.specs.Laws.Pieces.{calls-right}
 -- a procedure of the copy that simulates a label, right wherever it stands
 pub record Simulates (p : Program Plain) (f : Proc Plain) : Type 0 where
   pub params : f .params ≡ 1
-  pub few : f .locals ≤ 19
+  pub few : f .locals ≤ moved maxLocals
   pub enough : 1 ≤ f .locals
-  pub body : (here : Here) → Right p (f .locals) here (λ c. ⊥) 16 (λ x. ltb x (f .params)) (f .body)
+  pub body : (here : Here) → Right p (f .locals) here (λ c. ⊥) maxNesting (λ x. ltb x (f .params)) (f .body)
 
 -- an expression of the source
 source : {n M : ℕ} (e : Expr) → ExprRight e → InRange n M e → Source n M e
@@ -83,14 +84,14 @@ module _ (q : Program Plain) {p : Program Plain} {here : Here} {G : Layout} {m n
 
   -- each instruction of the source
   code-right : (begin : ℕ → ℕ) → ((c a : ℕ) → Takes (q .procs) c a → Callee p G begin c a)
-      → (i : Instr Plain) (l k : ℕ) {s : Known} → s tid ≡ true → ExprsRightI i → NamesI q n i → nestingI i < 16 → l + countI i < 2 ^ 31 → k < 2 ^ 31
-      → Fine p here n 16 s (code G m n begin l (labelI l i) k)
+      → (i : Instr Plain) (l k : ℕ) {s : Known} → s tid ≡ true → ExprsRightI i → NamesI q n i → nestingI i < maxNesting → l + countI i < 2 ^ 31 → k < 2 ^ 31
+      → Fine p here n maxNesting s (code G m n begin l (labelI l i) k)
   code-right begin callee (assign x e) l k set f i h j o =
-      insideI-right (assign x e) l 16 (pc G m n k) set f i h (λ u t. pc-right scene (t tid set) k o (omega arith))
+      insideI-right (assign x e) l maxNesting (pc G m n k) set f i h (λ u t. pc-right scene (t tid set) k o (omega arith))
   code-right begin callee (write y o e) l k set f i h j z =
-      insideI-right (write y o e) l 16 (pc G m n k) set f i h (λ u t. pc-right scene (t tid set) k z (omega arith))
+      insideI-right (write y o e) l maxNesting (pc G m n k) set f i h (λ u t. pc-right scene (t tid set) k z (omega arith))
   code-right begin callee (read x y o) l k set f i h j z =
-      insideI-right (read x y o) l 16 (pc G m n k) set f i h (λ u t. pc-right scene (t tid set) k z (omega arith))
+      insideI-right (read x y o) l maxNesting (pc G m n k) set f i h (λ u t. pc-right scene (t tid set) k z (omega arith))
   code-right begin callee (while e b) l k set f i h j o =
       tests-right scene set e (first l (label (suc l) b)) k (source e (f .0) (i .0)) (first-below (2 ^ 31) l (suc l) b (omega arith) (omega arith)) o
       (omega arith)
@@ -105,7 +106,7 @@ module _ (q : Program Plain) {p : Program Plain} {here : Here} {G : Layout} {m n
       sources [] f i = tt
       sources (e ∷ es) f i = (source e (f .0) (i .0), sources es (f .1) (i .1))
   code-right begin callee (atomic b) l k set f i h j o =
-      inside-right b l 16 (pc G m n k) set f i (omega arith) (λ u t. pc-right scene (t tid set) k o (omega arith))
+      inside-right b l maxNesting (pc G m n k) set f i (omega arith) (λ u t. pc-right scene (t tid set) k o (omega arith))
   code-right begin callee (select a b) l k set f i h j o = end-right (omega arith)
 
 -- ---- the procedures of a block's labels
@@ -113,12 +114,12 @@ module _ (q : Program Plain) {p : Program Plain} {here : Here} {G : Layout} {m n
 module _ (q : Program Plain) {p : Program Plain} {G : Layout} {m n : ℕ} (scene : Scene p G m n (length (q .sizes)))
     (begin : ℕ → ℕ) (callee : (c a : ℕ) → Takes (q .procs) c a → Callee p G begin c a) where
   -- code that is right everywhere makes such a procedure
-  pub simulates : (b : Block Plain) → ((here : Here) → Fine p here n 16 (λ x. ltb x 1) b) → Simulates p (simulating n b)
+  pub simulates : (b : Block Plain) → ((here : Here) → Fine p here n maxNesting (λ x. ltb x 1) b) → Simulates p (simulating n b)
   simulates b r = record { params = refl; few = omega (arith, scene .few); enough = omega arith; body = r }
 
   mutual
     -- of an instruction
-    heldBy-right : (i : Instr Plain) (l k : ℕ) → ExprsRightI i → NamesI q n i → nestingI i < 16 → l + countI i < 2 ^ 31 → k < 2 ^ 31
+    heldBy-right : (i : Instr Plain) (l k : ℕ) → ExprsRightI i → NamesI q n i → nestingI i < maxNesting → l + countI i < 2 ^ 31 → k < 2 ^ 31
         → Each (Simulates p) (heldBy G begin m n (labelI l i) l k)
     heldBy-right (assign x e) l k f i h j o = tt
     heldBy-right (write y z e) l k f i h j o = tt
@@ -134,7 +135,7 @@ module _ (q : Program Plain) {p : Program Plain} {G : Layout} {m n : ℕ} (scene
     heldBy-right (select a b) l k f i h j o = tt
 
     -- of a block
-    pub each-right : (b : Block Plain) (l k : ℕ) → ExprsRight b → Names q n b → nesting b ≤ 16 → l + count b < 2 ^ 31 → k < 2 ^ 31
+    pub each-right : (b : Block Plain) (l k : ℕ) → ExprsRight b → Names q n b → nesting b ≤ maxNesting → l + count b < 2 ^ 31 → k < 2 ^ 31
         → Each (Simulates p) (each G begin m n (label l b) k)
     each-right end l k f i h j o = tt
     each-right (step a t b) l k f i h j o =

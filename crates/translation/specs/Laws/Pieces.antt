@@ -8,7 +8,7 @@ use lib.ListN.{length}
 use Rattle.value.specs.Laws.Tests.{either-left, either-right}
 use Rattle.value.specs.Laws.Lists.{Each, each-so}
 use Rattle.format.specs.Syntax.{Expr, local, Block, end, Program, Plain}
-use Rattle.format.specs.Rules.{Here, Known, with, known}
+use Rattle.format.specs.Rules.{Here, Known, with, known, maxLocals}
 use Rattle.format.specs.Laws.Names.{InRange}
 use Rattle.format.specs.Laws.Depths.{depth, WholesRight, ExprRight}
 use Rattle.format.specs.Laws.Sets.{_⊆_, and-more, set-there, set-more, known-more}
@@ -27,7 +27,7 @@ pub record Source (n M : ℕ) (e : Expr) : Type 0 where
 
 -- procedure m of the source has n locals, and their locations are in the copy p
 pub record Scene (p : Program Plain) (G : Layout) (m n M : ℕ) : Type 0 where
-  pub few : n ≤ 16
+  pub few : n ≤ maxLocals
   pub more : M ≤ length (p .sizes)
   pub pct : G .pct < length (p .sizes)
   pub from : G .from m < length (p .sizes)

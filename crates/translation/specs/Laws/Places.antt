@@ -8,8 +8,9 @@ use lib.ListN.{length, length-append, replicate, length-replicate}
 use Rattle.value.specs.Maybe.{is}
 use Rattle.value.specs.Lists.{at, sum}
 use Rattle.value.specs.Laws.Lists.{at-below, Each, each-append}
-use Rattle.format.specs.Syntax.{Proc, Program, Plain, concurrent}
+use Rattle.format.specs.Syntax.{Proc, Program, Plain, concurrent, sequential}
 use Rattle.format.specs.Laws.Sound.{Sound, Within}
+use Rattle.format.specs.Rules.{limits, maxSize, maxLocals}
 use Rattle.translation.specs.Layout.{layout, before, sizes}
 use Rattle.translation.specs.Laws.Procs.{before-at, before-most}
 
@@ -47,30 +48,34 @@ module _ (q : Program Plain) where
     home-in x h = omega (arith, places-count, before-at (q .procs) m e)
 
   module _ (sound : Sound concurrent q) where
+    -- pct, and for each procedure a "from" and its locals
+    abbrev newMost : ℕ
+    newMost = 1 + limits concurrent .procs * suc maxLocals
+
     -- there are not too many
-    new-most : new q ≤ 273
-    new-most = omega (arith, sound .procs .high, before-most 16 (q .procs) (sound .locals))
+    new-most : new q ≤ newMost
+    new-most = omega (arith, sound .procs .high, before-most maxLocals (q .procs) (sound .locals))
 
     -- all locations
-    pub places-most : length (sizes q) ≤ 512
+    pub places-most : length (sizes q) ≤ limits sequential .places
     places-most = omega (arith, places-count, sound .places, new-most)
 
     -- each size is right
-    pub sizes-right : Each (Within 1 256) (sizes q)
+    pub sizes-right : Each (Within 1 maxSize) (sizes q)
     sizes-right =
-        each-append (Within 1 256) (q .sizes) _ (sound .sizes) (
+        each-append (Within 1 maxSize) (q .sizes) _ (sound .sizes) (
           omega arith,
-          each-replicate (Within 1 256) (new q) (length (q .mains))
+          each-replicate (Within 1 maxSize) (new q) (length (q .mains))
               (record { low = sound .threads .low; high = omega (arith, sound .threads .high) }),
         )
 
     -- and so are all together
-    pub cells-right : sum (sizes q) ≤ 8192
+    pub cells-right : sum (sizes q) ≤ limits sequential .cells
     cells-right =
         omega (
           arith,
           sum-append (q .sizes) (1 ∷ replicate (new q) (length (q .mains))),
           sum-replicate (new q) (length (q .mains)),
-          mul-le-mul {n₁ = new q} {m₁ = length (q .mains)} {n₂ = 273} {m₂ = 8} new-most (sound .threads .high),
+          mul-le-mul {n₁ = new q} {m₁ = length (q .mains)} {n₂ = newMost} {m₂ = limits concurrent .threads} new-most (sound .threads .high),
           sound .cells,
         )

@@ -10,7 +10,7 @@ use Rattle.value.specs.declared.Value.the-variants.{Truth}
 use Rattle.value.specs.Laws.Tests.{pass-both}
 use Rattle.value.specs.Laws.Lists.{Each}
 use Rattle.format.specs.Syntax.{Expr, constant, local, two, assign, write, read, Block, end, Program, Plain, sequential}
-use Rattle.format.specs.Rules.{Here, Known, with}
+use Rattle.format.specs.Rules.{Here, Known, with, maxLabels}
 use Rattle.format.specs.Laws.Names.{Takes}
 use Rattle.format.specs.Laws.Sets.{_⊆_, and-more, set-there, set-more}
 use Rattle.translation.specs.Layout.{Layout}
@@ -28,7 +28,7 @@ top = record { kind = sequential; proc = 0; inside = false }
 pub record Stage (p : Program Plain) (G : Layout) (begin : ℕ → ℕ) (L : ℕ) : Type 0 where
   pub ptid : G .ptid < length (p .sizes)
   pub pct : G .pct < length (p .sizes)
-  pub labels : L ≤ 400
+  pub labels : L ≤ maxLabels
   pub callee : (l : ℕ) → 1 ≤ l → l ≤ L → Takes (p .procs) l 1
 
 -- a main: its "from" is a location, and its beginning a label

@@ -13,11 +13,12 @@ use Rattle.value.specs.Laws.Lists.{Each, each-so, all-pass, each-in}
 use Rattle.format.specs.Syntax.{Block, end, step, Proc, Program, Plain, sequential}
 use Rattle.format.specs.Encode.{bodiesOf}
 use Rattle.format.specs.Labels.{count, counts, label, labels, first, endOf}
-use Rattle.format.specs.Rules.{Here, allAllowed, after, callees, calleesOf}
+use Rattle.format.specs.Rules.{Here, allAllowed, after, callees, calleesOf, limits}
 use Rattle.format.specs.Laws.Names.{Takes, Names}
 use Rattle.format.specs.Laws.Depths.{BodyRight}
 use Rattle.format.specs.Laws.Calls.{Calls, Reaches, direct, onward}
 use Rattle.format.specs.Laws.Sound.{LocalsRight}
+use Rattle.format.specs.Decode.{maxNesting}
 use Rattle.translation.specs.Layout.{Layout}
 use Rattle.translation.specs.Code.{returns}
 use Rattle.translation.specs.Translate.{simulating, each, simulations, bodyOf}
@@ -69,14 +70,14 @@ module _ (p : Program Plain) where
   takes-one (f ∷ fs) (suc l) h room = takes-one fs l (h .1) (omega arith)
 
   -- their locals are few
-  pub locals-right : (fs : List (Proc Plain)) → Each (Simulates p) fs → Each (LocalsRight 32) fs
+  pub locals-right : (fs : List (Proc Plain)) → Each (Simulates p) fs → Each (LocalsRight (limits sequential .locals)) fs
   locals-right = each-so (λ f h. record { params = omega (arith, h .params, h .enough); locals = omega (arith, h .few) })
 
   -- nothing is too deep
   pub bodies-right : (fs : List (Proc Plain)) → Each (Simulates p) fs → Each BodyRight (bodiesOf fs)
   bodies-right [] h = tt
   bodies-right (f ∷ fs) h =
-      let r : Right p (f .locals) somewhere (λ c. ⊥) 16 (λ x. ltb x (f .params)) (f .body) = h .0 .body somewhere in
+      let r : Right p (f .locals) somewhere (λ c. ⊥) maxNesting (λ x. ltb x (f .params)) (f .body) = h .0 .body somewhere in
       (record { deep = r .deep; exprs = r .exprs }, bodies-right fs (h .1))
 
   -- each instruction is allowed

@@ -11,7 +11,7 @@ use lib.Signed.{mag}
 use lib.Dec.{eqb, ltb}
 use borrow.Author.Tests.{eqb-true, ne-eqb, ltb-true, lt-ltb, le-leb}
 use Rattle.value.specs.Maybe.{is, nothing, pick}
-use Rattle.value.specs.Values.{bytes, unbytes, cellBytes, cellKind, cellNumber, valueOf, unCell, numberAt, withValue}
+use Rattle.value.specs.Values.{bytes, unbytes, cellBytes, cellKind, cellNumber, valueOf, unCell, numberAt, withValue, cellSize}
 use Rattle.value.specs.Laws.Maybes.{is-inj, missing, when-is}
 use Rattle.value.specs.Laws.Tests.{by-test}
 use Rattle.value.specs.Laws.Bytes.{Bytes, bytes-unbytes, unbytes-bytes, unbytes-fits, word-fits, unword-word, word-unword, number-at}
@@ -32,7 +32,7 @@ cell-parts (Truth false) = refl
 cell-parts (Truth true) = refl
 
 -- they are five
-pub length-cell : (v : Value) → length (cellBytes v) ≡ 5
+pub length-cell : (v : Value) → length (cellBytes v) ≡ cellSize
 length-cell v = rw (cell-parts v)
 
 -- the number fits four bytes
@@ -99,16 +99,16 @@ cell-unCell (k ∷ bs) {v} h e =
 -- ---- at a place
 
 -- the value at a place is that of the kind byte and the number there
-pub cell-at : (t : List ℕ) (i : ℕ) → i + 5 ≤ length t → unCell (take 5 (drop i t)) ≡ valueOf (getD t i 0) (numberAt 4 t (i + 1))
+pub cell-at : (t : List ℕ) (i : ℕ) → i + cellSize ≤ length t → unCell (take cellSize (drop i t)) ≡ valueOf (getD t i 0) (numberAt 4 t (i + 1))
 cell-at t i h =
     let long : 4 ≤ length (drop (suc i) t) = rw (length-drop (suc i) t) (omega arith) in
     rw (drop-cons t i 0 (omega arith), length-take-le 4 (drop (suc i) t) long, number-at 4 t (i + 1), add-one i)
 
 -- where five bytes do not stand there is none
-pub cell-cut : (t : List ℕ) (i : ℕ) → length t < i + 5 → nothing ≡ unCell (take 5 (drop i t))
+pub cell-cut : (t : List ℕ) (i : ℕ) → length t < i + cellSize → nothing ≡ unCell (take cellSize (drop i t))
 cell-cut t i h = short (drop i t) (rw (length-drop i t) (omega arith))
   where
-    short : (bs : List ℕ) → length bs < 5 → nothing ≡ unCell (take 5 bs)
+    short : (bs : List ℕ) → length bs < cellSize → nothing ≡ unCell (take cellSize bs)
     short [] h = refl
     short (k ∷ bs) h =
         let few : length bs ≤ 4 = omega arith in
@@ -116,15 +116,15 @@ cell-cut t i h = short (drop i t) (rw (length-drop i t) (omega arith))
         rw (take-all 4 bs few, ne-eqb (length bs) 4 other)
 
 -- what was written at a place is read there
-pub read-written : (o : List ℕ) (i : ℕ) (v : Value) → Held v → i + 5 ≤ length o → unCell (take 5 (drop i (withValue o i v))) ≡ is v
+pub read-written : (o : List ℕ) (i : ℕ) (v : Value) → Held v → i + cellSize ≤ length o → unCell (take cellSize (drop i (withValue o i v))) ≡ is v
 read-written o i v h fits =
     let long : i + length (cellBytes v) ≤ length o = rw (length-cell v) fits in
     let rest : List ℕ = drop (i + length (cellBytes v)) o in
     rw (
-      le-leb (i + 5) (length o) fits,
+      le-leb (i + cellSize) (length o) fits,
       sets-eq (cellBytes v) o i long,
       append-assoc (take i o) (cellBytes v) rest,
       drop-at (take i o) (cellBytes v ++ rest) i (length-take-le i o (omega arith)),
-      take-at (cellBytes v) rest 5 (length-cell v),
+      take-at (cellBytes v) rest cellSize (length-cell v),
     )
     (unCell-cell v h)
