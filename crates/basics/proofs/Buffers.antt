@@ -8,7 +8,7 @@ use native.Mathlib.Omega.{arith}
 use lib.ListN.{length, set}
 use lib.Seq.{sets}
 use borrow.Author.Tests.{le-leb, lt-leb}
-use Rattle.value.specs.Values.{bytes, cellKind, cellNumber, room, withValue}
+use Rattle.value.specs.Values.{bytes, cellKind, cellNumber, room, withValue, cellSize}
 use Rattle.value.specs.Laws.Cells.{cell-parts}
 use Rattle.value.specs.declared.Value.{Value}
 
@@ -21,10 +21,10 @@ four-stored o i a b c d =
 
 module _ (o : List ℕ) (i : ℕ) (v : Value) where
   -- what is answered where five bytes do not fit, and the buffer
-  pub no-room : length o < i + 5 → (false ≡ room o i 5) × (o ≡ withValue o i v)
-  no-room h = rw (lt-leb (i + 5) (length o) h) (refl, refl)
+  pub no-room : length o < i + cellSize → (false ≡ room o i cellSize) × (o ≡ withValue o i v)
+  no-room h = rw (lt-leb (i + cellSize) (length o) h) (refl, refl)
 
   -- and where they do, after the kind byte and the number
-  pub stored : {k n : ℕ} {x : List ℕ} → i + 5 ≤ length o → k ≡ cellKind v → n ≡ cellNumber v → x ≡ sets (set o i k) (i + 1) (bytes 4 n)
-      → (true ≡ room o i 5) × (x ≡ withValue o i v)
-  stored h ek en e = rw (le-leb (i + 5) (length o) h, cell-parts v, e, ek, en, add-one i) (refl, refl)
+  pub stored : {k n : ℕ} {x : List ℕ} → i + cellSize ≤ length o → k ≡ cellKind v → n ≡ cellNumber v → x ≡ sets (set o i k) (i + 1) (bytes 4 n)
+      → (true ≡ room o i cellSize) × (x ≡ withValue o i v)
+  stored h ek en e = rw (le-leb (i + cellSize) (length o) h, cell-parts v, e, ek, en, add-one i) (refl, refl)

@@ -1,11 +1,12 @@
 // The five bytes of a value, and numbers of several bytes, low byte first.
+use super::numbers::CELL;
 use value::Answer;
 use value::Value;
 ghost use mathlib.Core.Path.{_≡_};
 ghost use Prim.Native.Nat.{_+_, _*_, _≤_};
 ghost use lib.ListN.{length, getD, take, drop};
 ghost use lib.Seq.{sets};
-ghost use Rattle.value.specs.Values.{given, bytes, word, unword, cellKind, cellNumber, valueOf, unCell, numberAt, room, withValue};
+ghost use Rattle.value.specs.Values.{given, bytes, word, unword, cellKind, cellNumber, valueOf, cellSize, unCell, numberAt, room, withValue};
 
 // A whole number's 32 bits, in two's complement.
 pub fn bits_of(a: i32) -> u32
@@ -139,12 +140,12 @@ pub fn value_of(kind: u8, n: u32) -> Answer
 
 // The value whose five bytes stand at a place.
 pub fn read_value(bytes: &[u8], at: usize) -> Answer
-    ensures { λ r. ⌜ given r ≡ unCell (take 5 (drop at (now (bytes .entry)))) ⌝ }
+    ensures { λ r. ⌜ given r ≡ unCell (take cellSize (drop at (now (bytes .entry)))) ⌝ }
 {
-    if bytes.len() < 5 {
+    if bytes.len() < CELL {
         return Answer::Nothing;
     }
-    if bytes.len() - 5 < at {
+    if bytes.len() - CELL < at {
         return Answer::Nothing;
     }
     value_of(bytes[at], four_bytes(bytes, at + 1))
@@ -166,12 +167,12 @@ fn write_four(out: &mut [u8], at: usize, n: u32)
 
 // A value's five bytes, if all fit: whether they do.
 pub fn write_value(out: &mut [u8], at: usize, v: Value) -> bool
-    ensures { λ r. ⌜ (r ≡ room (now (out .entry)) at 5) × (now (out .exit) ≡ withValue (now (out .entry)) at v) ⌝ }
+    ensures { λ r. ⌜ (r ≡ room (now (out .entry)) at cellSize) × (now (out .exit) ≡ withValue (now (out .entry)) at v) ⌝ }
 {
-    if out.len() < 5 {
+    if out.len() < CELL {
         return false;
     }
-    if out.len() - 5 < at {
+    if out.len() - CELL < at {
         return false;
     }
     out[at] = cell_kind(v);

@@ -10,6 +10,7 @@ use Rattle.value.specs.Maybe.{is, nothing}
 use Rattle.value.specs.Laws.Tests.{by-test}
 use Rattle.format.specs.Syntax.{Expr, Instr, assign, write, read, while, if, call, atomic, select, Block, Plain}
 use Rattle.format.specs.Decode as D
+use Rattle.format.specs.Decode.{maxDepth}
 use Rattle.format.specs.Labels.{count, countI}
 use Rattle.parse.specs.Ends.{endOf, ReadsExpr}
 use Rattle.labels.specs.Walks.{InstrIn, BlockIn, ExprEnds, ExprsEnd, PlainEnds, counted, CountsInstr, CountsBlock}
@@ -35,19 +36,19 @@ ends-at e = cc
 
 module _ {t : List ℕ} {i : ℕ} where
   -- where the reader ends
-  read-ends : {f : Ends} {e : Expr} {j : ℕ} → ReadsExpr t i 16 f → Grammar.ExprAt t i 16 e j → f ≡ At j
+  read-ends : {f : Ends} {e : Expr} {j : ℕ} → ReadsExpr t i maxDepth f → Grammar.ExprAt t i maxDepth e j → f ≡ At j
   read-ends {f} {e} {j} R h =
       let left : length t - length (drop j t) ≡ j = rw length-drop (omega (arith, h .stands .fits)) in
       R .same ∙ ap (endOf t) (expr-read h) ∙ ap At left
 
   -- it does not end before it begins
-  read-forward : {f : Ends} {k : ℕ} → f ≡ At k → ReadsExpr t i 16 f → i ≤ k
+  read-forward : {f : Ends} {k : ℕ} → f ≡ At k → ReadsExpr t i maxDepth f → i ≤ k
   read-forward {f} {k} q R =
       by-test (leb i (length t))
-      (λ some. inside (leb-true i (length t) some) (D.expr 16 (drop i t)) (expr-leaves 16 (drop i t)) (sym q ∙ R .same))
+      (λ some. inside (leb-true i (length t) some) (D.expr maxDepth (drop i t)) (expr-leaves maxDepth (drop i t)) (sym q ∙ R .same))
       (λ past.
       let none : drop i t ≡ [] = drop-of-length-le t {i = i} (omega (arith, leb-false i (length t) past)) in
-      ends-nothing (sym q ∙ R .same ∙ ap (λ (bs : List ℕ). endOf t (D.expr 16 bs)) none))
+      ends-nothing (sym q ∙ R .same ∙ ap (λ (bs : List ℕ). endOf t (D.expr maxDepth bs)) none))
     where
       inside : i ≤ length t → (m : D.Read Expr) → Leaves (drop i t) m → At k ≡ endOf t m → i ≤ k
       inside l nothing n e = ends-nothing e
@@ -57,11 +58,11 @@ module _ {t : List ℕ} {i : ℕ} where
           omega (arith, length-drop i t, rest .few)
 
   -- an expression that was read
-  pub after-read : {f : Ends} {k : ℕ} → f ≡ At k → ReadsExpr t i 16 f → ExprEnds t i k
+  pub after-read : {f : Ends} {k : ℕ} → f ≡ At k → ReadsExpr t i maxDepth f → ExprEnds t i k
   after-read {f} {k} q R = record { forward = read-forward q R; ends = λ e j h. ends-at (sym q ∙ read-ends R h) }
 
   -- none was
-  pub after-none : {f : Ends} → f ≡ Nothing → ReadsExpr t i 16 f → ExprEnds t i i
+  pub after-none : {f : Ends} → f ≡ Nothing → ReadsExpr t i maxDepth f → ExprEnds t i i
   after-none {f} q R = record { forward = omega arith; ends = λ e j h. ends-nothing (sym (sym q ∙ read-ends R h)) }
 
 pub ruleset expr-end-ways = (after-read, after-none)
@@ -169,7 +170,7 @@ module _ {t : List ℕ} {i : ℕ} where
     ends = λ s j h.
         let w = Grammar.write-here h q in
         let same : k ≡ w .k = K .ends (w .o) (w .k) (w .offset) in
-        R .ends (w .e) j (subst (λ (x : ℕ). Grammar.ExprAt t x 16 (w .e) j) (sym same) (w .source));
+        R .ends (w .e) j (subst (λ (x : ℕ). Grammar.ExprAt t x maxDepth (w .e) j) (sym same) (w .source));
   }
 
   -- "22 x y o"
@@ -199,7 +200,7 @@ pub ruleset plain-ways = (count-inside, plain-assign, plain-write, plain-read, p
 -- ---- labels of instructions
 
 -- an expression that ends at k has a byte
-pub expr-after : {t : List ℕ} {i k : ℕ} (e : Expr) {j : ℕ} → ExprEnds t i k → Grammar.ExprAt t i 16 e j → i < k
+pub expr-after : {t : List ℕ} {i k : ℕ} (e : Expr) {j : ℕ} → ExprEnds t i k → Grammar.ExprAt t i maxDepth e j → i < k
 expr-after e {j} K a = omega (arith, K .ends e j a, Grammar.expr-inside a)
 
 module _ {t : List ℕ} {i d : ℕ} where

@@ -40,10 +40,11 @@ put-none h = record { gives = λ k. absurd (omega arith) }
 pub ruleset put-ways = (put-four, put-none)
 
 -- the bounds of a procedure
-pub put-two : {n n′ : List ℕ} {m a b : ℕ} → n′ ≡ set (set n (2 * m) a) (2 * m + 1) b → PutsBounds n m a b n′
+pub put-two : {n n′ : List ℕ} {m a b : ℕ} → n′ ≡ set (set n (2 * m + 0) a) (2 * m + 1) b → PutsBounds n m a b n′
 put-two {m = m} e =
+    let none : 2 * m + 0 ≡ 2 * m = omega arith in
     let one : 2 * m + 1 ≡ suc (2 * m) = omega arith in
-    record { gives = λ h. record { wrote = e ∙ rw one } }
+    record { gives = λ h. record { wrote = e ∙ rw (none, one) } }
 
 -- a procedure that there is no room for
 pub put-no-bounds : {n n′ : List ℕ} {m a b : ℕ} → limits concurrent .procs ≤ m → PutsBounds n m a b n′

@@ -22,27 +22,28 @@ use Rattle.labels.specs.Walks.{arity, Gathers, GathersLeaf, CountsFlags}
 use Rattle.format.specs.Laws.Variables.{flag-at, row-is, joined-flags}
 use Rattle.format.specs.Laws.Stands.{first, others, front, back}
 use Rattle.format.specs.Laws.ExprGrammar.{ExprAt, expr-inside, expr-deep}
+use Rattle.format.specs.Rules.{maxLocals}
 use Rattle.labels.specs.declared.variables.Gathered.{Gathered}
 
 -- ---- one variable
 
 -- a variable below 16
-pub only-low : {x : ℕ} → x < 16 → set (replicate 16 false) x true ≡ flags (λ y. eqb y x)
-only-low {x} h = row-is (λ y. eqb y x) (set (replicate 16 false) x true) refl? at
+pub only-low : {x : ℕ} → x < maxLocals → set (replicate maxLocals false) x true ≡ flags (λ y. eqb y x)
+only-low {x} h = row-is (λ y. eqb y x) (set (replicate maxLocals false) x true) refl? at
   where
-    refl? : length (set (replicate 16 false) x true) ≡ 16
-    refl? = length-set (replicate 16 false) x true
+    refl? : length (set (replicate maxLocals false) x true) ≡ maxLocals
+    refl? = length-set (replicate maxLocals false) x true
 
-    at : (y : ℕ) → y < 16 → getD (set (replicate 16 false) x true) y false ≡ eqb y x
+    at : (y : ℕ) → y < maxLocals → getD (set (replicate maxLocals false) x true) y false ≡ eqb y x
     at y k =
         by-test (eqb y x)
-        (λ e. let same : y ≡ x = eqb-true y x e in rw same (getD-set-same (replicate 16 false) x true false h ∙ sym (eq-eqb x x refl)))
+        (λ e. let same : y ≡ x = eqb-true y x e in rw same (getD-set-same (replicate maxLocals false) x true false h ∙ sym (eq-eqb x x refl)))
         (λ e. let apart : y ≢ x = eqb-false y x e in
-        getD-set-other (replicate 16 false) x y true false apart ∙ getD-replicate 16 y false false k ∙ sym e)
+        getD-set-other (replicate maxLocals false) x y true false apart ∙ getD-replicate maxLocals y false false k ∙ sym e)
 
 -- no other has a flag
-pub only-high : {x : ℕ} → 16 ≤ x → replicate 16 false ≡ flags (λ y. eqb y x)
-only-high {x} h = row-is (λ y. eqb y x) (replicate 16 false) refl (λ y k. getD-replicate 16 y false false k ∙ sym (ne-eqb y x (λ e. omega arith)))
+pub only-high : {x : ℕ} → maxLocals ≤ x → replicate maxLocals false ≡ flags (λ y. eqb y x)
+only-high {x} h = row-is (λ y. eqb y x) (replicate maxLocals false) refl (λ y k. getD-replicate maxLocals y false false k ∙ sym (ne-eqb y x (λ e. omega arith)))
 
 pub ruleset only-ways = (only-low, only-high)
 
@@ -50,17 +51,17 @@ pub ruleset only-ways = (only-low, only-high)
 
 -- the flags below i are joined
 pub record Joining (a b row : List Bool) (i : ℕ) : Type 0 where
-  pub long : length row ≡ 16
-  pub few : i ≤ 16
+  pub long : length row ≡ maxLocals
+  pub few : i ≤ maxLocals
   pub below : (x : ℕ) → x < i → getD row x false ≡ either (getD a x false) (getD b x false)
 
 module _ {a b : List Bool} where
   -- none
-  pub join-start : Joining a b (replicate 16 false) 0
+  pub join-start : Joining a b (replicate maxLocals false) 0
   join-start = record { long = refl; few = omega arith; below = λ x h. absurd (omega arith) }
 
   -- one more
-  pub join-next : {row : List Bool} {i : ℕ} → Joining a b row i → i < 16 → Joining a b (set row i (getD a i false || getD b i false)) (i + 1)
+  pub join-next : {row : List Bool} {i : ℕ} → Joining a b row i → i < maxLocals → Joining a b (set row i (getD a i false || getD b i false)) (i + 1)
   join-next {row} {i} J h = record { long = length-set row i _ ∙ J .long; few = omega arith; below = below }
     where
       or : (p q : Bool) → (p || q) ≡ either p q
@@ -78,7 +79,7 @@ module _ {a b : List Bool} where
           getD-set-other row i x (getD a i false || getD b i false) false apart ∙ J .below x (omega arith))
 
   -- all
-  pub join-end : {row : List Bool} {i : ℕ} → Joining a b row i → 16 ≤ i → row ≡ joined a b
+  pub join-end : {row : List Bool} {i : ℕ} → Joining a b row i → maxLocals ≤ i → row ≡ joined a b
   join-end {row} J h = row-is _ row (J .long) (λ x k. J .below x (omega arith))
 
 pub ruleset join-ways = (join-start, join-next, join-end)
@@ -87,9 +88,9 @@ pub ruleset join-ways = (join-start, join-next, join-end)
 
 -- n are set below i
 pub record Tally (row : List Bool) (i n : ℕ) : Type 0 where
-  pub few : i ≤ 16
+  pub few : i ≤ maxLocals
   pub low : n ≤ i
-  pub counts : (es : List Expr) → row ≡ flags (λ x. mentions x es) → length (variables 0 16 es) ≡ n + length (variables i (16 - i) es)
+  pub counts : (es : List Expr) → row ≡ flags (λ x. mentions x es) → length (variables 0 maxLocals es) ≡ n + length (variables i (maxLocals - i) es)
 
 -- a flag counts for one, or for none
 pub byte-one : (f : Bool) → boolByte f ≤ 1
@@ -102,16 +103,16 @@ module _ {row : List Bool} where
   tally-start = record { few = omega arith; low = omega arith; counts = λ es e. omega arith }
 
   -- one more
-  pub tally-next : {i n : ℕ} → Tally row i n → i < 16 → Tally row (i + 1) (n + boolByte (getD row i false))
+  pub tally-next : {i n : ℕ} → Tally row i n → i < maxLocals → Tally row (i + 1) (n + boolByte (getD row i false))
   tally-next {i} {n} T h = record {
     few = omega arith;
     low = omega (arith, byte-one (getD row i false));
     counts = λ es e.
         let here : getD row i false ≡ mentions i es = ap (λ (r : List Bool). getD r i false) e ∙ flag-at (λ x. mentions x es) i false h in
-        let left : 16 - i ≡ suc (16 - (i + 1)) = omega arith in
+        let left : maxLocals - i ≡ suc (maxLocals - (i + 1)) = omega arith in
         let next : i + 1 ≡ suc i = omega arith in
-        let more : length (variables i (16 - i) es) ≡ boolByte (getD row i false) + length (variables (i + 1) (16 - (i + 1)) es) =
-        rw (left, here, next) (kept (mentions i es) (variables (suc i) (16 - suc i) es))
+        let more : length (variables i (maxLocals - i) es) ≡ boolByte (getD row i false) + length (variables (i + 1) (maxLocals - (i + 1)) es) =
+        rw (left, here, next) (kept (mentions i es) (variables (suc i) (maxLocals - suc i) es))
         in
         omega (arith, T .counts es e);
   }
@@ -121,11 +122,11 @@ module _ {row : List Bool} where
       kept false xs = omega arith
 
   -- all
-  pub tally-end : {i n : ℕ} → Tally row i n → 16 ≤ i → CountsFlags row n
+  pub tally-end : {i n : ℕ} → Tally row i n → maxLocals ≤ i → CountsFlags row n
   tally-end {i} {n} T h = record {
     counts = λ es e.
-        let all : 16 - i ≡ 0 = omega arith in
-        let none : length (variables i (16 - i) es) ≡ 0 = rw all in
+        let all : maxLocals - i ≡ 0 = omega arith in
+        let none : length (variables i (maxLocals - i) es) ≡ 0 = rw all in
         omega (arith, T .counts es e);
   }
 
@@ -198,10 +199,10 @@ module _ {t : List ℕ} {i n : ℕ} (payload : n ≡ payloadOf (getD t i 0)) whe
       behind e h k = let one : payloadOf (getD t i 0) ≡ 1 = rw q in omega (arith, leaf-ends e h k)
 
   -- a constant
-  pub leaf-constant : (getD t i 0 ≡ 0x05 → ⊥) → GathersLeaf t i (gathered (replicate 16 false) (i + 1 + n))
+  pub leaf-constant : (getD t i 0 ≡ 0x05 → ⊥) → GathersLeaf t i (gathered (replicate maxLocals false) (i + 1 + n))
   leaf-constant q = record { set = set; ends = ends-behind }
     where
-      set : (e : Expr) (d j : ℕ) → ExprAt t i d e j → arity e ≡ 0 → replicate 16 false ≡ flags (λ x. mentioned x e)
+      set : (e : Expr) (d j : ℕ) → ExprAt t i d e j → arity e ≡ 0 → replicate maxLocals false ≡ flags (λ x. mentioned x e)
       set (constant v) d j h k = refl
       set (local x) d j h k = absurd (q (first (h .stands)))
       set (one o a) d j h k = absurd (omega arith)

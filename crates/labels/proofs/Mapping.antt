@@ -22,6 +22,8 @@ use Rattle.format.specs.Laws.Grammar.{BlockAt}
 use Rattle.format.specs.Laws.Joined.{first-append}
 use Rattle.format.specs.Laws.Labelled.{block-label, instr-label}
 use Rattle.format.specs.Laws.TablePlaces.{recordsAt}
+use Rattle.format.specs.Decode.{maxNesting}
+use Rattle.basics.specs.Sizes.{mapWords, boundWords}
 use Rattle.labels.specs.Laws.Walked.{bodies-at}
 use Rattle.labels.specs.Laws.LabelMap.{length-nodes}
 use Rattle.labels.specs.declared.count.Counted.{Counted}
@@ -50,7 +52,7 @@ pub record FirstBody (t : List ℕ) (i c : ℕ) (ps : List (Proc Plain)) (j : �
   pub others : List (Proc Plain)
   pub is : ps ≡ p ∷ others
   pub k : ℕ
-  pub here : BlockAt t i 16 (p .body) k
+  pub here : BlockAt t i maxNesting (p .body) k
   pub after : BodiesAt t k (c - 1) others j
 
 first-body : {t : List ℕ} {i c j : ℕ} (ps : List (Proc Plain)) → BodiesAt t i c ps j → 0 < c → FirstBody t i c ps j
@@ -72,11 +74,11 @@ module _ {t : List ℕ} {c : ℕ} {n b : List ℕ} where
       record { rest = rw all h; few = omega arith; some = omega arith; low = omega arith; back = λ n″ b″ r F. rw all at F }
 
   -- the next body
-  pub map-block-in : {m i l : ℕ} {n′ b′ : List ℕ} → Mapping t c n b m i l n′ b′ → m < c → BlockIn t i 16
+  pub map-block-in : {m i l : ℕ} {n′ b′ : List ℕ} → Mapping t c n b m i l n′ b′ → m < c → BlockIn t i maxNesting
   map-block-in M h = block-in (first-body (M .rest .procs) (M .rest .there) (omega arith) .here)
 
-  pub map-next : {m i l f : ℕ} {x : Counted} {n₁ n₂ n₃ b₁ b₂ : List ℕ} → Mapping t c n b m i l n₁ b₁ → m < c → CountsBlock t i 16 x
-      → FillsBlock t i 16 l (l + x .labels) m n₁ n₂ → PutsNode n₂ (l + x .labels) (x .next - 1) m 0 0 n₃
+  pub map-next : {m i l f : ℕ} {x : Counted} {n₁ n₂ n₃ b₁ b₂ : List ℕ} → Mapping t c n b m i l n₁ b₁ → m < c → CountsBlock t i maxNesting x
+      → FillsBlock t i maxNesting l (l + x .labels) m n₁ n₂ → PutsNode n₂ (l + x .labels) (x .next - 1) m 0 0 n₃
       → BeginsAt t i l (l + x .labels) f → PutsBounds b₁ m f (l + x .labels) b₂ → Mapping t c n b (m + 1) (x .next) (l + x .labels + 1) n₃ b₂
   map-next {m} {i} {l} {f} {x} {n₁} {n₂} {n₃} {b₁} {b₂} M h X B N G P = record {
     rest =
@@ -106,7 +108,7 @@ module _ {t : List ℕ} {c : ℕ} {n b : List ℕ} where
       bounds = λ ps j a k.
           let w = first-body ps a (omega arith) in
           let begin : f ≡ first (l + count (w .p .body)) (label l (w .p .body)) =
-          G .gives 16 (w .p .body) (w .k) (w .here) ∙ ap (λ (z : ℕ). first z (label l (w .p .body))) (labels-are w)
+          G .gives maxNesting (w .p .body) (w .k) (w .here) ∙ ap (λ (z : ℕ). first z (label l (w .p .body))) (labels-are w)
           in
           subst (λ (z : List (Proc Plain)). Put 2 b₁ m (allBounds l z) b″) (sym (w .is))
           (put-then
@@ -278,7 +280,7 @@ put-look {w} {n} {l} {xs} {n′} x P fits h =
 -- ---- the map
 
 -- the numbers of all labels and the bounds of all procedures are a program's map
-mapped : (p : Program Plain) {n b n′ b′ : List ℕ} → length n ≡ 1604 → length b ≡ 32 → length (p .procs) ≤ limits concurrent .procs
+mapped : (p : Program Plain) {n b n′ b′ : List ℕ} → length n ≡ mapWords → length b ≡ boundWords → length (p .procs) ≤ limits concurrent .procs
     → counts (p .procs) ≤ maxLabels
     → Put 4 n 1 (allNumbers 0 0 1 (p .procs)) n′ → Put 2 b 0 (allBounds 1 (p .procs)) b′ → Mapped p n′ b′
 mapped p {n} {b} {n′} {b′} ln lb few labels N B = record {
@@ -315,7 +317,7 @@ mapped p {n} {b} {n′} {b′} ln lb few labels N B = record {
         ∙ bounds-at (p .procs) 1 m y h k
 
 -- the loop ends
-pub map-end : {t : List ℕ} {c m i l : ℕ} {n b n′ b′ : List ℕ} → Mapping t c n b m i l n′ b′ → c ≤ m → length n ≡ 1604 → length b ≡ 32
+pub map-end : {t : List ℕ} {c m i l : ℕ} {n b n′ b′ : List ℕ} → Mapping t c n b m i l n′ b′ → c ≤ m → length n ≡ mapWords → length b ≡ boundWords
     → MapsLabels t c n′ b′ (l - 1)
 map-end {t} {c} {m} {i} {l} {n} {b} {n′} {b′} M h ln lb = record {
   gives = λ p f e few.

@@ -13,11 +13,12 @@ use Rattle.format.specs.Encode.{expr, instr, block, each, bodiesOf}
 use Rattle.format.specs.Labels.{count, countI, counts, label, first}
 use Rattle.labels.specs.LabelMap.{Mapped}
 use Rattle.format.specs.Variables.{mentioned, mentions, variables, flags}
-use Rattle.format.specs.Rules.{limits, maxLabels}
+use Rattle.format.specs.Rules.{limits, maxLabels, maxLocals}
 use Rattle.format.specs.Laws.Fits.{BlockFits}
 use Rattle.format.specs.Laws.Formed.{Formed}
 use Rattle.format.specs.Laws.Stands.{Stands}
 use Rattle.format.specs.Laws.Grammar.{ExprAt, ExprsAt, InstrAt, BlockAt}
+use Rattle.format.specs.Decode.{maxDepth, maxNesting}
 use Rattle.labels.specs.declared.count.Counted.{Counted}
 use Rattle.labels.specs.declared.variables.Gathered.{Gathered}
 
@@ -43,7 +44,7 @@ pub record BlockIn (t : List ℕ) (i d : ℕ) : Type 0 where
 -- an expression
 pub record ExprEnds (t : List ℕ) (i r : ℕ) : Type 0 where
   pub forward : i ≤ r
-  pub ends : (e : Expr) (j : ℕ) → ExprAt t i 16 e j → r ≡ j
+  pub ends : (e : Expr) (j : ℕ) → ExprAt t i maxDepth e j → r ≡ j
 
 -- n expressions
 pub record ExprsEnd (t : List ℕ) (i n r : ℕ) : Type 0 where
@@ -74,7 +75,7 @@ pub record GathersLeaf (t : List ℕ) (i : ℕ) (r : Gathered) : Type 0 where
 
 -- how many of a row are set: as many as there are variables
 pub record CountsFlags (row : List Bool) (r : ℕ) : Type 0 where
-  pub counts : (es : List Expr) → row ≡ flags (λ x. mentions x es) → r ≡ length (variables 0 16 es)
+  pub counts : (es : List Expr) → row ≡ flags (λ x. mentions x es) → r ≡ length (variables 0 maxLocals es)
 
 -- ---- how many labels it has
 
@@ -166,11 +167,11 @@ allBounds l (p ∷ ps) =
 pub record Put (w : ℕ) (n : List ℕ) (l : ℕ) (xs n′ : List ℕ) : Type 0 where
   pub wrote : n′ ≡ sets n (w * l) xs
 
--- those of label l, if it is no more than 400
+-- those of label l, if there can be such a label
 pub record PutsNode (n : List ℕ) (l place proc next other : ℕ) (n′ : List ℕ) : Type 0 where
   pub gives : l ≤ maxLabels → Put 4 n l (place ∷ proc ∷ next ∷ other ∷ []) n′
 
--- of procedure m, if there are no more than 16
+-- of procedure m, if there can be such a procedure
 pub record PutsBounds (n : List ℕ) (m begin end : ℕ) (n′ : List ℕ) : Type 0 where
   pub gives : m < limits concurrent .procs → Put 2 n m (begin ∷ end ∷ []) n′
 
@@ -189,7 +190,7 @@ pub record FillsBlock (t : List ℕ) (i d l k m : ℕ) (n n′ : List ℕ) : Typ
 pub record BodiesAt (t : List ℕ) (i c : ℕ) (ps : List (Proc Plain)) (j : ℕ) : Type 0 where
   pub stands : Stands t i (each block (bodiesOf ps)) j
   pub count : length ps ≡ c
-  pub fits : Each (BlockFits 16) (bodiesOf ps)
+  pub fits : Each (BlockFits maxNesting) (bodiesOf ps)
 
 -- those of some
 pub record BodiesIn (t : List ℕ) (i c : ℕ) : Type 0 where

@@ -1,6 +1,14 @@
 // How many labels the blocks and instructions of a concurrent table have, and where they end. What is walked over stands there:
 // the table was read.
+use basics::numbers::ASSIGN;
+use basics::numbers::ATOMIC;
+use basics::numbers::CALL;
 use basics::numbers::DEPTH;
+use basics::numbers::END;
+use basics::numbers::IF;
+use basics::numbers::READ;
+use basics::numbers::WHILE;
+use basics::numbers::WRITE;
 use parse::Ends;
 use parse::expression::read_expr;
 ghost use Rattle.labels.specs.Walks.{ExprEnds, ExprsEnd, PlainEnds, BlockIn, InstrIn, CountsBlock, CountsInstr};
@@ -41,7 +49,7 @@ pub fn count_block(t: &[u8], at: usize, depth: u8) -> Counted
 {
     let mut i = at;
     let mut n = 0;
-    while t[i] != 0 {
+    while t[i] != END {
         let one = count_instr(t, i, depth - 1);
         i = one.next;
         n += one.labels;
@@ -58,14 +66,14 @@ pub fn count_instr(t: &[u8], at: usize, depth: u8) -> Counted
     ensures { λ r. ⌜ CountsInstr (now (t .entry)) at depth r ⌝ }
 {
     let form = t[at];
-    if form == 0x23 {
+    if form == WHILE {
         let body = count_block(t, after_expr(t, at + 1), depth);
         return Counted {
             next: body.next,
             labels: 1 + body.labels,
         };
     }
-    if form == 0x24 {
+    if form == IF {
         let yes = count_block(t, after_expr(t, at + 1), depth);
         let no = count_block(t, yes.next, depth);
         return Counted {
@@ -73,7 +81,7 @@ pub fn count_instr(t: &[u8], at: usize, depth: u8) -> Counted
             labels: 1 + yes.labels + no.labels,
         };
     }
-    if form == 0x26 {
+    if form == ATOMIC {
         let body = count_block(t, at + 1, depth);
         return Counted {
             next: body.next,
@@ -92,16 +100,16 @@ pub fn after_plain(t: &[u8], at: usize) -> usize
     ensures { λ r. ⌜ PlainEnds (now (t .entry)) at r ⌝ }
 {
     let form = t[at];
-    if form == 0x20 {
+    if form == ASSIGN {
         return after_expr(t, at + 2);
     }
-    if form == 0x21 {
+    if form == WRITE {
         return after_expr(t, after_expr(t, at + 2));
     }
-    if form == 0x22 {
+    if form == READ {
         return after_expr(t, at + 3);
     }
-    if form == 0x25 {
+    if form == CALL {
         return after_exprs(t, at + 4, t[at + 3]);
     }
     at + 5

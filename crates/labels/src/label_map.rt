@@ -3,21 +3,37 @@
 use super::count::after_expr;
 use super::count::count_block;
 use super::count::count_instr;
-use basics::numbers::DEPTH;
+use basics::numbers::BOUNDS;
+use basics::numbers::END;
+use basics::numbers::IF;
+use basics::numbers::LABELS;
+use basics::numbers::MAP;
+use basics::numbers::NESTING;
+use basics::numbers::NODE;
+use basics::numbers::PAIR;
+use basics::numbers::PROCEDURES;
+use basics::numbers::WHILE;
 ghost use mathlib.Core.Path.{_≡_};
 ghost use Prim.Native.Nat.{_+_, _≤_};
 ghost use lib.ListN.{length};
+ghost use Rattle.basics.specs.Sizes.{mapWords, boundWords};
 ghost use Rattle.labels.specs.Walks.{BlockIn, InstrIn, BeginsAt, PutsNode, PutsBounds, FillsBlock, FillsInstr, BodiesIn, MapsLabels};
 
-// "over 400 labels" is refused, and label 0 is a finished thread.
-pub const MAX_LABELS: usize = 400;
+// A label's row of the map has its place, and then these.
+pub const PROCEDURE: usize = 1;
 
-// "P not 1..16" is refused.
-pub const MAX_PROCEDURES: usize = 16;
+pub const NEXT: usize = 2;
+
+pub const OTHER: usize = 3;
+
+// A procedure's row of the bounds has these.
+pub const FIRST: usize = 0;
+
+pub const LAST: usize = 1;
 
 // Writes the four numbers of a label.
 fn put_node(
-    map: &mut [usize; 1604],
+    map: &mut [usize; MAP],
     label: usize,
     place: usize,
     proc: usize,
@@ -26,23 +42,23 @@ fn put_node(
 )
     ensures { λ r. ⌜ PutsNode (now (map .entry)) label place proc next other (now (map .exit)) ⌝ }
 {
-    if label <= MAX_LABELS {
-        let i = 4 * label;
+    if label <= LABELS {
+        let i = NODE * label;
         map[i] = place;
-        map[i + 1] = proc;
-        map[i + 2] = next;
-        map[i + 3] = other;
+        map[i + PROCEDURE] = proc;
+        map[i + NEXT] = next;
+        map[i + OTHER] = other;
     }
 }
 
 // Writes the first and the last label of a procedure.
-fn put_bounds(bounds: &mut [usize; 32], proc: usize, begin: usize, end: usize)
+fn put_bounds(bounds: &mut [usize; BOUNDS], proc: usize, begin: usize, end: usize)
     ensures { λ r. ⌜ PutsBounds (now (bounds .entry)) proc begin end (now (bounds .exit)) ⌝ }
 {
-    if proc < MAX_PROCEDURES {
-        let i = 2 * proc;
-        bounds[i] = begin;
-        bounds[i + 1] = end;
+    if proc < PROCEDURES {
+        let i = PAIR * proc;
+        bounds[i + FIRST] = begin;
+        bounds[i + LAST] = end;
     }
 }
 
@@ -51,7 +67,7 @@ fn begin(t: &[u8], at: usize, label: usize, after: usize) -> usize
     ensures { λ r. ⌜ BeginsAt (now (t .entry)) at label after r ⌝ }
 {
     if at < t.len() {
-        if t[at] == 0 {
+        if t[at] == END {
             return after;
         }
     }
@@ -66,7 +82,7 @@ fn fill_block(
     label: usize,
     after: usize,
     proc: usize,
-    map: &mut [usize; 1604],
+    map: &mut [usize; MAP],
 )
     requires { ⌜ BlockIn (now t) at depth ⌝ }
     requires { ⌜ label ≤ at + 1 ⌝ }
@@ -74,7 +90,7 @@ fn fill_block(
 {
     let mut i = at;
     let mut l = label;
-    while t[i] != 0 {
+    while t[i] != END {
         let one = count_instr(t, i, depth - 1);
         let next = one.next;
         let beyond = l + one.labels;
@@ -94,21 +110,21 @@ fn fill_instr(
     label: usize,
     after: usize,
     proc: usize,
-    map: &mut [usize; 1604],
+    map: &mut [usize; MAP],
 )
     requires { ⌜ InstrIn (now t) at depth ⌝ }
     requires { ⌜ label ≤ at + 1 ⌝ }
     ensures { λ r. ⌜ FillsInstr (now (t .entry)) at depth label after proc (now (map .entry)) (now (map .exit)) ⌝ }
 {
     let form = t[at];
-    if form == 0x23 {
+    if form == WHILE {
         let body = after_expr(t, at + 1);
         let first = begin(t, body, label + 1, label);
         put_node(map, label, at, proc, first, after);
         fill_block(t, body, depth, label + 1, label, proc, map);
         return;
     }
-    if form == 0x24 {
+    if form == IF {
         let yes = after_expr(t, at + 1);
         let counted = count_block(t, yes, depth);
         let no = counted.next;
@@ -128,21 +144,21 @@ fn fill_instr(
 pub fn fill_labels(
     t: &[u8],
     procs: usize,
-    map: &mut [usize; 1604],
-    bounds: &mut [usize; 32],
+    map: &mut [usize; MAP],
+    bounds: &mut [usize; BOUNDS],
 ) -> usize
     requires { ⌜ BodiesIn (now t) 0 procs ⌝ }
-    requires { ⌜ (length (now map) ≡ 1604) × (length (now bounds) ≡ 32) ⌝ }
+    requires { ⌜ (length (now map) ≡ mapWords) × (length (now bounds) ≡ boundWords) ⌝ }
     ensures { λ r. ⌜ MapsLabels (now (t .entry)) procs (now (map .exit)) (now (bounds .exit)) r ⌝ }
 {
     let mut m = 0;
     let mut at = 0;
     let mut l = 1;
     while m < procs {
-        let body = count_block(t, at, DEPTH);
+        let body = count_block(t, at, NESTING);
         let next = body.next;
         let end = l + body.labels;
-        fill_block(t, at, DEPTH, l, end, m, map);
+        fill_block(t, at, NESTING, l, end, m, map);
         put_node(map, end, next - 1, m, 0, 0);
         let first = begin(t, at, l, end);
         put_bounds(bounds, m, first, end);

@@ -1,4 +1,7 @@
-// The variables that an expression mentions, as a row of sixteen flags.
+// The variables that an expression mentions, as a row of flags.
+use basics::numbers::FLAGS;
+use basics::numbers::LOCAL;
+use basics::numbers::LOCALS;
 ghost use mathlib.Core.Path.{_≡_};
 ghost use Prim.Native.Nat.{_<_};
 ghost use lib.ListN.{length};
@@ -6,33 +9,30 @@ ghost use lib.Dec.{eqb};
 ghost use Rattle.format.specs.Variables.{flags, joined};
 ghost use Rattle.labels.specs.Walks.{Gathers, GathersLeaf, CountsFlags};
 
-// A local variable's mark.
-const LOCAL: u8 = 0x05;
-
 // The flags of the variables, and where the expression ends.
 pub struct Gathered {
-    pub set: [bool; 16],
+    pub set: [bool; FLAGS],
     pub next: usize,
 }
 
 // The row of one variable.
-fn only(x: u8) -> [bool; 16]
+fn only(x: u8) -> [bool; FLAGS]
     ensures { λ r. ⌜ r ≡ flags (λ y. eqb y x) ⌝ }
 {
-    let mut row = [false; 16];
-    if x < 16 {
+    let mut row = [false; FLAGS];
+    if x < LOCALS {
         row[x as usize] = true;
     }
     row
 }
 
 // The flags that are set in one row or in the other.
-pub fn join(a: [bool; 16], b: [bool; 16]) -> [bool; 16]
+pub fn join(a: [bool; FLAGS], b: [bool; FLAGS]) -> [bool; FLAGS]
     ensures { λ r. ⌜ r ≡ joined a b ⌝ }
 {
-    let mut row = [false; 16];
+    let mut row = [false; FLAGS];
     let mut i: usize = 0;
-    while i < 16 {
+    while i < FLAGS {
         row[i] = a[i] | b[i];
         i += 1;
     }
@@ -40,12 +40,12 @@ pub fn join(a: [bool; 16], b: [bool; 16]) -> [bool; 16]
 }
 
 // How many flags are set.
-pub fn count(row: [bool; 16]) -> usize
+pub fn count(row: [bool; FLAGS]) -> usize
     ensures { λ r. ⌜ CountsFlags row r ⌝ }
 {
     let mut n = 0;
     let mut i: usize = 0;
-    while i < 16 {
+    while i < FLAGS {
         n += row[i] as usize;
         i += 1;
     }
@@ -58,13 +58,13 @@ pub fn gather(code: &[u8], at: usize, depth: u8) -> Gathered
 {
     if depth == 0 {
         return Gathered {
-            set: [false; 16],
+            set: [false; FLAGS],
             next: at,
         };
     }
     if code.len() <= at {
         return Gathered {
-            set: [false; 16],
+            set: [false; FLAGS],
             next: at,
         };
     }
@@ -102,7 +102,7 @@ fn leaf(code: &[u8], at: usize) -> Gathered
         }
     }
     Gathered {
-        set: [false; 16],
+        set: [false; FLAGS],
         next: next,
     }
 }

@@ -9,7 +9,7 @@ use lib.Seq.{drop-cons}
 use Rattle.value.specs.Maybe.{is, _>>=_, both}
 use Rattle.value.specs.Laws.Tests.{never}
 use Rattle.format.specs.Syntax.{Expr, while, if, atomic, step}
-use Rattle.format.specs.Decode.{expr, instr, block}
+use Rattle.format.specs.Decode.{expr, instr, block, maxDepth}
 use Rattle.format.specs.Rules.{Here, allowed, allowedI, plainly, isConcurrent}
 use Rattle.parse.specs.Ends.{endOf, check, insideOf, ReadsExpr, ReadsInstr, ReadsBlock, ReadsPlain}
 use Rattle.format.specs.Laws.Reading.{known-is}
@@ -49,43 +49,45 @@ module _ (t : List ℕ) (i d : ℕ) (h : Here) where
     while-inside q out = record {
       same = sym
           (rw (instr-at t i d 0x23 inside q)
-          (fails-behind t (expr 16 (drop (i + 1) t)) _ (allowedI h) λ e r. never-passes t (block d r) (while e) (allowedI h) (λ b. rw out)));
+          (fails-behind t (expr maxDepth (drop (i + 1) t)) _ (allowedI h) λ e r. never-passes t (block d r) (while e) (allowedI h) (λ b. rw out)));
     }
 
     -- one without a test
-    pub while-cut : {f : Ends} → getD t i 0 ≡ 0x23 → f ≡ Nothing → ReadsExpr t (i + 1) 16 f → ReadsInstr t i d h Nothing
+    pub while-cut : {f : Ends} → getD t i 0 ≡ 0x23 → f ≡ Nothing → ReadsExpr t (i + 1) maxDepth f → ReadsInstr t i d h Nothing
     while-cut q e R = record {
-      same = rw (instr-at t i d 0x23 inside q, bind-assoc (expr 16 (drop (i + 1) t))) (ends-none t (expr 16 (drop (i + 1) t)) _ (sym e ∙ R .same));
+      same = rw (instr-at t i d 0x23 inside q, bind-assoc (expr maxDepth (drop (i + 1) t)))
+          (ends-none t (expr maxDepth (drop (i + 1) t)) _ (sym e ∙ R .same));
     }
 
     -- one
-    pub reads-while : {f r : Ends} {k : ℕ} → getD t i 0 ≡ 0x23 → h .inside ≡ false → f ≡ At k → ReadsExpr t (i + 1) 16 f → ReadsBlock t k d h r
+    pub reads-while : {f r : Ends} {k : ℕ} → getD t i 0 ≡ 0x23 → h .inside ≡ false → f ≡ At k → ReadsExpr t (i + 1) maxDepth f → ReadsBlock t k d h r
         → ReadsInstr t i d h r
     reads-while {k = k} q out e F R = record {
       same =
-          rw (instr-at t i d 0x23 inside q, bind-assoc (expr 16 (drop (i + 1) t)))
-          (ends-then t (i + 1) (expr 16 (drop (i + 1) t)) _ (expr-leaves 16 (drop (i + 1) t)) (sym e ∙ F .same)
+          rw (instr-at t i d 0x23 inside q, bind-assoc (expr maxDepth (drop (i + 1) t)))
+          (ends-then t (i + 1) (expr maxDepth (drop (i + 1) t)) _ (expr-leaves maxDepth (drop (i + 1) t)) (sym e ∙ F .same)
           (λ e. R .same ∙ sym (passed-made (allowed h) t (block d (drop k t)) (while e) (allowedI h) (λ b. rw out))));
     }
 
     -- an if without a test
-    pub if-cut : {f : Ends} → getD t i 0 ≡ 0x24 → f ≡ Nothing → ReadsExpr t (i + 1) 16 f → ReadsInstr t i d h Nothing
+    pub if-cut : {f : Ends} → getD t i 0 ≡ 0x24 → f ≡ Nothing → ReadsExpr t (i + 1) maxDepth f → ReadsInstr t i d h Nothing
     if-cut q e R = record {
-      same = rw (instr-at t i d 0x24 inside q, bind-assoc (expr 16 (drop (i + 1) t))) (ends-none t (expr 16 (drop (i + 1) t)) _ (sym e ∙ R .same));
+      same = rw (instr-at t i d 0x24 inside q, bind-assoc (expr maxDepth (drop (i + 1) t)))
+          (ends-none t (expr maxDepth (drop (i + 1) t)) _ (sym e ∙ R .same));
     }
 
     -- behind the test, two blocks
-    if-then : {f r : Ends} {k : ℕ} → getD t i 0 ≡ 0x24 → f ≡ At k → ReadsExpr t (i + 1) 16 f
+    if-then : {f r : Ends} {k : ℕ} → getD t i 0 ≡ 0x24 → f ≡ At k → ReadsExpr t (i + 1) maxDepth f
         → ((e : Expr) → r ≡ endOf t ((block d (drop k t) >>= λ (b, q). block d q >>= λ (c, q). is (if e b c, q)) >>= check (allowedI h)))
         → ReadsInstr t i d h r
     if-then q e F next = record {
       same =
-          rw (instr-at t i d 0x24 inside q, bind-assoc (expr 16 (drop (i + 1) t)))
-          (ends-then t (i + 1) (expr 16 (drop (i + 1) t)) _ (expr-leaves 16 (drop (i + 1) t)) (sym e ∙ F .same) next);
+          rw (instr-at t i d 0x24 inside q, bind-assoc (expr maxDepth (drop (i + 1) t)))
+          (ends-then t (i + 1) (expr maxDepth (drop (i + 1) t)) _ (expr-leaves maxDepth (drop (i + 1) t)) (sym e ∙ F .same) next);
     }
 
     -- without a first block
-    pub then-cut : {f g : Ends} {k : ℕ} → getD t i 0 ≡ 0x24 → f ≡ At k → ReadsExpr t (i + 1) 16 f → g ≡ Nothing → ReadsBlock t k d h g
+    pub then-cut : {f g : Ends} {k : ℕ} → getD t i 0 ≡ 0x24 → f ≡ At k → ReadsExpr t (i + 1) maxDepth f → g ≡ Nothing → ReadsBlock t k d h g
         → ReadsInstr t i d h Nothing
     then-cut {k = k} q e F n G = if-then q e F λ e.
         passed-none (allowed h) t (block d (drop k t)) (sym n ∙ G .same)
@@ -93,7 +95,7 @@ module _ (t : List ℕ) (i d : ℕ) (h : Here) where
         (λ b r found bad. rw found (sym (never-passes t (block d r) (if e b) (allowedI h) (λ c. rw bad))))
 
     -- one
-    pub reads-if : {f g r : Ends} {k l : ℕ} → getD t i 0 ≡ 0x24 → f ≡ At k → ReadsExpr t (i + 1) 16 f → g ≡ At l → ReadsBlock t k d h g
+    pub reads-if : {f g r : Ends} {k l : ℕ} → getD t i 0 ≡ 0x24 → f ≡ At k → ReadsExpr t (i + 1) maxDepth f → g ≡ At l → ReadsBlock t k d h g
         → ReadsBlock t l d h r → ReadsInstr t i d h r
     reads-if {k = k} {l} q e F n G R = if-then q e F λ e.
         let first = passed-at (allowed h) t k (block d (drop k t)) (block-leaves d (drop k t)) (sym n ∙ G .same) in

@@ -14,7 +14,7 @@ use Rattle.value.specs.Values.{unbytes}
 use Rattle.value.specs.Laws.Tests.{by-test}
 use Rattle.format.specs.Syntax.{Expr, assign, write, read, call, select, Plain}
 use Rattle.format.specs.Decode.{Read, byte, number, times, expr, Form, assignForm, writeForm, readForm, whileForm, ifForm, callForm, atomicForm}
-use Rattle.format.specs.Decode.{selectForm, noForm, forms, formed, instr, block}
+use Rattle.format.specs.Decode.{selectForm, noForm, forms, formed, instr, block, maxDepth}
 use Rattle.format.specs.Rules.{Here, allowedI, isConcurrent}
 use Rattle.parse.specs.Ends.{endOf, check, ReadsValues, ReadsPlain}
 use Rattle.format.specs.Laws.Blocks.{forms?, form-right}
@@ -59,11 +59,11 @@ module _ (t : List ℕ) (i : ℕ) (h : Here) where
 
   -- k bytes, and then n expressions
   bytes-then : (k n : ℕ) {r : Ends} → ReadsValues t (i + k) n r
-      → ((d : ℕ) → i + k ≤ length t → here d ≡ endOf t (times (expr 16) n (drop (i + k) t))) → ((d : ℕ) → length t < i + k → here d ≡ Nothing)
+      → ((d : ℕ) → i + k ≤ length t → here d ≡ endOf t (times (expr maxDepth) n (drop (i + k) t))) → ((d : ℕ) → length t < i + k → here d ≡ Nothing)
       → ReadsPlain t i h r
   bytes-then k n {r} R room short = by-test (leb (i + k) (length t))
       (λ e.
-      let same : r ≡ endOf t (times (expr 16) n (drop (i + k) t)) = rw e at (R .same) in
+      let same : r ≡ endOf t (times (expr maxDepth) n (drop (i + k) t)) = rw e at (R .same) in
       record { gives = λ d n₃ n₄ n₆. record { same = same ∙ sym (room d (leb-true (i + k) (length t) e)) } })
       (λ e.
       let same : r ≡ Nothing = rw e at (R .same) in
@@ -71,8 +71,8 @@ module _ (t : List ℕ) (i : ℕ) (h : Here) where
 
   module _ (inside : i < length t) where
     -- one expression
-    one-value : (bs : List ℕ) → endOf t (expr 16 bs) ≡ endOf t (times (expr 16) 1 bs)
-    one-value bs = sym (ends-made t (expr 16 bs) (_∷ []))
+    one-value : (bs : List ℕ) → endOf t (expr maxDepth bs) ≡ endOf t (times (expr maxDepth) 1 bs)
+    one-value bs = sym (ends-made t (expr maxDepth bs) (_∷ []))
 
     -- x := e
     pub reads-assign : {r : Ends} → getD t i 0 ≡ 0x20 → ReadsValues t (i + 2) 1 r → ReadsPlain t i h r
@@ -80,7 +80,7 @@ module _ (t : List ℕ) (i : ℕ) (h : Here) where
         (λ d room.
         let next : i + 1 + 1 ≡ i + 2 = omega arith in
         rw (instr-at t i d 0x20 inside q, byte-at t (i + 1) (omega arith), next)
-        (always-passes t (expr 16 (drop (i + 2) t)) (assign (getD t (i + 1) 0)) (allowedI h) (λ e. refl) ∙ one-value (drop (i + 2) t)))
+        (always-passes t (expr maxDepth (drop (i + 2) t)) (assign (getD t (i + 1) 0)) (allowedI h) (λ e. refl) ∙ one-value (drop (i + 2) t)))
         (λ d short. rw (instr-at t i d 0x20 inside q, byte-past t (i + 1) (omega arith)))
 
     -- y[o] := e
@@ -88,19 +88,19 @@ module _ (t : List ℕ) (i : ℕ) (h : Here) where
     reads-write q R = bytes-then 2 2 R
         (λ d room.
         let next : i + 1 + 1 ≡ i + 2 = omega arith in
-        let first = expr 16 (drop (i + 2) t) in
+        let first = expr maxDepth (drop (i + 2) t) in
         rw (instr-at t i d 0x21 inside q, byte-at t (i + 1) (omega arith), next)
         (two-values (getD t (i + 1) 0) first
-        ∙ ends-alike t first (expr 16) (times (expr 16) 1) one-value
-        ∙ sym (ends-made₂ t first (times (expr 16) 1) _∷_)))
+        ∙ ends-alike t first (expr maxDepth) (times (expr maxDepth) 1) one-value
+        ∙ sym (ends-made₂ t first (times (expr maxDepth) 1) _∷_)))
         (λ d short. rw (instr-at t i d 0x21 inside q, byte-past t (i + 1) (omega arith)))
       where
         -- two expressions, and nothing is forbidden
         two-values : (y : ℕ) (m : Read Expr)
-            → endOf t ((m >>= λ (o, r). expr 16 r >>= λ (e, r). is (write y o e, r)) >>= check (allowedI {A = Plain} h))
-            ≡ endOf t (m >>= λ (o, r). expr 16 r)
+            → endOf t ((m >>= λ (o, r). expr maxDepth r >>= λ (e, r). is (write y o e, r)) >>= check (allowedI {A = Plain} h))
+            ≡ endOf t (m >>= λ (o, r). expr maxDepth r)
         two-values y nothing = refl
-        two-values y (is got) = always-passes t (expr 16 (got .1)) (write y (got .0)) (allowedI h) (λ e. refl)
+        two-values y (is got) = always-passes t (expr maxDepth (got .1)) (write y (got .0)) (allowedI h) (λ e. refl)
 
     -- x := y[o]
     pub reads-read : {r : Ends} → getD t i 0 ≡ 0x22 → ReadsValues t (i + 3) 1 r → ReadsPlain t i h r
@@ -109,7 +109,7 @@ module _ (t : List ℕ) (i : ℕ) (h : Here) where
         let next : i + 1 + 1 ≡ i + 2 = omega arith in
         let after : i + 2 + 1 ≡ i + 3 = omega arith in
         rw (instr-at t i d 0x22 inside q, byte-at t (i + 1) (omega arith), next, byte-at t (i + 2) (omega arith), after)
-        (always-passes t (expr 16 (drop (i + 3) t)) (read (getD t (i + 1) 0) (getD t (i + 2) 0)) (allowedI h) (λ e. refl)
+        (always-passes t (expr maxDepth (drop (i + 3) t)) (read (getD t (i + 1) 0) (getD t (i + 2) 0)) (allowedI h) (λ e. refl)
         ∙ one-value (drop (i + 3) t)))
         (λ d short.
         rw (instr-at t i d 0x22 inside q)
@@ -127,7 +127,7 @@ module _ (t : List ℕ) (i : ℕ) (h : Here) where
             (rw (instr-at t i d 0x25 inside q)
             (fails-behind t (number 2 (drop (i + 1) t)) _ (allowedI h) λ m r.
             fails-behind t (byte r) _ (allowedI h) λ n r.
-            never-passes t (times (expr 16) n r) (call m) (allowedI h) (λ es. rw e)));
+            never-passes t (times (expr maxDepth) n r) (call m) (allowedI h) (λ es. rw e)));
       };
     }
 
@@ -152,7 +152,7 @@ module _ (t : List ℕ) (i : ℕ) (h : Here) where
         (λ d room.
         let next : i + 1 + 2 ≡ i + 3 = omega arith in
         let after : i + 3 + 1 ≡ i + 4 = omega arith in
-        let args = times (expr 16) (getD t (i + 3) 0) (drop (i + 4) t) in
+        let args = times (expr maxDepth) (getD t (i + 3) 0) (drop (i + 4) t) in
         rw (instr-at t i d 0x25 inside q, number-at t (i + 1) 2 (omega arith), next, byte-at t (i + 3) (omega arith), after)
         (always-passes t args (call (unbytes (take 2 (drop (i + 1) t)))) (allowedI h) (λ es. rw e)))
         (λ d short. absurd (omega arith))

@@ -7,7 +7,7 @@ use lib.ListN.{length, getD, drop}
 use lib.Dec.{leb}
 use Rattle.value.specs.Maybe.{is, nothing, _>>=_, when}
 use Rattle.format.specs.Syntax.{Kind, concurrent, sequential}
-use Rattle.format.specs.Decode.{Read, times}
+use Rattle.format.specs.Decode.{Read, times, maxDepth}
 use Rattle.format.specs.Decode as D
 use Rattle.format.specs.Rules.{Here, allowed, allowedI}
 use Rattle.parse.specs.declared.Kind as K
@@ -33,7 +33,7 @@ pub record ReadsExpr (t : List ℕ) (i d : ℕ) (r : Ends) : Type 0 where
 
 -- n expressions at most 16 deep, where i is not past the end
 pub record ReadsValues (t : List ℕ) (i n : ℕ) (r : Ends) : Type 0 where
-  pub same : r ≡ endOf t (when (leb i (length t)) (times (D.expr 16) n (drop i t)))
+  pub same : r ≡ endOf t (when (leb i (length t)) (times (D.expr maxDepth) n (drop i t)))
 
 -- an instruction whose blocks are at most d deep, and that is allowed there
 pub record ReadsInstr (t : List ℕ) (i d : ℕ) (h : Here) (r : Ends) : Type 0 where

@@ -11,10 +11,10 @@ use lib.Dec.{leb}
 use borrow.Author.Tests.{le-leb, lt-leb}
 use Rattle.value.specs.Laws.Bytes.{Bytes, bytes-at}
 use Rattle.format.specs.Syntax.{Program, Plain, Kind, concurrent, sequential}
-use Rattle.format.specs.Rules.{allNamed, fewLabels, noCycle, setFirst, accepted}
+use Rattle.format.specs.Rules.{allNamed, fewLabels, noCycle, setFirst, accepted, limits, maxLabels}
 use Rattle.format.specs.Calls.{labelsOf, readAs}
 use Rattle.shape.specs.Shapes.{ShapedAs, HasShape, FormFor, FormIs, LabelsAre, refusal, acceptance, Answers}
-use Rattle.format.specs.Laws.Passes.{small}
+use Rattle.format.specs.Laws.Passes.{at-most}
 use Rattle.format.specs.Laws.TablePlaces.{trailer-at}
 use Rattle.scan.specs.Laws.Laid.{Laid, Named, Room, Judges}
 use Rattle.scan.specs.Laws.NameScans.{Counted}
@@ -26,7 +26,7 @@ use Rattle.shape.specs.declared.form.Form.the-variants.{Refused, Shaped}
 use Rattle.format.specs.declared.ReadAnswer.{ReadAnswer}
 
 -- rule 6, by the number of labels
-few-labels : (k : Kind) (p : Program Plain) → fewLabels k p ≡ leb (labelsOf k p) 400
+few-labels : (k : Kind) (p : Program Plain) → fewLabels k p ≡ leb (labelsOf k p) maxLabels
 few-labels concurrent p = refl
 few-labels sequential p = refl
 
@@ -38,12 +38,12 @@ module _ {k : Kind} {t : List ℕ} {s : Shape} {p : Program Plain} (shaped : Sha
   -- the records are in the table
   pub shape-room : Room t (s .procedures) (s .records)
   shape-room = record {
-    few = omega (arith, shaped .procedures, shaped .formed .procs .high, small k .procs);
+    few = omega (arith, shaped .procedures, shaped .formed .procs .high, at-most k .procs);
     room = omega (arith, trailer-at k p (shaped .formed .same), shaped .procedures, shaped .records);
   }
 
   -- so are the bodies
-  pub labels-room : (s .records ≤ length t) × (s .procedures ≤ 512)
+  pub labels-room : (s .records ≤ length t) × (s .procedures ≤ limits sequential .procs)
   labels-room = omega (arith, shape-room .few, shape-room .room)
 
   -- ---- the number of labels
@@ -74,14 +74,14 @@ module _ {k : Kind} {t : List ℕ} {s : Shape} {p : Program Plain} (shaped : Sha
     named = sym (J .gives p (record { laid = laid; places = shaped .locations })) ∙ names
 
     -- 6
-    pub labels-over : {r : ReadAnswer} → 400 < n → r ≡ refusal 6 → Answers k t r
+    pub labels-over : {r : ReadAnswer} → maxLabels < n → r ≡ refusal 6 → Answers k t r
     labels-over h q = record {
-      same = q ∙ sym (ap (readAs k) (shaped .verdict) ∙ rw (named, few-labels k p, ← L .same p shaped, lt-leb n 400 h));
+      same = q ∙ sym (ap (readAs k) (shaped .verdict) ∙ rw (named, few-labels k p, ← L .same p shaped, lt-leb n maxLabels h));
     }
 
-    module _ (labels : n ≤ 400) {c : Bool} (C : Judges (Named t (s .procedures) (s .records)) noCycle c) where
+    module _ (labels : n ≤ maxLabels) {c : Bool} (C : Judges (Named t (s .procedures) (s .records)) noCycle c) where
       few : fewLabels k p ≡ true
-      few = few-labels k p ∙ rw (← L .same p shaped) (le-leb n 400 labels)
+      few = few-labels k p ∙ rw (← L .same p shaped) (le-leb n maxLabels labels)
 
       -- rule 7, as it was judged
       called : noCycle p ≡ c

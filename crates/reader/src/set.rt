@@ -1,11 +1,11 @@
 // Rule 8: "a local may be read before it is set". A set of locals is the bits of a number.
 use basics::numbers;
+use basics::numbers::LOCAL;
+use basics::numbers::NESTING;
 use basics::numbers::RECORD;
 use parse::Ends;
-use scan::tokens::LOCAL;
 use scan::tokens::body_start;
 use scan::tokens::byte_at;
-use shape::bodies::DEPTH;
 ghost use mathlib.Core.Path.{_≡_};
 ghost use Prim.Native.Nat.{_<_};
 ghost use lib.ListN.{length, getD};
@@ -197,7 +197,7 @@ fn body_set(t: &[u8], m: usize, procedures: usize, records: usize) -> bool
 {
     let parameters = firsts(byte_at(t, records + RECORD * m));
     let at = body_start(t, records, m);
-    let After::Set(_, _) = set_block(t, at, DEPTH, parameters) else {
+    let After::Set(_, _) = set_block(t, at, NESTING, parameters) else {
         return false;
     };
     true

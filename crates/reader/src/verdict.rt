@@ -1,5 +1,6 @@
 // Rules 1 to 8 one after the other: "The smallest number that applies is answered".
 use super::set::set_before_read;
+use basics::numbers::LABELS;
 use format::ReadAnswer;
 use parse::Kind;
 use scan::calls::no_cycle;
@@ -11,9 +12,6 @@ use shape::form::read_form;
 ghost use mathlib.Core.Path.{_≡_};
 ghost use Rattle.parse.specs.Ends.{kindOf};
 ghost use Rattle.shape.specs.Shapes.{HasShape, LabelsAre, Answers, refusal, acceptance};
-
-// "concurrent: over 400 labels".
-const LABELS: usize = 400;
 
 // "A refusal returns its number and zeros".
 fn refused(number: u8) -> ReadAnswer
@@ -61,6 +59,7 @@ fn judge(table: &[u8], shape: Shape, kind: Kind) -> ReadAnswer
 {
     if names_right(table, shape.locations, shape.procedures, shape.records) {
         let labels = labels_of(table, shape, kind);
+        // "concurrent: over 400 labels"
         if LABELS < labels {
             return refused(6);
         }

@@ -5,32 +5,31 @@ use super::tokens::body_end;
 use super::tokens::body_start;
 use super::tokens::token_at;
 use super::tokens::token_end;
+use basics::numbers::MOST_PROCEDURES;
 ghost use mathlib.Core.Path.{_≡_};
 ghost use Prim.Native.Nat.{_<_, _≤_};
 ghost use lib.ListN.{length};
-ghost use Rattle.format.specs.Rules.{noCycle};
+ghost use Rattle.format.specs.Syntax.{sequential};
+ghost use Rattle.format.specs.Rules.{limits, noCycle};
 ghost use Rattle.scan.specs.Laws.Laid.{Room, Judges, Named};
 ghost use Rattle.scan.specs.Laws.Scans.{Scans};
 ghost use Rattle.scan.specs.Laws.CallScans.{callsInto, leadsIn, Leads, NextRow, Some};
 
-// As many procedures as a table can have.
-const MOST: usize = 512;
-
 // Does a token call a procedure of the row?
-fn calls_into(k: Token, row: &[bool; 512]) -> bool
+fn calls_into(k: Token, row: &[bool; MOST_PROCEDURES]) -> bool
     ensures { λ r. ⌜ r ≡ callsInto (now (row .entry)) k ⌝ }
 {
     let Token::Call(m, _) = k else {
         return false;
     };
-    if m < MOST {
+    if m < MOST_PROCEDURES {
         return row[m];
     }
     false
 }
 
 // Does a token from a place up to another?
-fn leads(t: &[u8], at: usize, end: usize, row: &[bool; 512]) -> bool
+fn leads(t: &[u8], at: usize, end: usize, row: &[bool; MOST_PROCEDURES]) -> bool
     requires { ⌜ end ≤ length (now t) ⌝ }
     ensures { λ r. ⌜ Scans (now (t .entry)) end (leadsIn (now (row .entry))) at r ⌝ }
 {
@@ -45,7 +44,13 @@ fn leads(t: &[u8], at: usize, end: usize, row: &[bool; 512]) -> bool
 }
 
 // Does procedure m?
-fn body_leads(t: &[u8], m: usize, procedures: usize, records: usize, row: &[bool; 512]) -> bool
+fn body_leads(
+    t: &[u8],
+    m: usize,
+    procedures: usize,
+    records: usize,
+    row: &[bool; MOST_PROCEDURES],
+) -> bool
     requires { ⌜ Room (now t) procedures records × (m < procedures) ⌝ }
     ensures { λ r. ⌜ Leads (now (t .entry)) procedures records (now (row .entry)) m r ⌝ }
 {
@@ -55,11 +60,16 @@ fn body_leads(t: &[u8], m: usize, procedures: usize, records: usize, row: &[bool
 }
 
 // The procedures that call one of the row.
-fn next_row(t: &[u8], procedures: usize, records: usize, row: &[bool; 512]) -> [bool; 512]
+fn next_row(
+    t: &[u8],
+    procedures: usize,
+    records: usize,
+    row: &[bool; MOST_PROCEDURES],
+) -> [bool; MOST_PROCEDURES]
     requires { ⌜ Room (now t) procedures records ⌝ }
     ensures { λ r. ⌜ NextRow (now (t .entry)) procedures records (now (row .entry)) procedures r ⌝ }
 {
-    let mut next = [false; 512];
+    let mut next = [false; MOST_PROCEDURES];
     let mut m = 0;
     while m < procedures {
         next[m] = body_leads(t, m, procedures, records, row);
@@ -69,8 +79,8 @@ fn next_row(t: &[u8], procedures: usize, records: usize, row: &[bool; 512]) -> [
 }
 
 // Is a procedure in the row?
-fn some(row: &[bool; 512], procedures: usize) -> bool
-    requires { ⌜ procedures ≤ 512 ⌝ }
+fn some(row: &[bool; MOST_PROCEDURES], procedures: usize) -> bool
+    requires { ⌜ procedures ≤ limits sequential .procs ⌝ }
     ensures { λ r. ⌜ Some (now (row .entry)) procedures r ⌝ }
 {
     let mut m = 0;
@@ -88,7 +98,7 @@ pub fn no_cycle(t: &[u8], procedures: usize, records: usize) -> bool
     requires { ⌜ Room (now t) procedures records ⌝ }
     ensures { λ r. ⌜ Judges (Named (now (t .entry)) procedures records) noCycle r ⌝ }
 {
-    let mut row = [true; 512];
+    let mut row = [true; MOST_PROCEDURES];
     let mut k = 0;
     while k < procedures {
         let next = next_row(t, procedures, records, &row);

@@ -5,6 +5,8 @@ use super::tokens::token_end;
 ghost use mathlib.Core.Path.{_≡_};
 ghost use Prim.Native.Nat.{_+_, _-_, _<_, _≤_};
 ghost use lib.ListN.{length};
+ghost use Rattle.format.specs.Syntax.{sequential};
+ghost use Rattle.format.specs.Rules.{limits};
 ghost use Rattle.scan.specs.Laws.LabelScans.{instruction, entered, further, ownLabels, blocksOpen, CountsLabels};
 
 // 1, if a token begins an instruction.
@@ -67,7 +69,7 @@ fn blocks_open(k: Token, within: usize) -> usize
 
 // The labels of a table that rules 1 to 4 let through. Each procedure has one end label.
 pub fn count_labels(t: &[u8], procedures: usize, records: usize) -> usize
-    requires { ⌜ (records ≤ length (now t)) × (procedures ≤ 512) ⌝ }
+    requires { ⌜ (records ≤ length (now t)) × (procedures ≤ limits sequential .procs) ⌝ }
     ensures { λ r. ⌜ CountsLabels (now (t .entry)) procedures records r ⌝ }
 {
     let mut labels = procedures;

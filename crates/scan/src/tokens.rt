@@ -4,13 +4,9 @@ use basics::numbers::RECORD;
 ghost use mathlib.Core.Path.{_≡_};
 ghost use Prim.Native.Nat.{_+_, _*_, _<_, _≤_};
 ghost use lib.ListN.{length, getD};
+ghost use Rattle.format.specs.Encode.{recordSize};
 ghost use Rattle.scan.specs.Tokens.{twoAt, fourAt, tokenAt, sizeAt};
 ghost use Rattle.scan.specs.Laws.Laid.{Room, BodyEnds};
-
-// The marks of a location and of a local in an expression.
-const LOCATION: u8 = 0x02;
-
-pub const LOCAL: u8 = 0x05;
 
 // What a mark begins. A truth value, a whole number or an operator names nothing: it is plain.
 pub enum Token {
@@ -55,10 +51,10 @@ pub fn token_at(t: &[u8], i: usize) -> Token
     if mark == numbers::END {
         return Token::Stop;
     }
-    if mark == LOCATION {
+    if mark == numbers::LOCATION {
         return Token::Location(two_at(t, i + 1));
     }
-    if mark == LOCAL {
+    if mark == numbers::LOCAL {
         return Token::Local(byte_at(t, i + 1));
     }
     if mark == numbers::ASSIGN {
@@ -146,8 +142,8 @@ pub fn token_end(t: &[u8], i: usize) -> usize
 
 // Where the body of procedure m begins.
 pub fn body_start(t: &[u8], records: usize, m: usize) -> usize
-    requires { ⌜ records + 6 * m ≤ length (now t) ⌝ }
-    ensures { λ r. ⌜ r ≡ fourAt (now (t .entry)) (records + 6 * m + 2) ⌝ }
+    requires { ⌜ records + recordSize * m ≤ length (now t) ⌝ }
+    ensures { λ r. ⌜ r ≡ fourAt (now (t .entry)) (records + recordSize * m + 2) ⌝ }
 {
     let at = records + RECORD * m + 2;
     two_at(t, at) + 65536 * two_at(t, at + 2)

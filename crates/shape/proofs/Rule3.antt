@@ -14,15 +14,15 @@ use Rattle.value.specs.Lists.{all, sum}
 use Rattle.value.specs.Values.{unbytes, numberAt}
 use Rattle.value.specs.Laws.Bytes as Numbers
 use Rattle.format.specs.Syntax.{Kind, concurrent, sequential}
-use Rattle.format.specs.Encode.{Trailer}
-use Rattle.format.specs.Rules.{limits, within, begun}
+use Rattle.format.specs.Encode.{Trailer, recordSize}
+use Rattle.format.specs.Rules.{limits, within, begun, maxSize}
 use Rattle.shape.specs.Shapes.{limitsOf, headsAt, numbersAt, fewLocals, LocalsTest, SizesTest, CellsAre, BegunTest}
 use Rattle.shape.specs.Shapes.{MainsTest, StartsTest, RecordsTest}
 use Rattle.format.specs.Laws.Places.{rows, headAt}
 use Rattle.parse.specs.Ends.{kindOf}
 use Rattle.parse.specs.declared.Kind as K
 use Rattle.parse.specs.declared.Kind.the-variants.{Concurrent, Sequential}
-use Rattle.shape.specs.declared.limits.Limits as L
+use Rattle.basics.specs.declared.numbers.Limits as L
 
 -- ---- a test of things one after the other, k bytes each
 
@@ -73,19 +73,19 @@ module _ (t : List ℕ) (p : ℕ) where
 -- ---- the locals
 
 pub record LocalsFrom (t : List ℕ) (i n most p m : ℕ) : Type 0 where
-  pub scan : ScanFrom headAt 6 (fewLocals most) t i n p m
-  pub room : p + 6 * m ≤ length t
+  pub scan : ScanFrom headAt recordSize (fewLocals most) t i n p m
+  pub room : p + recordSize * m ≤ length t
 
 module _ (t : List ℕ) (i n most : ℕ) where
   -- all are left
-  pub locals-start : i + 6 * n ≤ length t → LocalsFrom t i n most i n
-  locals-start l = record { scan = scan-start headAt 6 (fewLocals most) t i n l; room = l }
+  pub locals-start : i + recordSize * n ≤ length t → LocalsFrom t i n most i n
+  locals-start l = record { scan = scan-start headAt recordSize (fewLocals most) t i n l; room = l }
 
   module _ {p m : ℕ} (F : LocalsFrom t i n most p m) where
     -- "parameters over locals"
     pub locals-low : 0 < m → getD t (p + 1) 0 < getD t p 0 → LocalsTest t i n most false
     locals-low some h = record {
-      same = scan-fail headAt 6 (fewLocals most) t i n p m (F .scan) some
+      same = scan-fail headAt recordSize (fewLocals most) t i n p m (F .scan) some
           (rw (params-at t p, locals-at t p, lt-leb (getD t p 0) (getD t (p + 1) 0) h));
     }
 
@@ -94,21 +94,21 @@ module _ (t : List ℕ) (i n most : ℕ) where
       pub locals-over : most < getD t (p + 1) 0 → LocalsTest t i n most false
       locals-over h = record {
         same =
-            scan-fail headAt 6 (fewLocals most) t i n p m (F .scan) some
+            scan-fail headAt recordSize (fewLocals most) t i n p m (F .scan) some
             (rw (params-at t p, locals-at t p, le-leb (getD t p 0) (getD t (p + 1) 0) few, lt-leb (getD t (p + 1) 0) most h));
       }
 
       -- one passes
-      pub locals-next : getD t (p + 1) 0 ≤ most → LocalsFrom t i n most (p + 6) (m - 1)
+      pub locals-next : getD t (p + 1) 0 ≤ most → LocalsFrom t i n most (p + recordSize) (m - 1)
       locals-next h =
-          let next = scan-next headAt 6 (fewLocals most) t i n p m (F .scan) some
+          let next = scan-next headAt recordSize (fewLocals most) t i n p m (F .scan) some
           (rw (params-at t p, locals-at t p, le-leb (getD t p 0) (getD t (p + 1) 0) few, le-leb (getD t (p + 1) 0) most h))
           in
           record { scan = next; room = next .room }
 
     -- none is left
     pub locals-end : m ≤ 0 → LocalsTest t i n most true
-    locals-end z = record { same = scan-end headAt 6 (fewLocals most) t i n p m (F .scan) z }
+    locals-end z = record { same = scan-end headAt recordSize (fewLocals most) t i n p m (F .scan) z }
 
 -- one law for each way
 pub ruleset locals-ways = (locals-start, locals-low, locals-over, locals-next, locals-end)
@@ -120,13 +120,13 @@ abbrev number : List ℕ → ℕ
 number bs = unbytes (take 2 bs)
 
 pub record SizesFrom (t : List ℕ) (i n p m : ℕ) : Type 0 where
-  pub scan : ScanFrom number 2 (within 1 256) t i n p m
+  pub scan : ScanFrom number 2 (within 1 maxSize) t i n p m
   pub room : p + 2 * m ≤ length t
 
 module _ (t : List ℕ) (i n : ℕ) where
   -- all are left
   pub sizes-start : i + 2 * n ≤ length t → SizesFrom t i n i n
-  sizes-start l = record { scan = scan-start number 2 (within 1 256) t i n l; room = l }
+  sizes-start l = record { scan = scan-start number 2 (within 1 maxSize) t i n l; room = l }
 
   module _ {p m s : ℕ} (F : SizesFrom t i n p m) (is : s ≡ numberAt 2 t p) (some : 0 < m) where
     -- the size there
@@ -135,21 +135,21 @@ module _ (t : List ℕ) (i n : ℕ) where
 
     -- size 0
     pub sizes-none : s < 1 → SizesTest t i n false
-    sizes-none h = record { same = scan-fail number 2 (within 1 256) t i n p m (F .scan) some (rw (size-is, lt-leb 1 s h)) }
+    sizes-none h = record { same = scan-fail number 2 (within 1 maxSize) t i n p m (F .scan) some (rw (size-is, lt-leb 1 s h)) }
 
     -- over 256
-    pub sizes-over : 1 ≤ s → 256 < s → SizesTest t i n false
-    sizes-over l h = record { same = scan-fail number 2 (within 1 256) t i n p m (F .scan) some (rw (size-is, le-leb 1 s l, lt-leb s 256 h)) }
+    pub sizes-over : 1 ≤ s → maxSize < s → SizesTest t i n false
+    sizes-over l h = record { same = scan-fail number 2 (within 1 maxSize) t i n p m (F .scan) some (rw (size-is, le-leb 1 s l, lt-leb s maxSize h)) }
 
     -- one passes
-    pub sizes-next : 1 ≤ s → s ≤ 256 → SizesFrom t i n (p + 2) (m - 1)
+    pub sizes-next : 1 ≤ s → s ≤ maxSize → SizesFrom t i n (p + 2) (m - 1)
     sizes-next l h =
-        let next = scan-next number 2 (within 1 256) t i n p m (F .scan) some (rw (size-is, le-leb 1 s l, le-leb s 256 h)) in
+        let next = scan-next number 2 (within 1 maxSize) t i n p m (F .scan) some (rw (size-is, le-leb 1 s l, le-leb s maxSize h)) in
         record { scan = next; room = next .room }
 
   -- none is left
   pub sizes-end : {p m : ℕ} → SizesFrom t i n p m → m ≤ 0 → SizesTest t i n true
-  sizes-end {p} {m} F z = record { same = scan-end number 2 (within 1 256) t i n p m (F .scan) z }
+  sizes-end {p} {m} F z = record { same = scan-end number 2 (within 1 maxSize) t i n p m (F .scan) z }
 
 -- one law for each way
 pub ruleset sizes-ways = (sizes-start, sizes-none, sizes-over, sizes-next, sizes-end)
@@ -189,23 +189,23 @@ pub ruleset cells-ways = (cells-start, cells-next, cells-end)
 -- ---- the mains
 
 -- a procedure that is there, by its place
-begun-at : (n : ℕ) (bs : List ℕ) (m : ℕ) → m < n → begun (rows headAt 6 n bs) m ≡ eqb (getD bs (6 * m) 0) 0
+begun-at : (n : ℕ) (bs : List ℕ) (m : ℕ) → m < n → begun (rows headAt recordSize n bs) m ≡ eqb (getD bs (recordSize * m) 0) 0
 begun-at zero bs m l = absurd (omega arith)
 begun-at (suc n) bs zero l = refl
 begun-at (suc n) bs (suc m) l =
-    let far : 6 * suc m ≡ 6 + 6 * m = omega arith in
-    rw far (begun-at n (drop 6 bs) m (omega arith) ∙ ap (λ b. eqb b 0) (getD-drop 6 bs (6 * m) 0))
+    let far : recordSize * suc m ≡ recordSize + recordSize * m = omega arith in
+    rw far (begun-at n (drop recordSize bs) m (omega arith) ∙ ap (λ b. eqb b 0) (getD-drop recordSize bs (recordSize * m) 0))
 
 -- and one that is not
-not-begun : (n : ℕ) (bs : List ℕ) (m : ℕ) → n ≤ m → begun (rows headAt 6 n bs) m ≡ false
+not-begun : (n : ℕ) (bs : List ℕ) (m : ℕ) → n ≤ m → begun (rows headAt recordSize n bs) m ≡ false
 not-begun zero bs m l = refl
 not-begun (suc n) bs zero l = absurd (omega arith)
-not-begun (suc n) bs (suc m) l = not-begun n (drop 6 bs) m (omega arith)
+not-begun (suc n) bs (suc m) l = not-begun n (drop recordSize bs) m (omega arith)
 
 module _ (t : List ℕ) (at P m : ℕ) where
   -- below P
-  pub begun-there : m < P → BegunTest t at P m (eqb (getD t (at + 6 * m) 0) 0)
-  begun-there l = record { same = sym (begun-at P (drop at t) m l ∙ ap (λ b. eqb b 0) (getD-drop at t (6 * m) 0)) }
+  pub begun-there : m < P → BegunTest t at P m (eqb (getD t (at + recordSize * m) 0) 0)
+  begun-there l = record { same = sym (begun-at P (drop at t) m l ∙ ap (λ b. eqb b 0) (getD-drop at t (recordSize * m) 0)) }
 
   -- "not below P"
   pub begun-past : P ≤ m → BegunTest t at P m false
@@ -277,31 +277,31 @@ pub ruleset starts-ways = (is-concurrent, is-sequential, starts-mains, starts-wr
 module _ (k : Kind) (t : List ℕ) (at : ℕ) (r : Trailer) {m : L.Limits} (e : limitsOf m ≡ limits k) {a : Bool}
     (A : LocalsTest t at (r .procs) (m .locals) a) where
   -- where the sizes and the mains stand
-  sizes-at : drop (r .procs * 6) (drop at t) ≡ drop (at + 6 * r .procs) t
-  sizes-at = let far : at + r .procs * 6 ≡ at + 6 * r .procs = omega arith in drop-drop (r .procs * 6) at t ∙ rw far
+  sizes-at : drop (r .procs * recordSize) (drop at t) ≡ drop (at + recordSize * r .procs) t
+  sizes-at = let far : at + r .procs * recordSize ≡ at + recordSize * r .procs = omega arith in drop-drop (r .procs * recordSize) at t ∙ rw far
 
   -- the mains
-  mains-at : drop (r .procs * 6 + r .places * 2) (drop at t) ≡ drop (at + 6 * r .procs + 2 * r .places) t
+  mains-at : drop (r .procs * recordSize + r .places * 2) (drop at t) ≡ drop (at + recordSize * r .procs + 2 * r .places) t
   mains-at =
-      let far : at + (r .procs * 6 + r .places * 2) ≡ at + 6 * r .procs + 2 * r .places = omega arith in
-      drop-drop (r .procs * 6 + r .places * 2) at t ∙ rw far
+      let far : at + (r .procs * recordSize + r .places * 2) ≡ at + recordSize * r .procs + 2 * r .places = omega arith in
+      drop-drop (r .procs * recordSize + r .places * 2) at t ∙ rw far
 
   -- the locals are wrong
   pub records-locals : a ≡ false → RecordsTest k t at r false
   records-locals f = record { same = rw (← e, ← A .same, f) }
 
-  module _ (locals : a ≡ true) {b : Bool} (S : SizesTest t (at + 6 * r .procs) (r .places) b) where
+  module _ (locals : a ≡ true) {b : Bool} (S : SizesTest t (at + recordSize * r .procs) (r .places) b) where
     -- a size is
     pub records-sizes : b ≡ false → RecordsTest k t at r false
     records-sizes f = record { same = rw (← e, ← A .same, locals, sizes-at, ← S .same, f) }
 
-    module _ (sizes : b ≡ true) {c : ℕ} (C : CellsAre t (at + 6 * r .procs) (r .places) c) where
+    module _ (sizes : b ≡ true) {c : ℕ} (C : CellsAre t (at + recordSize * r .procs) (r .places) c) where
       -- "all sizes together"
       pub records-cells : m .cells < c → RecordsTest k t at r false
       records-cells f = record { same = rw (← e, ← A .same, locals, sizes-at, ← S .same, sizes, ← C .same, lt-leb c (m .cells) f) }
 
       -- the mains decide
-      pub records-starts : {d : Bool} → c ≤ m .cells → StartsTest k t (at + 6 * r .procs + 2 * r .places) (r .threads) at (r .procs) d
+      pub records-starts : {d : Bool} → c ≤ m .cells → StartsTest k t (at + recordSize * r .procs + 2 * r .places) (r .threads) at (r .procs) d
           → RecordsTest k t at r d
       records-starts f D = record {
         same = rw (← e, ← A .same, locals, sizes-at, ← S .same, sizes, ← C .same, le-leb c (m .cells) f, mains-at) (D .same);

@@ -15,9 +15,9 @@ use Rattle.value.specs.Laws.Tests.{by-test}
 use Rattle.value.specs.Laws.Bytes.{Bytes}
 use Rattle.value.specs.Laws.Bytes as Numbers
 use Rattle.format.specs.Syntax.{Kind, Block, Plain}
-use Rattle.format.specs.Encode.{Head}
+use Rattle.format.specs.Encode.{Head, recordSize}
 use Rattle.format.specs.Encode as E
-use Rattle.format.specs.Decode.{Read, times, finish, block}
+use Rattle.format.specs.Decode.{Read, times, finish, block, maxNesting}
 use Rattle.format.specs.Rules.{allowed, placed}
 use Rattle.parse.specs.Ends.{endOf, check}
 use Rattle.shape.specs.Shapes.{headsAt, placedRight, bodiesRight, BodyReads, BodiesTest}
@@ -76,10 +76,10 @@ no-more k m p (b ∷ bytes) = sym (ne-eqb (suc (length bytes)) 0 (λ e. omega ar
 -- ---- the loop
 
 -- of the body of procedure m: its record, from `at` on, and then the others
-opened : (t : List ℕ) (at m : ℕ) → 0 < m → headsAt t at m ≡ headAt (drop at t) ∷ headsAt t (at + 6) (m - 1)
+opened : (t : List ℕ) (at m : ℕ) → 0 < m → headsAt t at m ≡ headAt (drop at t) ∷ headsAt t (at + recordSize) (m - 1)
 opened t at m some =
     let one : m ≡ suc (m - 1) = omega arith in
-    ap (λ m. rows headAt 6 m (drop at t)) one ∙ rw (drop-drop 6 at t)
+    ap (λ m. rows headAt recordSize m (drop at t)) one ∙ rw (drop-drop recordSize at t)
 
 -- where the record says that it begins
 offset-at : (t : List ℕ) (at : ℕ) → headAt (drop at t) .at ≡ numberAt 4 t (at + 2)
@@ -93,22 +93,22 @@ at-end n p {r} e l =
     (λ t. let other : p ≢ n = eqb-false p n t in rw t (ne-eqb r 0 (λ z. other (omega arith))))
 
 -- a body ends as many bytes behind its beginning as it has
-next-at : (code : List ℕ) (p l : ℕ) (b : Block Plain) → Bytes code → l ≤ length code → block 16 (drop p code) ≡ is (b, drop l code)
+next-at : (code : List ℕ) (p l : ℕ) (b : Block Plain) → Bytes code → l ≤ length code → block maxNesting (drop p code) ≡ is (b, drop l code)
     → p + length (E.block b) ≡ l
 next-at code p l b h inside found =
-    let body = block-found code p 16 h found in
+    let body = block-found code p maxNesting h found in
     omega (arith, ap length (body .2), length-drop l code, length-drop (body .0) code, body .1 .stands .ends, body .1 .stands .fits)
 
 -- m bodies are left, from procedure q on; the first begins at p, and its record stands in t from `at` on
 pub record BodiesFrom (k : Kind) (code t : List ℕ) (i n p at q m : ℕ) : Type 0 where
   pub same : Bytes code → bodiesRight k 0 0 (headsAt t i n) code ≡ bodiesRight k q p (headsAt t at m) (drop p code)
   pub inside : p ≤ length code
-  pub room : at + 6 * m ≤ length t
+  pub room : at + recordSize * m ≤ length t
   pub count : q + m ≡ n
 
 module _ (k : Kind) (code t : List ℕ) (i n : ℕ) where
   -- all are left
-  pub bodies-start : i + 6 * n ≤ length t → BodiesFrom k code t i n 0 i 0 n
+  pub bodies-start : i + recordSize * n ≤ length t → BodiesFrom k code t i n 0 i 0 n
   bodies-start l = record { same = λ h. refl; inside = omega arith; room = l; count = omega arith }
 
   module _ {p at q m : ℕ} (F : BodiesFrom k code t i n p at q m) where
@@ -124,28 +124,32 @@ module _ (k : Kind) (code t : List ℕ) (i n : ℕ) where
     }
 
     module _ (some : 0 < m) {o : ℕ} (off : o ≡ numberAt 4 t (at + 2)) where
+      -- the records behind the next
+      abbrev behind : List Head
+      behind = headsAt t (at + recordSize) (m - 1)
+
       -- the bytes of the bodies that are left
       abbrev read : Maybe (List (Block Plain))
-      read = finish (times (block 16) (suc (length (headsAt t (at + 6) (m - 1)))) (drop p code))
+      read = finish (times (block maxNesting) (suc (length behind)) (drop p code))
 
       -- of which the first is read
-      left : Bytes code → bodiesRight k 0 0 (headsAt t i n) code ≡ placedRight k q p (headAt (drop at t) ∷ headsAt t (at + 6) (m - 1)) read
+      left : Bytes code → bodiesRight k 0 0 (headsAt t i n) code ≡ placedRight k q p (headAt (drop at t) ∷ behind) read
       left h = F .same h ∙ rw (opened t at m some)
 
       -- the next does not begin there
       pub bodies-moved : (o ≡ p → ⊥) → BodiesTest k code t i n false
       bodies-moved n = record {
         same = λ h.
-            sym (left h ∙ not-placed k q p (headAt (drop at t)) (headsAt t (at + 6) (m - 1)) read (rw (offset-at t at, ← off) (ne-eqb o p n)));
+            sym (left h ∙ not-placed k q p (headAt (drop at t)) behind read (rw (offset-at t at, ← off) (ne-eqb o p n)));
       }
 
       module _ (here : o ≡ p) {f : Ends} (R : BodyReads k code p q f) where
         -- the bytes of the others
         abbrev others : List ℕ → Read (List (Block Plain))
-        others r = times (block 16) (length (headsAt t (at + 6) (m - 1))) r
+        others r = times (block maxNesting) (length behind) r
 
         -- the first body is b, and r are left
-        more : (b : Block Plain) (r : List ℕ) → block 16 (drop p code) ≡ is (b, r) → read ≡ before b (finish (others r))
+        more : (b : Block Plain) (r : List ℕ) → block maxNesting (drop p code) ≡ is (b, r) → read ≡ before b (finish (others r))
         more b r found = rw found (finish-more b (others r))
 
         -- it is none
@@ -153,26 +157,26 @@ module _ (k : Kind) (code t : List ℕ) (i n : ℕ) where
         bodies-cut e = record {
           same = λ h.
               sym (left h
-              ∙ passed-none (allowed (bodyIn k q)) code (block 16 (drop p code)) (sym e ∙ R .reads .same)
+              ∙ passed-none (allowed (bodyIn k q)) code (block maxNesting (drop p code)) (sym e ∙ R .reads .same)
               (λ missed. rw missed)
-              (λ b r found bad. rw (more b r found) (not-allowed k q p (headAt (drop at t)) (headsAt t (at + 6) (m - 1)) b (finish (others r)) bad)));
+              (λ b r found bad. rw (more b r found) (not-allowed k q p (headAt (drop at t)) behind b (finish (others r)) bad)));
         }
 
         -- it ends at l
-        pub bodies-next : {l : ℕ} → f ≡ At l → BodiesFrom k code t i n l (at + 6) (q + 1) (m - 1)
+        pub bodies-next : {l : ℕ} → f ≡ At l → BodiesFrom k code t i n l (at + recordSize) (q + 1) (m - 1)
         bodies-next {l} e =
-            let ends : At l ≡ endOf code (block 16 (drop p code) >>= check (allowed (bodyIn k q))) = sym e ∙ R .reads .same in
-            let first = passed-at (allowed (bodyIn k q)) code p (block 16 (drop p code)) (block-leaves 16 (drop p code)) ends in
-            let inside : l ≤ length code = end-inside code (block 16 (drop p code) >>= check (allowed (bodyIn k q))) ends in
+            let ends : At l ≡ endOf code (block maxNesting (drop p code) >>= check (allowed (bodyIn k q))) = sym e ∙ R .reads .same in
+            let first = passed-at (allowed (bodyIn k q)) code p (block maxNesting (drop p code)) (block-leaves maxNesting (drop p code)) ends in
+            let inside : l ≤ length code = end-inside code (block maxNesting (drop p code) >>= check (allowed (bodyIn k q))) ends in
             record {
               same = λ h.
                   let begun : eqb (headAt (drop at t) .at) p ≡ true = rw (offset-at t at, ← off) (eq-eqb o p here) in
                   let far : p + length (E.block (first .0)) ≡ l = next-at code p l (first .0) h inside (first .1) in
                   let next : suc q ≡ q + 1 = omega arith in
                   left h
-                  ∙ ap (placedRight k q p (headAt (drop at t) ∷ headsAt t (at + 6) (m - 1))) (more (first .0) (drop l code) (first .1))
-                  ∙ right-one k q p (headAt (drop at t)) (headsAt t (at + 6) (m - 1)) (first .0) (finish (others (drop l code))) begun (first .2)
-                  ∙ ap₂ (λ q p. placedRight k q p (headsAt t (at + 6) (m - 1)) (finish (others (drop l code)))) next far;
+                  ∙ ap (placedRight k q p (headAt (drop at t) ∷ behind)) (more (first .0) (drop l code) (first .1))
+                  ∙ right-one k q p (headAt (drop at t)) behind (first .0) (finish (others (drop l code))) begun (first .2)
+                  ∙ ap₂ (λ q p. placedRight k q p behind (finish (others (drop l code)))) next far;
               inside = inside;
               room = omega (arith, F .room);
               count = omega (arith, F .count);

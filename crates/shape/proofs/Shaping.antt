@@ -12,9 +12,9 @@ use Rattle.value.specs.Laws.Maybes.{is-inj}
 use Rattle.value.specs.Laws.Tests.{never}
 use Rattle.value.specs.Laws.Bytes.{bytes-take}
 use Rattle.format.specs.Syntax.{Kind, Block, Program, Plain}
-use Rattle.format.specs.Encode.{Middle, middleOf, front}
+use Rattle.format.specs.Encode.{Middle, middleOf, front, recordSize, trailerSize, distance}
 use Rattle.format.specs.Encode as E
-use Rattle.format.specs.Decode.{finish, times, but, last}
+use Rattle.format.specs.Decode.{finish, times, but, last, maxNesting}
 use Rattle.format.specs.Decode as D
 use Rattle.format.specs.Rules.{placed, allAllowed, bind, program, rightRecords, allNamed, fewLabels, noCycle, setFirst}
 use Rattle.format.specs.Rules.{Verdict, refused, require, demand, verdict}
@@ -70,40 +70,40 @@ judged-late k p n e =
 module _ {k : Kind} {t : List ℕ} {r : Trailer} (closed : Closed k t r) where
   -- the bytes before the trailer, and where the records begin
   abbrev body : List ℕ
-  body = take (length t - 16) t
+  body = take (length t - trailerSize) t
 
   -- where the records begin
   abbrev at : ℕ
-  at = length t - 16 - r .distance
+  at = length t - trailerSize - r .distance
 
   -- the records, sizes and mains
   abbrev m : Middle
   m = middleAt (r .procedures) (r .locations) (r .threads) (drop at body)
 
   -- without the trailer
-  long : length body ≡ length t - 16
-  long = length-take-le (length t - 16) t (omega arith)
+  long : length body ≡ length t - trailerSize
+  long = length-take-le (length t - trailerSize) t (omega arith)
 
   -- the middle is there
-  middle-is : finish (D.middle (r .procedures) (r .locations) (r .threads) (last (r .distance) (but 16 t))) ≡ is m
+  middle-is : finish (D.middle (r .procedures) (r .locations) (r .threads) (last (r .distance) (but trailerSize t))) ≡ is m
   middle-is =
       let there = middle-there t (r .procedures) (r .locations) (r .threads) (omega (arith, closed .back, closed .room)) in
       let P : ℕ = r .procedures in
       let M : ℕ = r .locations in
       let T : ℕ = r .threads in
-      subst (λ d. finish (D.middle P M T (last d (but 16 t))) ≡ is (middleAt P M T (last d (but 16 t)))) (sym (closed .back)) there
+      subst (λ d. finish (D.middle P M T (last d (but trailerSize t))) ≡ is (middleAt P M T (last d (but trailerSize t)))) (sym (closed .back)) there
       ∙ ap (λ n. is (middleAt P M T (drop (n - r .distance) body))) long
 
   -- and the bytes before it
-  code-is : but (r .distance) (but 16 t) ≡ take at t
-  code-is = ap (λ n. take (n - r .distance) body) long ∙ take-take at (length t - 16) t (omega arith)
+  code-is : but (r .distance) (but trailerSize t) ≡ take at t
+  code-is = ap (λ n. take (n - r .distance) body) long ∙ take-take at (length t - trailerSize) t (omega arith)
 
   -- what rules 1 and 2 leave of the verdict
   after-2 : verdict k t ≡ require 3 (rightRecords k m) (demand 4 (program k (take at t) m) (judged k))
   after-2 = rw (closed .read, closed .trailer, closed .counts, middle-is, code-is)
 
   -- the counts are those of the program that t is formed of
-  shaped-as : (p : Program Plain) → Formed k t p → {n : ℕ} → CellsAre body (at + 6 * r .procedures) (r .locations) n
+  shaped-as : (p : Program Plain) → Formed k t p → {n : ℕ} → CellsAre body (at + recordSize * r .procedures) (r .locations) n
       → ShapedAs k t (record { procedures = r .procedures; locations = r .locations; threads = r .threads; records = at; cells = n }) p
   shaped-as p formed C =
       let end : RightTrailer k t (front p) (E.trailerOf k p) = formed-trailer k t p formed in
@@ -111,13 +111,13 @@ module _ {k : Kind} {t : List ℕ} {r : Trailer} (closed : Closed k t r) where
       let procs : r .procedures ≡ length (p .procs) = ap (λ z. z .procs) same in
       let places : r .locations ≡ length (p .sizes) = ap (λ z. z .places) same in
       let threads : r .threads ≡ length (p .mains) = ap (λ z. z .threads) same in
-      let read : finish (D.middle (r .procedures) (r .locations) (r .threads) (last (r .distance) (but 16 t))) ≡ is (middleOf p)
-      = subst (λ z. finish (D.middle (z .procs) (z .places) (z .threads) (last (z .back) (but 16 t))) ≡ is (middleOf p)) (sym same)
+      let read : finish (D.middle (r .procedures) (r .locations) (r .threads) (last (r .distance) (but trailerSize t))) ≡ is (middleOf p)
+      = subst (λ z. finish (D.middle (z .procs) (z .places) (z .threads) (last (z .back) (but trailerSize t))) ≡ is (middleOf p)) (sym same)
       (middle-read k t end (formed-records k t p formed)) in
       let sizes : m .sizes ≡ p .sizes = ap (λ m. m .sizes) (is-inj (sym middle-is ∙ read)) in
-      let far : at + r .procedures * 6 ≡ at + 6 * r .procedures = omega arith in
-      let placed : numbersAt body (at + 6 * r .procedures) (r .locations) ≡ m .sizes
-      = rw (drop-drop (r .procedures * 6) at body, far) in
+      let far : at + r .procedures * recordSize ≡ at + recordSize * r .procedures = omega arith in
+      let placed : numbersAt body (at + recordSize * r .procedures) (r .locations) ≡ m .sizes
+      = rw (drop-drop (r .procedures * recordSize) at body, far) in
       record {
         formed = formed;
         verdict = formed-judged k t formed;
@@ -139,35 +139,35 @@ module _ {k : Kind} {t : List ℕ} {r : Trailer} (closed : Closed k t r) where
     shape-bodies e = record {
       gives = λ h.
           let wrong = sym (B .same (bytes-take at t h)) ∙ e in
-          let none : program k (take at t) m ≡ nothing = made-none k m (finish (times (D.block 16) (length (m .heads)) (take at t))) wrong in
+          let none : program k (take at t) m ≡ nothing = made-none k m (finish (times (D.block maxNesting) (length (m .heads)) (take at t))) wrong in
           after-2 ∙ rw (← R .same, right, none);
     }
 
     -- both do
-    pub shape-right : {n : ℕ} → c ≡ true → CellsAre body (at + 6 * r .procedures) (r .locations) n
+    pub shape-right : {n : ℕ} → c ≡ true → CellsAre body (at + recordSize * r .procedures) (r .locations) n
         → FormIs k t (Shaped (record { procedures = r .procedures; locations = r .locations; threads = r .threads; records = at; cells = n }))
     shape-right e C = record {
       gives = λ h.
-          let some = made-some k m (finish (times (D.block 16) (length (m .heads)) (take at t))) (sym (B .same (bytes-take at t h)) ∙ e) in
+          let some = made-some k m (finish (times (D.block maxNesting) (length (m .heads)) (take at t))) (sym (B .same (bytes-take at t h)) ∙ e) in
           let left : verdict k t ≡ judged k (some .0) = after-2 ∙ rw (← R .same, right, some .1) in
           let found = formed-if k t h (λ n q. judged-late k (some .0) n (sym left ∙ q)) in
           (found .0, shaped-as (found .0) (found .1) C);
     }
 
   -- the sections stand before the trailer
-  pub room-records : at + (6 * r .procedures + 2 * r .locations + 2 * r .threads) ≤ length body
+  pub room-records : at + distance (r .procedures) (r .locations) (r .threads) ≤ length body
   room-records = rw long (omega (arith, closed .back, closed .room))
 
   -- the records
-  pub room-bodies : at + 6 * r .procedures ≤ length body
+  pub room-bodies : at + recordSize * r .procedures ≤ length body
   room-bodies = omega (arith, room-records)
 
   -- the sizes
-  pub room-sizes : at + 6 * r .procedures + 2 * r .locations ≤ length body
+  pub room-sizes : at + recordSize * r .procedures + 2 * r .locations ≤ length body
   room-sizes = omega (arith, room-records)
 
   -- the parts that are cut out are as long as they are
-  pub long-body : length t - 16 ≡ length body
+  pub long-body : length t - trailerSize ≡ length body
   long-body = sym long
 
   -- and the code

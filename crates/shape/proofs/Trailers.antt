@@ -12,7 +12,7 @@ use Rattle.value.specs.Maybe.{Maybe, is, nothing, both}
 use Rattle.value.specs.Laws.Bytes.{Bytes}
 use Rattle.value.specs.Laws.Bytes as Numbers
 use Rattle.format.specs.Syntax.{Kind}
-use Rattle.format.specs.Encode.{Trailer, kindMark}
+use Rattle.format.specs.Encode.{Trailer, kindMark, trailerSize, formMark, distance}
 use Rattle.format.specs.Encode as E
 use Rattle.format.specs.Laws.Reading.{If, so, none}
 use Rattle.format.specs.Laws.Sections.{All, TrailerFits, finish-only, trailer-exact, bytes-last}
@@ -22,7 +22,7 @@ use Rattle.format.specs.Rules.{limits, within}
 use Rattle.format.specs.Decode.{finish, last}
 use Rattle.format.specs.Decode as D
 use Rattle.shape.specs.Shapes.{limitsOf, trailerOf, TrailerAt, TrailerTest, CountsTest, HeaderIs}
-use Rattle.shape.specs.declared.limits.Limits as L
+use Rattle.basics.specs.declared.numbers.Limits as L
 use Rattle.shape.specs.declared.header.Trailer as H
 use Rattle.shape.specs.declared.header.Header.the-variants.{Refused, Is}
 
@@ -35,41 +35,41 @@ module _ (k : Kind) (t : List ℕ) (r : Trailer) where
 
   module _ {m : ℕ} (e : m ≡ kindMark k) (kind : r .kind ≡ m) where
     -- "50"
-    pub mark-wrong : (r .mark ≡ 0x50 → ⊥) → TrailerTest k t r false
-    mark-wrong n = record { same = rw (eq-eqb (r .kind) (kindMark k) (kind ∙ e), ne-eqb (r .mark) 0x50 n) }
+    pub mark-wrong : (r .mark ≡ formMark → ⊥) → TrailerTest k t r false
+    mark-wrong n = record { same = rw (eq-eqb (r .kind) (kindMark k) (kind ∙ e), ne-eqb (r .mark) formMark n) }
 
-    module _ (mark : r .mark ≡ 0x50) where
+    module _ (mark : r .mark ≡ formMark) where
       -- the distance
-      pub distance-wrong : (r .back ≡ 6 * r .procs + 2 * r .places + 2 * r .threads → ⊥) → TrailerTest k t r false
+      pub distance-wrong : (r .back ≡ distance (r .procs) (r .places) (r .threads) → ⊥) → TrailerTest k t r false
       distance-wrong n = record {
         same = rw (
           eq-eqb (r .kind) (kindMark k) (kind ∙ e),
-          eq-eqb (r .mark) 0x50 mark,
-          ne-eqb (r .back) (6 * r .procs + 2 * r .places + 2 * r .threads) n,
+          eq-eqb (r .mark) formMark mark,
+          ne-eqb (r .back) (distance (r .procs) (r .places) (r .threads)) n,
         );
       }
 
-      module _ (back : r .back ≡ 6 * r .procs + 2 * r .places + 2 * r .threads) where
+      module _ (back : r .back ≡ distance (r .procs) (r .places) (r .threads)) where
         -- the length
         pub length-wrong : (r .whole ≡ length t → ⊥) → TrailerTest k t r false
         length-wrong n = record {
           same =
               rw (
                 eq-eqb (r .kind) (kindMark k) (kind ∙ e),
-                eq-eqb (r .mark) 0x50 mark,
-                eq-eqb (r .back) (6 * r .procs + 2 * r .places + 2 * r .threads) back,
+                eq-eqb (r .mark) formMark mark,
+                eq-eqb (r .back) (distance (r .procs) (r .places) (r .threads)) back,
                 ne-eqb (r .whole) (length t) n,
               );
         }
 
         -- "distance over length - 16"
-        pub room-left : r .whole ≡ length t → TrailerTest k t r (leb (r .back) (length t - 16))
+        pub room-left : r .whole ≡ length t → TrailerTest k t r (leb (r .back) (length t - trailerSize))
         room-left whole = record {
           same =
               rw (
                 eq-eqb (r .kind) (kindMark k) (kind ∙ e),
-                eq-eqb (r .mark) 0x50 mark,
-                eq-eqb (r .back) (6 * r .procs + 2 * r .places + 2 * r .threads) back,
+                eq-eqb (r .mark) formMark mark,
+                eq-eqb (r .back) (distance (r .procs) (r .places) (r .threads)) back,
                 eq-eqb (r .whole) (length t) whole,
               );
         }
@@ -113,9 +113,9 @@ pub ruleset counts-ways = (bytes-over, places-over, procs-wrong, threads-left)
 -- ---- both
 
 -- the trailer is there
-trailer-there : (t : List ℕ) (r : H.Trailer) → 16 ≤ length t → TrailerAt t r → finish (D.trailer (last 16 t)) ≡ is (trailerOf r)
+trailer-there : (t : List ℕ) (r : H.Trailer) → trailerSize ≤ length t → TrailerAt t r → finish (D.trailer (last trailerSize t)) ≡ is (trailerOf r)
 trailer-there t r l at =
-    let e : ℕ = length t - 16 in
+    let e : ℕ = length t - trailerSize in
     let p₂ : e + 1 + 1 ≡ e + 2 = omega arith in
     let p₄ : e + 2 + 2 ≡ e + 4 = omega arith in
     let p₆ : e + 4 + 2 ≡ e + 6 = omega arith in
@@ -149,19 +149,19 @@ trailer-there t r l at =
     }))
 
 -- fewer than 16 bytes are no trailer
-no-trailer : (t : List ℕ) → Bytes t → length t < 16 → finish (D.trailer (last 16 t)) ≡ nothing
-no-trailer t h l = go (finish (D.trailer (last 16 t))) (finish-only trailer-exact (last 16 t) (bytes-last 16 t h))
+no-trailer : (t : List ℕ) → Bytes t → length t < trailerSize → finish (D.trailer (last trailerSize t)) ≡ nothing
+no-trailer t h l = go (finish (D.trailer (last trailerSize t))) (finish-only trailer-exact (last trailerSize t) (bytes-last trailerSize t h))
   where
-    go : (m : Maybe Trailer) → If (All E.trailer TrailerFits (last 16 t)) m → m ≡ nothing
+    go : (m : Maybe Trailer) → If (All E.trailer TrailerFits (last trailerSize t)) m → m ≡ nothing
     go nothing none = refl
-    go (is r) (so whole) = absurd (omega (arith, ap length (whole .same), length-drop (length t - 16) t))
+    go (is r) (so whole) = absurd (omega (arith, ap length (whole .same), length-drop (length t - trailerSize) t))
 
 module _ (k : Kind) (t : List ℕ) where
   -- "under 16 bytes"
-  pub header-short : length t < 16 → HeaderIs k t (Refused 1)
+  pub header-short : length t < trailerSize → HeaderIs k t (Refused 1)
   header-short l = record { gives = λ h. rw (no-trailer t h l) }
 
-  module _ {r : H.Trailer} (long : 16 ≤ length t) (at : TrailerAt t r) where
+  module _ {r : H.Trailer} (long : trailerSize ≤ length t) (at : TrailerAt t r) where
     -- rule 1 does not let it through
     pub header-wrong : {b : Bool} → TrailerTest k t (trailerOf r) b → b ≡ false → HeaderIs k t (Refused 1)
     header-wrong T e = record { gives = λ h. rw (trailer-there t r long at, ← T .same, e) }

@@ -11,9 +11,10 @@ use Rattle.value.specs.Values.{numberAt, unbytes}
 use Rattle.value.specs.Laws.Bytes.{Bytes}
 use Rattle.format.specs.Syntax.{Kind, Block, Program, Plain}
 use Rattle.format.specs.Encode as E
-use Rattle.format.specs.Decode.{finish, last}
+use Rattle.format.specs.Encode.{recordSize, trailerSize}
+use Rattle.format.specs.Decode.{finish, last, maxNesting}
 use Rattle.format.specs.Decode as D
-use Rattle.format.specs.Rules.{rightTrailer, rightCounts}
+use Rattle.format.specs.Rules.{rightTrailer, rightCounts, maxSize}
 use Rattle.format.specs.Rules as R
 use Rattle.format.specs.Calls.{labelsOf, readCall}
 use Rattle.format.specs.Laws.Places.{rows, headAt, middleAt}
@@ -22,7 +23,7 @@ use Rattle.format.specs.Laws.TablePlaces.{recordsAt}
 use Rattle.parse.specs.Ends.{ReadsBlock}
 use Rattle.format.specs.declared.ReadAnswer.{ReadAnswer}
 use Rattle.parse.specs.declared.Ends.{Ends}
-use Rattle.shape.specs.declared.limits.Limits.{Limits}
+use Rattle.basics.specs.declared.numbers.Limits.{Limits}
 use Rattle.shape.specs.declared.header.Trailer.{Trailer}
 use Rattle.shape.specs.declared.header.Header.{Header}
 use Rattle.shape.specs.declared.header.Header.the-variants.{Refused, Is}
@@ -55,15 +56,15 @@ trailerOf r = record {
   whole = r .length;
 }
 
--- the last 16 bytes of t say r
+-- the last bytes of t say r
 pub record TrailerAt (t : List ℕ) (r : Trailer) : Type 0 where
-  pub kind : r .kind ≡ getD t (length t - 16) 0
-  pub mark : r .mark ≡ getD t (length t - 16 + 1) 0
-  pub procedures : r .procedures ≡ numberAt 2 t (length t - 16 + 2)
-  pub locations : r .locations ≡ numberAt 2 t (length t - 16 + 4)
-  pub threads : r .threads ≡ numberAt 2 t (length t - 16 + 6)
-  pub distance : r .distance ≡ numberAt 4 t (length t - 16 + 8)
-  pub length : r .length ≡ numberAt 4 t (length t - 16 + 12)
+  pub kind : r .kind ≡ getD t (length t - trailerSize) 0
+  pub mark : r .mark ≡ getD t (length t - trailerSize + 1) 0
+  pub procedures : r .procedures ≡ numberAt 2 t (length t - trailerSize + 2)
+  pub locations : r .locations ≡ numberAt 2 t (length t - trailerSize + 4)
+  pub threads : r .threads ≡ numberAt 2 t (length t - trailerSize + 6)
+  pub distance : r .distance ≡ numberAt 4 t (length t - trailerSize + 8)
+  pub length : r .length ≡ numberAt 4 t (length t - trailerSize + 12)
 
 -- b is whether rule 1 lets a trailer through
 pub record TrailerTest (k : Kind) (t : List ℕ) (r : E.Trailer) (b : Bool) : Type 0 where
@@ -75,10 +76,10 @@ pub record CountsTest (k : Kind) (t : List ℕ) (r : E.Trailer) (b : Bool) : Typ
 
 -- rules 1 and 2 hold, on the trailer that was read
 pub record Closed (k : Kind) (t : List ℕ) (r : Trailer) : Type 0 where
-  pub long : 16 ≤ length t
-  pub back : r .distance ≡ 6 * r .procedures + 2 * r .locations + 2 * r .threads
-  pub room : r .distance ≤ length t - 16
-  pub read : finish (D.trailer (last 16 t)) ≡ is (trailerOf r)
+  pub long : trailerSize ≤ length t
+  pub back : r .distance ≡ E.distance (r .procedures) (r .locations) (r .threads)
+  pub room : r .distance ≤ length t - trailerSize
+  pub read : finish (D.trailer (last trailerSize t)) ≡ is (trailerOf r)
   pub trailer : rightTrailer k t (trailerOf r) ≡ true
   pub counts : rightCounts k t (trailerOf r) ≡ true
 
@@ -94,7 +95,7 @@ pub record HeaderIs (k : Kind) (t : List ℕ) (h : Header) : Type 0 where
 
 -- n records of procedures from i on
 abbrev pub headsAt : List ℕ → ℕ → ℕ → List E.Head
-headsAt t i n = rows headAt 6 n (drop i t)
+headsAt t i n = rows headAt recordSize n (drop i t)
 
 -- n numbers of two bytes
 abbrev pub numbersAt : List ℕ → ℕ → ℕ → List ℕ
@@ -110,7 +111,7 @@ pub record LocalsTest (t : List ℕ) (i n most : ℕ) (b : Bool) : Type 0 where
 
 -- n sizes,
 pub record SizesTest (t : List ℕ) (i n : ℕ) (b : Bool) : Type 0 where
-  pub same : b ≡ all (R.within 1 256) (numbersAt t i n)
+  pub same : b ≡ all (R.within 1 maxSize) (numbersAt t i n)
 
 -- procedure m as a main, where P records stand from `at` on,
 pub record BegunTest (t : List ℕ) (at P m : ℕ) (b : Bool) : Type 0 where
@@ -136,7 +137,7 @@ pub record CellsAre (t : List ℕ) (i n c : ℕ) : Type 0 where
 
 -- the body of procedure m, from i on
 pub record BodyReads (k : Kind) (t : List ℕ) (i m : ℕ) (r : Ends) : Type 0 where
-  pub reads : ReadsBlock t i 16 (record { kind = k; proc = m; inside = false }) r
+  pub reads : ReadsBlock t i maxNesting (record { kind = k; proc = m; inside = false }) r
 
 -- the bodies that were read, of procedures from m on, the first of which begins at p
 abbrev pub placedRight : Kind → ℕ → ℕ → List E.Head → Maybe (List (Block Plain)) → Bool
@@ -145,7 +146,7 @@ placedRight k m p hs (is bs) = both (R.placed p hs bs) (R.allAllowed k m bs)
 
 -- are the bytes those bodies
 abbrev pub bodiesRight : Kind → ℕ → ℕ → List E.Head → List ℕ → Bool
-bodiesRight k m p hs bytes = placedRight k m p hs (finish (D.times (D.block 16) (length hs) bytes))
+bodiesRight k m p hs bytes = placedRight k m p hs (finish (D.times (D.block maxNesting) (length hs) bytes))
 
 -- b is whether the rule lets through `code`, by n records that stand in t from i on
 pub record BodiesTest (k : Kind) (code t : List ℕ) (i n : ℕ) (b : Bool) : Type 0 where

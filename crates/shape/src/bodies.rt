@@ -7,11 +7,9 @@ use parse::block;
 ghost use mathlib.Core.Path.{_≡_};
 ghost use Prim.Native.Nat.{_+_, _*_, _≤_};
 ghost use lib.ListN.{length};
+ghost use Rattle.format.specs.Encode.{recordSize};
 ghost use Rattle.parse.specs.Ends.{kindOf, ReadsBlock};
 ghost use Rattle.shape.specs.Shapes.{BodyReads, BodiesTest};
-
-// "A body is at depth 1; depth at most 16".
-pub const DEPTH: u8 = 16;
 
 // Where the body of a procedure ends that begins at `at`.
 fn read_body(code: &[u8], at: usize, procedure: usize, kind: Kind) -> Ends
@@ -20,7 +18,7 @@ fn read_body(code: &[u8], at: usize, procedure: usize, kind: Kind) -> Ends
     block::read_block(
         code,
         at,
-        DEPTH,
+        numbers::NESTING,
         Context {
             kind,
             procedure,
@@ -31,7 +29,7 @@ fn read_body(code: &[u8], at: usize, procedure: usize, kind: Kind) -> Ends
 
 // Each of `count` bodies begins where its record says and where the one before it ends, and the last ends where `code` does.
 pub fn right_bodies(code: &[u8], body: &[u8], records: usize, count: u16, kind: Kind) -> bool
-    requires { ⌜ records + 6 * count ≤ length (now body) ⌝ }
+    requires { ⌜ records + recordSize * count ≤ length (now body) ⌝ }
     ensures { λ r. ⌜ BodiesTest (kindOf kind) (now (code .entry)) (now (body .entry)) records count r ⌝ }
 {
     let mut position = 0;

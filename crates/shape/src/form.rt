@@ -29,7 +29,7 @@ fn read_shape(table: &[u8], trailer: Trailer, kind: Kind) -> Form
     requires { ⌜ Closed (kindOf kind) (now table) trailer ⌝ }
     ensures { λ r. ⌜ FormIs (kindOf kind) (now (table .entry)) r ⌝ }
 {
-    let end = table.len() - header::TRAILER;
+    let end = table.len() - numbers::TRAILER;
     let at = end - (trailer.distance as usize);
     let body = &table[..end];
     let code = &table[..at];

@@ -1,16 +1,20 @@
 // Rules 1 and 2: the trailer.
 use super::limits;
+use basics::numbers::CONCURRENT_MARK;
+use basics::numbers::FORM_MARK;
+use basics::numbers::MAIN;
+use basics::numbers::RECORD;
+use basics::numbers::SEQUENTIAL_MARK;
+use basics::numbers::SIZE;
+use basics::numbers::TRAILER;
 use parse::Kind;
 ghost use mathlib.Core.Path.{_≡_};
 ghost use Prim.Native.Nat.{_≤_};
 ghost use lib.ListN.{length};
-ghost use Rattle.format.specs.Encode.{kindMark};
+ghost use Rattle.format.specs.Encode.{kindMark, trailerSize};
 ghost use Rattle.format.specs.Rules.{within};
 ghost use Rattle.parse.specs.Ends.{kindOf};
 ghost use Rattle.shape.specs.Shapes.{trailerOf, TrailerAt, TrailerTest, CountsTest, HeaderIs};
-
-// "a 16-byte trailer".
-pub const TRAILER: usize = 16;
 
 // What the trailer says.
 pub struct Trailer {
@@ -29,21 +33,19 @@ pub enum Header {
     Is(Trailer),
 }
 
-// "43 50 concurrent or 53 50 sequential".
-const MARK: u8 = 0x50;
-
+// "43 50 concurrent or 53 50 sequential": the first of these bytes.
 fn kind_mark(kind: Kind) -> u8
     ensures { λ r. ⌜ r ≡ kindMark (kindOf kind) ⌝ }
 {
     match kind {
-        Kind::Concurrent => 0x43,
-        Kind::Sequential => 0x53,
+        Kind::Concurrent => CONCURRENT_MARK,
+        Kind::Sequential => SEQUENTIAL_MARK,
     }
 }
 
-// The last 16 bytes.
+// The last bytes.
 fn read_trailer(table: &[u8]) -> Trailer
-    requires { ⌜ 16 ≤ length (now table) ⌝ }
+    requires { ⌜ trailerSize ≤ length (now table) ⌝ }
     ensures { λ r. ⌜ TrailerAt (now (table .entry)) r ⌝ }
 {
     let at = table.len() - TRAILER;
@@ -60,20 +62,20 @@ fn read_trailer(table: &[u8]) -> Trailer
 
 // "wrong kind marks, distance or length; distance over length - 16".
 fn right_trailer(table: &[u8], trailer: Trailer, kind: Kind) -> bool
-    requires { ⌜ 16 ≤ length (now table) ⌝ }
+    requires { ⌜ trailerSize ≤ length (now table) ⌝ }
     ensures { λ r. ⌜ TrailerTest (kindOf kind) (now (table .entry)) (trailerOf trailer) r ⌝ }
 {
     if trailer.kind != kind_mark(kind) {
         return false;
     }
-    if trailer.mark != MARK {
+    if trailer.mark != FORM_MARK {
         return false;
     }
     let distance = trailer.distance as usize;
     if distance
-        != 6 * (trailer.procedures as usize)
-            + 2 * (trailer.locations as usize)
-            + 2 * (trailer.threads as usize)
+        != RECORD * (trailer.procedures as usize)
+            + SIZE * (trailer.locations as usize)
+            + MAIN * (trailer.threads as usize)
     {
         return false;
     }

@@ -47,7 +47,8 @@ labels? sequential p = always
 -- 1
 pub trailer? : (k : Kind) (t : List ℕ) (r : Trailer)
     → Decides (rightTrailer k t r) ((r .kind ≡ kindMark k) ×
-    ((r .mark ≡ formMark) × ((r .back ≡ distance (r .procs) (r .places) (r .threads)) × ((r .whole ≡ length t) × (r .back ≤ length t - trailerSize)))))
+    ((r .mark ≡ formMark) × ((r .back ≡ distance (r .procs) (r .places) (r .threads)) ×
+    ((r .whole ≡ length t) × (r .back ≤ length t - trailerSize)))))
 trailer? k t r = eq? _ _ and eq? _ _ and eq? _ _ and eq? _ _ and le? _ _
 
 -- 2

@@ -48,6 +48,19 @@ pub small : (k : Kind) → Small (limits k)
 small concurrent = omega arith
 small sequential = omega arith
 
+-- those of sequential tables are the larger ones, but for the threads
+pub record AtMost (l : Limits) : Type 0 where
+  pub bytes : l .bytes ≤ limits sequential .bytes
+  pub procs : l .procs ≤ limits sequential .procs
+  pub places : l .places ≤ limits sequential .places
+  pub locals : l .locals ≤ limits sequential .locals
+  pub cells : l .cells ≤ limits sequential .cells
+
+-- so a table of either kind keeps them
+pub at-most : (k : Kind) → AtMost (limits k)
+at-most concurrent = omega arith
+at-most sequential = omega arith
+
 -- the kind is a byte
 mark-fits : (k : Kind) → kindMark k < 2 ^ 8
 mark-fits concurrent = omega arith

@@ -24,6 +24,7 @@ use Rattle.format.specs.Laws.Stands.{Stands}
 use Rattle.format.specs.Laws.TablePlaces.{recordsAt, all-bodies}
 use Rattle.format.specs.Laws.TablePlaces as Table
 use Rattle.format.specs.Laws.Labelled.{fits-label}
+use Rattle.format.specs.Decode.{maxNesting}
 use Rattle.labels.specs.Laws.Spots.{Inherited, spot-has, bodies-labels, code-stands}
 use Rattle.labels.specs.Laws.LabelMap.{node-of}
 
@@ -83,21 +84,21 @@ module _ {κ : Kind} {t : List ℕ} {p : Program Plain} (formed : Formed κ t p)
   bodies-in = record { procs = p .procs; next = _; there = bodies-at }
 
   -- the code at a position stands there
-  pub code-block : {m k : ℕ} {d r : Block Plain} → CodeAt (p .procs) m k d r → BlockAt t k 16 d (k + length (block d))
-  code-block c = record { stands = code-stands (all-bodies κ p (formed .same)) c; fits = code-has (fits-inherited 16) (formed .fits) c }
+  pub code-block : {m k : ℕ} {d r : Block Plain} → CodeAt (p .procs) m k d r → BlockAt t k maxNesting d (k + length (block d))
+  code-block c = record { stands = code-stands (all-bodies κ p (formed .same)) c; fits = code-has (fits-inherited maxNesting) (formed .fits) c }
 
   -- and so does labelled code
-  pub label-block : {m k : ℕ} {d r : Block ℕ} → CodeAt (labelled p .procs) m k d r → BlockAt t k 16 d (k + length (block d))
+  pub label-block : {m k : ℕ} {d r : Block ℕ} → CodeAt (labelled p .procs) m k d r → BlockAt t k maxNesting d (k + length (block d))
   label-block c = record {
     stands =
         let bodies : Stands t 0 (each block (bodiesOf (labelled p .procs))) (recordsAt p) =
         rw (bodies-labels (p .procs) 1) (all-bodies κ p (formed .same))
         in
         code-stands bodies c;
-    fits = code-has (fits-inherited 16) (labels-fit 16 (p .procs) 1 (formed .fits)) c;
+    fits = code-has (fits-inherited maxNesting) (labels-fit maxNesting (p .procs) 1 (formed .fits)) c;
   }
 
   -- what the map says of a label stands at its place
   pub node-block : (l : ℕ) {n : Node} (e : nodeOf p l ≡ is n)
-      → BlockAt t (n .place) 16 (node-of p l e .left) (n .place + length (block (node-of p l e .left)))
+      → BlockAt t (n .place) maxNesting (node-of p l e .left) (n .place + length (block (node-of p l e .left)))
   node-block l e = label-block (node-of p l e .spot)

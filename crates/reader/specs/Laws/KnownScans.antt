@@ -28,6 +28,7 @@ use Rattle.format.specs.Laws.Depths.{depth}
 use Rattle.format.specs.Laws.Fits.{ExprFits}
 use Rattle.format.specs.Laws.Stands.{Stands, first, others, back, join}
 use Rattle.format.specs.Laws.ExprGrammar.{ExprAt, ExprsAt, exprs-none, exprs-more, expr-inside}
+use Rattle.format.specs.Decode.{maxDepth}
 use Rattle.scan.specs.Laws.Tokens.{shift}
 use Rattle.scan.specs.Laws.NameScans.{both-both, both-true}
 
@@ -72,7 +73,7 @@ operator₂ and = record { operands = refl; payload = refl; name = refl }
 module _ {t : List ℕ} {i j : ℕ} (n : ℕ) (s : Known) where
   -- a mark m, the bytes bs that belong to it, and then the rest
   behind : (m : ℕ) (bs : List ℕ) {es : List Expr} (rest : List Expr) → payloadOf m ≡ length bs → operandsOf m ≤ 2 → n - 1 + operandsOf m ≡ length rest
-      → Each (ExprFits 16) rest → all (known s) es ≡ both (leafKnown t i s) (all (known s) rest) → Stands t i (m ∷ bs ++ each E.expr rest) j
+      → Each (ExprFits maxDepth) rest → all (known s) es ≡ both (leafKnown t i s) (all (known s) rest) → Stands t i (m ∷ bs ++ each E.expr rest) j
       → NextExprs t i n s es j
   behind m bs rest e few c f same h = record {
     rest = rest;
@@ -104,14 +105,14 @@ module _ {t : List ℕ} {i j : ℕ} (n : ℕ) (s : Known) where
   next-exprs (one o a ∷ es) l h =
       let z₁ : getD t i 0 ≡ mark₁ o = first (h .stands) in
       let op : Operator (mark₁ o) 1 = operator₁ o in
-      let fits : Each (ExprFits 16) (a ∷ es) = ((omega (arith, h .fits .0 .0), h .fits .0 .1), h .fits .1) in
+      let fits : Each (ExprFits maxDepth) (a ∷ es) = ((omega (arith, h .fits .0 .0), h .fits .0 .1), h .fits .1) in
       behind (mark₁ o) [] (a ∷ es) (op .payload) (omega (arith, op .operands)) (omega (arith, h .count, op .operands)) fits
       (rw (z₁, op .name)) (h .stands)
   next-exprs (two o a b ∷ es) l h =
       let z₁ : getD t i 0 ≡ mark₂ o = first (h .stands) in
       let op : Operator (mark₂ o) 2 = operator₂ o in
-      let deep : depth (two o a b) ≤ 16 = h .fits .0 .0 in
-      let fits : Each (ExprFits 16) (a ∷ b ∷ es) = ((omega arith, h .fits .0 .1 .0), ((omega arith, h .fits .0 .1 .1), h .fits .1)) in
+      let deep : depth (two o a b) ≤ maxDepth = h .fits .0 .0 in
+      let fits : Each (ExprFits maxDepth) (a ∷ b ∷ es) = ((omega arith, h .fits .0 .1 .0), ((omega arith, h .fits .0 .1 .1), h .fits .1)) in
       let whole : Stands t i (mark₂ o ∷ E.expr a ++ (E.expr b ++ each E.expr es)) j = rw append-assoc at (h .stands) in
       behind (mark₂ o) [] (a ∷ b ∷ es) (op .payload) (omega (arith, op .operands)) (omega (arith, h .count, op .operands)) fits
       (rw (z₁, op .name) (both-both (known s a) (known s b) (all (known s) es))) whole
@@ -210,11 +211,11 @@ leaf-other t i s {m} e q = rw (← e, ne-eqb m 0x05 q)
 -- ---- what was found, if expressions stand there
 
 -- one expression as a row
-pub alone : {t : List ℕ} {i : ℕ} {e : Expr} {j : ℕ} → ExprAt t i 16 e j → ExprsAt t i 1 (e ∷ []) j
+pub alone : {t : List ℕ} {i : ℕ} {e : Expr} {j : ℕ} → ExprAt t i maxDepth e j → ExprsAt t i 1 (e ∷ []) j
 alone h = record { stands = rw append-nil (h .stands); count = refl; fits = (h .fits, tt) }
 
 -- two of them
-pub pair : {t : List ℕ} {i : ℕ} {a b : Expr} {k j : ℕ} → ExprAt t i 16 a k → ExprAt t k 16 b j → ExprsAt t i 2 (a ∷ b ∷ []) j
+pub pair : {t : List ℕ} {i : ℕ} {a b : Expr} {k j : ℕ} → ExprAt t i maxDepth a k → ExprAt t k maxDepth b j → ExprsAt t i 2 (a ∷ b ∷ []) j
 pair h g = record { stands = join (h .stands) (rw append-nil (g .stands)); count = refl; fits = (h .fits, (g .fits, tt)) }
 
 -- the end of expressions, if their variables are set
@@ -229,13 +230,13 @@ pick-not false j e = refl
 
 module _ {t : List ℕ} {i s : ℕ} {f : Ends} (F : Knows t i 1 s f) where
   -- the variables of a test are set, and it ends at k
-  pub test-set : {k : ℕ} → f ≡ At k → (e : Expr) {j : ℕ} → ExprAt t i 16 e j → (known (bits s) e ≡ true) × (k ≡ j)
+  pub test-set : {k : ℕ} → f ≡ At k → (e : Expr) {j : ℕ} → ExprAt t i maxDepth e j → (known (bits s) e ≡ true) × (k ≡ j)
   test-set {k} q e {j} h =
       let same : At k ≡ pick (both (known (bits s) e) true) (At j) Nothing = sym q ∙ F .gives (e ∷ []) j (alone h) in
       pick-at (known (bits s) e) j (rw both-true at same)
 
   -- or not
-  pub test-unset : f ≡ Nothing → (e : Expr) {j : ℕ} → ExprAt t i 16 e j → known (bits s) e ≡ false
+  pub test-unset : f ≡ Nothing → (e : Expr) {j : ℕ} → ExprAt t i maxDepth e j → known (bits s) e ≡ false
   test-unset q e {j} h =
       let same : Nothing ≡ pick (both (known (bits s) e) true) (At j) Nothing = sym q ∙ F .gives (e ∷ []) j (alone h) in
       pick-not (known (bits s) e) j (rw both-true at same)

@@ -23,6 +23,8 @@ use Rattle.format.specs.Laws.Names.{Names, NamesI}
 use Rattle.format.specs.Laws.Grammar.{BlockAt, WhileAt, IfAt, AtomicAt, StepAt, while-here, if-here, atomic-here}
 use Rattle.format.specs.Laws.Grammar.{end-here, step-here, block-inside, block-deep}
 use Rattle.format.specs.Laws.TablePlaces.{bodyAt}
+use Rattle.format.specs.Decode.{maxNesting}
+use Rattle.format.specs.Encode.{recordSize}
 use Rattle.scan.specs.Laws.Laid.{Laid, Named, ProcNamed, proc-named, Judges, procOf, params-at, start-at, body-here}
 use Rattle.scan.specs.Laws.Laid.{Passed, none-passed, one-passed, passed-all, failed-one}
 use Rattle.reader.specs.Laws.KnownScans.{Knows, test-set, test-unset}
@@ -222,8 +224,8 @@ procSet m p = there (after (λ x. ltb x (procOf p m .params)) (procOf p m .body)
 
 module _ (t : List ℕ) (P R m : ℕ) where
   -- the code's numbers of procedure m: where its body begins, its parameters, as a set, and the outcome
-  module _ {a x v : ℕ} {f : After} (l : m < P) (ex : x ≡ getD t (R + 6 * m) 0) (ev : v ≡ below x) (ea : a ≡ fourAt t (R + 6 * m + 2))
-      (F : SetsBlock t a 16 v f) where
+  module _ {a x v : ℕ} {f : After} (l : m < P) (ex : x ≡ getD t (R + recordSize * m) 0) (ev : v ≡ below x)
+      (ea : a ≡ fourAt t (R + recordSize * m + 2)) (F : SetsBlock t a maxNesting v f) where
     -- procedure m is walked
     walked : (p : Program Plain) → Named t P R p → outcome f ≡ reached (behind m p) (bodyAt (p .procs) (m + 1))
     walked p named =
@@ -232,7 +234,7 @@ module _ (t : List ℕ) (P R m : ℕ) where
         let params : x ≡ procOf p m .params = ex ∙ params-at laid l in
         let few : procOf p m .params < 64 = omega (arith, right .params, right .locals) in
         let entry : bits v ≡ (λ y. ltb y (procOf p m .params)) = rw (ev, params) (bits-below (procOf p m .params) few) in
-        let body : BlockHere t a 16 (procOf p m .body) (bodyAt (p .procs) (m + 1)) =
+        let body : BlockHere t a maxNesting (procOf p m .body) (bodyAt (p .procs) (m + 1)) =
         record {
           program = p;
           locals = procOf p m .locals;

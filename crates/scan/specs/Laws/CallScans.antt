@@ -21,10 +21,10 @@ use Rattle.format.specs.Laws.Procs.{takes-at}
 use native.Mathlib.Numerals.{add-one}
 use Rattle.scan.specs.declared.tokens.Token.{Token}
 use Rattle.scan.specs.declared.tokens.Token.the-variants as T
-use Rattle.format.specs.Syntax.{Expr, constant, local, one, two, Instr, assign, write, read, while, if, call, atomic, select}
+use Rattle.format.specs.Syntax.{Expr, constant, local, one, two, Instr, assign, write, read, while, if, call, atomic, select, sequential}
 use Rattle.format.specs.Syntax.{Block, end, step, Proc, Program, Plain}
 use Rattle.value.specs.declared.Value.the-variants.{Whole, Location, Truth}
-use Rattle.format.specs.Rules.{callees, calleesI, calleesOf, noCycle}
+use Rattle.format.specs.Rules.{callees, calleesI, calleesOf, noCycle, limits}
 use Rattle.scan.specs.Tokens.{fourAt, tokenAt, sizeAt, tokensE, tokensEs, tokensI, tokens}
 use Rattle.scan.specs.Laws.Tokens.{Row, token-falls}
 use Rattle.scan.specs.Laws.Scans.{Scans, From, from-start, from-next, from-stop, from-end}
@@ -32,13 +32,14 @@ use Rattle.format.specs.Laws.TablePlaces.{bodyAt}
 use Rattle.format.specs.Laws.Calls.{Calls, Reaches, direct, onward, no-cycle?, calls-below}
 use Rattle.scan.specs.Laws.Deep.{deep, cycle-deep, deep-cycle}
 use Rattle.format.specs.Laws.Names.{Names, NamesI}
+use Rattle.format.specs.Encode.{recordSize}
 use Rattle.scan.specs.Laws.Laid.{Laid, Named, proc-named, Judges, procOf, start-at, body-row, BodyEnds}
 
 -- ---- what the code answers
 
 -- the flag of a procedure
 abbrev pub flag : List Bool → ℕ → Bool
-flag row c = pick (ltb c 512) (getD row c false) false
+flag row c = pick (ltb c (limits sequential .procs)) (getD row c false) false
 
 module _ (row : List Bool) where
   -- does a token call a procedure of the row
@@ -77,14 +78,14 @@ pub record Some (row : List Bool) (P : ℕ) (r : Bool) : Type 0 where
 
 module _ (row : List Bool) where
   -- a call of a procedure
-  pub into-call : {k : Token} {m n : ℕ} → k ≡ T.Call m n → m < 512 → getD row m false ≡ callsInto row k
+  pub into-call : {k : Token} {m n : ℕ} → k ≡ T.Call m n → m < limits sequential .procs → getD row m false ≡ callsInto row k
   unfolding callsInto
-  into-call {m = m} e l = rw (e, lt-ltb m 512 l)
+  into-call {m = m} e l = rw (e, lt-ltb m (limits sequential .procs) l)
 
   -- of none that there can be
-  pub into-far : {k : Token} {m n : ℕ} → k ≡ T.Call m n → 512 ≤ m → false ≡ callsInto row k
+  pub into-far : {k : Token} {m n : ℕ} → k ≡ T.Call m n → limits sequential .procs ≤ m → false ≡ callsInto row k
   unfolding callsInto
-  into-far {m = m} e l = rw (e, le-ltb m 512 l)
+  into-far {m = m} e l = rw (e, le-ltb m (limits sequential .procs) l)
 
 -- ---- the loop over tokens
 
@@ -172,7 +173,7 @@ callees-at (p ∷ ps) (suc m) d l = callees-at ps m d (omega arith)
 
 module _ (t : List ℕ) (P R : ℕ) (row : List Bool) (m : ℕ) where
   -- the body of procedure m
-  pub body-leads : {a e : ℕ} {r : Bool} → m < P → a ≡ fourAt t (R + 6 * m + 2) → BodyEnds t P R m e → Scans t e (leadsIn row) a r
+  pub body-leads : {a e : ℕ} {r : Bool} → m < P → a ≡ fourAt t (R + recordSize * m + 2) → BodyEnds t P R m e → Scans t e (leadsIn row) a r
       → Leads t P R row m r
   unfolding leadsIn
   body-leads {a} {e} {r} l start ends s = record {
@@ -188,16 +189,16 @@ module _ (t : List ℕ) (P R : ℕ) (row : List Bool) (m : ℕ) where
 
 -- the next row up to procedure n, while it is made
 pub record Making (t : List ℕ) (P R : ℕ) (row : List Bool) (n : ℕ) (next : List Bool) : Type 0 where
-  pub long : length next ≡ 512
+  pub long : length next ≡ limits sequential .procs
   pub made : NextRow t P R row n next
 
 module _ (t : List ℕ) (P R : ℕ) (row : List Bool) where
   -- no procedure yet
-  pub row-start : Making t P R row 0 (replicate 512 false)
+  pub row-start : Making t P R row 0 (replicate (limits sequential .procs) false)
   row-start = record { long = refl; made = record { gives = λ p named m l. absurd (omega arith) } }
 
   -- one more
-  pub row-next : {m : ℕ} {next : List Bool} {r : Bool} → Making t P R row m next → Leads t P R row m r → m < P → P ≤ 512
+  pub row-next : {m : ℕ} {next : List Bool} {r : Bool} → Making t P R row m next → Leads t P R row m r → m < P → P ≤ limits sequential .procs
       → Making t P R row (m + 1) (set next m r)
   row-next {m} {next} {r} N L l few = record { long = rw (length-set next m r) (N .long); made = record { gives = gives } }
     where
@@ -278,24 +279,24 @@ module _ {t : List ℕ} {P R : ℕ} {p : Program Plain} (named : Named t P R p) 
 -- the row says who can make k calls, and some can
 pub record Round (t : List ℕ) (P R : ℕ) (row : List Bool) (k : ℕ) : Type 0 where
   pub few : k ≤ P
-  pub most : P ≤ 512
+  pub most : P ≤ limits sequential .procs
   pub same : (p : Program Plain) → Named t P R p → (m : ℕ) → m < P → getD row m false ≡ deep (p .procs) k m
   pub some : (p : Program Plain) → Named t P R p → (m : ℕ) × (m < P) × (deep (p .procs) k m ≡ true)
 
 module _ (t : List ℕ) (P R : ℕ) where
   -- everybody can make none
-  pub round-start : P ≤ 512 → Round t P R (replicate 512 true) 0
+  pub round-start : P ≤ limits sequential .procs → Round t P R (replicate (limits sequential .procs) true) 0
   round-start few = record {
     few = omega arith;
     most = few;
-    same = λ p named m l. getD-replicate 512 m true false (omega arith);
+    same = λ p named m l. getD-replicate (limits sequential .procs) m true false (omega arith);
     some = λ p named. (0, omega (arith, named .laid .procs, named .laid .formed .procs .low), refl);
   }
 
   module _ {row next : List Bool} {k : ℕ} {b : Bool} (round : Round t P R row k) (N : NextRow t P R row P next) (S : Some next P b) where
     -- the flags of procedures
     flagged : (p : Program Plain) → Named t P R p → (c : ℕ) → c < P → flag row c ≡ deep (p .procs) k c
-    flagged p named c l = rw (lt-ltb c 512 (omega (arith, round .most))) (round .same p named c l)
+    flagged p named c l = rw (lt-ltb c (limits sequential .procs) (omega (arith, round .most))) (round .same p named c l)
 
     -- who calls one that can make k calls can make one more
     one-more : (p : Program Plain) → Named t P R p → (m : ℕ) → m < P → getD next m false ≡ deep (p .procs) (suc k) m

@@ -18,6 +18,7 @@ use Rattle.format.specs.Laws.Stands.{Stands, front, back}
 use Rattle.scan.specs.Laws.Tokens.{Row, done, row, row-append, size-pos, token-falls}
 use Rattle.scan.specs.Laws.Scans.{Scans, From, from-start, from-next, from-end}
 use Rattle.format.specs.Laws.TablePlaces.{recordsAt, all-bodies}
+use Rattle.format.specs.Decode.{maxNesting}
 use Rattle.scan.specs.Laws.Laid.{Laid}
 
 -- ---- what the code counts
@@ -220,7 +221,7 @@ all-labels [] = refl
 all-labels (p ∷ ps) = omega (arith, outsideB (p .body) (allTokens ps), all-labels ps)
 
 -- they stand in the table
-all-rows : {t : List ℕ} (i : ℕ) {j : ℕ} (ps : List (Proc Plain)) → Each (BlockFits 16) (bodiesOf ps)
+all-rows : {t : List ℕ} (i : ℕ) {j : ℕ} (ps : List (Proc Plain)) → Each (BlockFits maxNesting) (bodiesOf ps)
     → Stands t i (each block (bodiesOf ps)) j → Row t i (allTokens ps) j
 all-rows {t} i [] f s = subst (λ (j : ℕ). Row t i [] j) (omega (arith, s .ends)) done
 all-rows i (p ∷ ps) f s =

@@ -13,17 +13,19 @@ use Rattle.value.specs.Laws.Tests.{by-test}
 use Rattle.value.specs.Laws.Maybes.{is-inj, missing}
 use Rattle.value.specs.Laws.Lists.{each-at, at-getD}
 use Rattle.format.specs.Syntax.{end, Proc, Program, Plain, Kind, concurrent, sequential}
-use Rattle.format.specs.Encode.{each, block, bodiesOf, table}
+use Rattle.format.specs.Encode.{each, block, bodiesOf, table, recordSize}
 use Rattle.scan.specs.Tokens.{fourAt, tokens}
 use Rattle.format.specs.Laws.Fits.{BlockFits}
 use Rattle.format.specs.Laws.Formed.{Formed}
 use Rattle.format.specs.Rules.{limits, allNamed}
 use Rattle.format.specs.Laws.Names.{Names, all-names?}
+use Rattle.format.specs.Laws.Passes.{at-most}
 use Rattle.format.specs.Laws.Sound.{LocalsRight}
 use Rattle.format.specs.Laws.Grammar.{BlockAt}
 use Rattle.format.specs.Laws.Stands.{Stands, first, others, four-bytes}
 use Rattle.format.specs.Laws.Procs.{body-at}
 use Rattle.format.specs.Laws.TablePlaces.{bodyAt, recordsAt, body-stands, record-stands}
+use Rattle.format.specs.Decode.{maxNesting}
 use Rattle.scan.specs.Laws.Tokens.{Row, row, shift}
 
 -- t is p's table, with P procedures, whose records begin at R
@@ -40,8 +42,8 @@ pub record Named (t : List ℕ) (P R : ℕ) (p : Program Plain) : Type 0 where
 
 -- the records are in the table
 pub record Room (t : List ℕ) (P R : ℕ) : Type 0 where
-  pub few : P ≤ 512
-  pub room : R + 6 * P ≤ length t
+  pub few : P ≤ limits sequential .procs
+  pub room : R + recordSize * P ≤ length t
 
 -- procedure m
 abbrev pub procOf : Program Plain → ℕ → Proc Plain
@@ -71,64 +73,55 @@ body-before [] m = omega arith
 body-before (p ∷ ps) zero = omega arith
 body-before (p ∷ ps) (suc m) = omega (arith, length-append (block (p .body)) (each block (bodiesOf ps)), body-before ps m)
 
--- a table has at most 65,536 bytes
-table-small : (k : Kind) → limits k .bytes ≤ 65536
-table-small concurrent = omega arith
-table-small sequential = omega arith
-
 module _ {t : List ℕ} {P R : ℕ} {p : Program Plain} (laid : Laid t P R p) {m : ℕ} (below : m < P) where
   -- there is a procedure m
   pub proc-at : at (p .procs) m ≡ is (procOf p m)
   proc-at = at-getD (p .procs) m _ (omega (arith, laid .procs))
 
   -- its record
-  head-stands : Stands t (R + 6 * m) (procOf p m .params ∷ procOf p m .locals ∷ bytes 4 (bodyAt (p .procs) m)) (R + 6 * m + 6)
+  head-stands : Stands t (R + recordSize * m) (procOf p m .params ∷ procOf p m .locals ∷ bytes 4 (bodyAt (p .procs) m))
+      (R + recordSize * m + recordSize)
   head-stands = rw (laid .records) (record-stands (laid .kind) p (laid .formed .same) m proc-at)
 
   -- its parameters
-  pub params-at : getD t (R + 6 * m) 0 ≡ procOf p m .params
+  pub params-at : getD t (R + recordSize * m) 0 ≡ procOf p m .params
   params-at = first head-stands
 
   -- its locals
-  pub locals-at : getD t (R + 6 * m + 1) 0 ≡ procOf p m .locals
+  pub locals-at : getD t (R + recordSize * m + 1) 0 ≡ procOf p m .locals
   locals-at = first (others head-stands)
 
   -- where its body begins
-  pub start-at : fourAt t (R + 6 * m + 2) ≡ bodyAt (p .procs) m
+  pub start-at : fourAt t (R + recordSize * m + 2) ≡ bodyAt (p .procs) m
   start-at = four-bytes (bodyAt (p .procs) m) (shift (others (others head-stands)) (omega arith)) (omega (arith, here))
     where
-      here : bodyAt (p .procs) m ≤ 65536
-      here = omega (arith, body-stands (laid .kind) p (laid .formed .same) m proc-at .fits, laid .formed .size, table-small (laid .kind))
+      here : bodyAt (p .procs) m ≤ limits sequential .bytes
+      here = omega (arith, body-stands (laid .kind) p (laid .formed .same) m proc-at .fits, laid .formed .size, at-most (laid .kind) .bytes)
 
   -- its body, up to where the next one begins
-  pub body-here : BlockAt t (bodyAt (p .procs) m) 16 (procOf p m .body) (bodyAt (p .procs) (m + 1))
+  pub body-here : BlockAt t (bodyAt (p .procs) m) maxNesting (procOf p m .body) (bodyAt (p .procs) (m + 1))
   body-here = record {
     stands = subst (λ j. Stands t (bodyAt (p .procs) m) (block (procOf p m .body)) j)
         (next-body (p .procs) m proc-at ∙ ap (bodyAt (p .procs)) (omega arith))
         (body-stands (laid .kind) p (laid .formed .same) m proc-at);
-    fits = each-at (BlockFits 16) (bodiesOf (p .procs)) m (laid .formed .fits) (body-at (p .procs) m proc-at);
+    fits = each-at (BlockFits maxNesting) (bodiesOf (p .procs)) m (laid .formed .fits) (body-at (p .procs) m proc-at);
   }
 
   -- as tokens
   pub body-row : Row t (bodyAt (p .procs) m) (tokens (procOf p m .body)) (bodyAt (p .procs) (m + 1))
   body-row = row (procOf p m .body) (body-here .fits .1) (body-here .stands)
 
--- at most 32 locals
-few-locals : (k : Kind) → limits k .locals ≤ 32
-few-locals concurrent = omega arith
-few-locals sequential = omega arith
-
 -- what rules 3 and 5 say of procedure m
 pub record ProcNamed (p : Program Plain) (m : ℕ) : Type 0 where
   pub params : procOf p m .params ≤ procOf p m .locals
-  pub locals : procOf p m .locals ≤ 32
+  pub locals : procOf p m .locals ≤ limits sequential .locals
   pub names : Names p (procOf p m .locals) (procOf p m .body)
 
 -- they say it
 pub proc-named : {t : List ℕ} {P R : ℕ} {p : Program Plain} → Named t P R p → {m : ℕ} → m < P → ProcNamed p m
 proc-named {p = p} named {m} below = record {
   params = right .params;
-  locals = omega (arith, right .locals, few-locals (named .laid .kind));
+  locals = omega (arith, right .locals, at-most (named .laid .kind) .locals);
   names = each-at (λ q. Names p (q .locals) (q .body)) (p .procs) m (all-names? p .so (named .named)) (proc-at (named .laid) below);
 }
   where
@@ -144,11 +137,11 @@ pub record BodyEnds (t : List ℕ) (P R m r : ℕ) : Type 0 where
 
 module _ (t : List ℕ) (P R m : ℕ) where
   -- before another
-  pub ends-next : {r : ℕ} → m + 1 < P → r ≡ fourAt t (R + 6 * (m + 1) + 2) → r < R → BodyEnds t P R m r
+  pub ends-next : {r : ℕ} → m + 1 < P → r ≡ fourAt t (R + recordSize * (m + 1) + 2) → r < R → BodyEnds t P R m r
   ends-next l e w = record { within = omega arith; gives = λ p laid. e ∙ start-at laid l }
 
   -- at the records, where the next one begins there too
-  pub ends-there : {r : ℕ} → m + 1 < P → r ≡ fourAt t (R + 6 * (m + 1) + 2) → R ≤ r → BodyEnds t P R m R
+  pub ends-there : {r : ℕ} → m + 1 < P → r ≡ fourAt t (R + recordSize * (m + 1) + 2) → R ≤ r → BodyEnds t P R m R
   ends-there {r} l e w = record { within = omega arith; gives = gives }
     where
       gives : (p : Program Plain) → Laid t P R p → R ≡ bodyAt (p .procs) (m + 1)

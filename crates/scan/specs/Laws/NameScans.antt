@@ -21,6 +21,7 @@ use Rattle.scan.specs.Tokens.{fourAt, tokenAt, sizeAt, tokensE, tokensEs
 use Rattle.scan.specs.Laws.Tokens.{Row, token-falls}
 use Rattle.scan.specs.Laws.Scans.{Scans, From, from-start, from-next, from-stop, from-end}
 use Rattle.format.specs.Laws.TablePlaces.{bodyAt}
+use Rattle.format.specs.Encode.{recordSize}
 use Rattle.scan.specs.Laws.Laid.{Laid, Judges, procOf, params-at, locals-at, start-at, body-row, BodyEnds}
 use Rattle.scan.specs.Laws.Laid.{Passed, none-passed, one-passed, passed-all, failed-one}
 
@@ -28,7 +29,7 @@ use Rattle.scan.specs.Laws.Laid.{Passed, none-passed, one-passed, passed
 
 -- is m a procedure, and has it n parameters, by its record
 unfoldable pub takesHere : List ℕ → ℕ → ℕ → ℕ → ℕ → Bool
-takesHere t P R m n = both (ltb m P) (eqb (getD t (R + 6 * m) 0) n)
+takesHere t P R m n = both (ltb m P) (eqb (getD t (R + recordSize * m) 0) n)
 
 module _ (t : List ℕ) (P M R X : ℕ) where
   -- does each name of a token mean something
@@ -70,7 +71,7 @@ pub not-below : (a b n : ℕ) → n ≤ a → false ≡ both (ltb a n) (ltb b n)
 not-below a b n l = rw (le-ltb a n l)
 
 -- a callee, by its record
-pub takes-one : (t : List ℕ) (P R m n : ℕ) {x : ℕ} → m < P → x ≡ getD t (R + 6 * m) 0 → eqb x n ≡ takesHere t P R m n
+pub takes-one : (t : List ℕ) (P R m n : ℕ) {x : ℕ} → m < P → x ≡ getD t (R + recordSize * m) 0 → eqb x n ≡ takesHere t P R m n
 unfolding takesHere
 takes-one t P R m n l e = rw (lt-ltb m P l, e)
 
@@ -255,8 +256,8 @@ module _ {t : List ℕ} {P M R : ℕ} {p : Program Plain} (counted : Counted t P
 
 module _ (t : List ℕ) (P M R m : ℕ) where
   -- the body of procedure m
-  pub body-judged : {x a e : ℕ} {r : Bool} → m < P → x ≡ getD t (R + 6 * m + 1) 0 → a ≡ fourAt t (R + 6 * m + 2) → BodyEnds t P R m e
-      → Scans t e (allHere t P M R x) a r → Judges (Counted t P M R) (procNamed m) r
+  pub body-judged : {x a e : ℕ} {r : Bool} → m < P → x ≡ getD t (R + recordSize * m + 1) 0 → a ≡ fourAt t (R + recordSize * m + 2)
+      → BodyEnds t P R m e → Scans t e (allHere t P M R x) a r → Judges (Counted t P M R) (procNamed m) r
   unfolding allHere procNamed
   body-judged {x} {a} {e} {r} l locals start ends s = record { gives = gives }
     where

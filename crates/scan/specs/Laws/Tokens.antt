@@ -21,6 +21,7 @@ use Rattle.format.specs.Encode as E
 use Rattle.scan.specs.Tokens.{twoAt, tokenOf, tokenAt, sizes, sizeOf, sizeAt, tokensE, tokensEs, tokensI, tokens}
 use Rattle.format.specs.Laws.Fits.{NumbersFit, ExprFits, Says, SaysI}
 use Rattle.format.specs.Laws.Stands.{Stands, first, others, front, back, two-bytes}
+use Rattle.format.specs.Decode.{maxDepth}
 
 -- ---- one token, by its mark
 
@@ -207,7 +208,7 @@ rowE₂ : {t : List ℕ} {i j : ℕ} (a b : Expr) → NumbersFit a → NumbersFi
 rowE₂ a b f g u = row-append (rowE a f (front (E.expr a) (E.expr b) u)) (rowE b g (back (E.expr a) (E.expr b) u))
 
 -- several
-rowEs : {t : List ℕ} {i j : ℕ} (es : List Expr) → Each (ExprFits 16) es → Stands t i (each E.expr es) j → Row t i (tokensEs es) j
+rowEs : {t : List ℕ} {i j : ℕ} (es : List Expr) → Each (ExprFits maxDepth) es → Stands t i (each E.expr es) j → Row t i (tokensEs es) j
 rowEs {t} {i} [] f s = subst (λ (j : ℕ). Row t i [] j) (omega (arith, s .ends)) done
 rowEs (e ∷ es) f s = row-append (rowE e (f .0 .1) (front (E.expr e) (each E.expr es) s)) (rowEs es (f .1) (back (E.expr e) (each E.expr es) s))
 

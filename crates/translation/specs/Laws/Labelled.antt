@@ -84,8 +84,8 @@ module _ (q : Program Plain) {p : Program Plain} {here : Here} {G : Layout} {m n
 
   -- each instruction of the source
   code-right : (begin : ℕ → ℕ) → ((c a : ℕ) → Takes (q .procs) c a → Callee p G begin c a)
-      → (i : Instr Plain) (l k : ℕ) {s : Known} → s tid ≡ true → ExprsRightI i → NamesI q n i → nestingI i < maxNesting → l + countI i < 2 ^ 31 → k < 2 ^ 31
-      → Fine p here n maxNesting s (code G m n begin l (labelI l i) k)
+      → (i : Instr Plain) (l k : ℕ) {s : Known} → s tid ≡ true → ExprsRightI i → NamesI q n i → nestingI i < maxNesting → l + countI i < 2 ^ 31
+      → k < 2 ^ 31 → Fine p here n maxNesting s (code G m n begin l (labelI l i) k)
   code-right begin callee (assign x e) l k set f i h j o =
       insideI-right (assign x e) l maxNesting (pc G m n k) set f i h (λ u t. pc-right scene (t tid set) k o (omega arith))
   code-right begin callee (write y o e) l k set f i h j z =

@@ -14,5 +14,6 @@ put-bounds-spec =
     (λ c. search needs)
     (λ c. search needs)
     (λ c. search needs)
+    (λ c. search needs)
     (λ c. search bounds-ways)
     (λ c. search bounds-ways))

@@ -4,6 +4,7 @@ use mathlib.Core.Bool.{false}
 use lib.ListN.{getD}
 use native.Mathlib.Omega.{arith}
 use borrow.Author.Needs.{needs}
+use Rattle.format.specs.Rules.{maxLocals}
 use Rattle.labels.proofs.Gathering.{Tally, byte-one, tally-ways}
 use Rattle.labels.proofs.variables.count.Statement.{statement}
 use Rattle.labels.proofs.variables.count.Tie as tie
@@ -12,7 +13,7 @@ abbrev Inv-loop : tie.InvT-loop
 Inv-loop row n₀ i₀ n i = Tally row i n
 
 abbrev μ-loop : tie.MeasureT-loop
-μ-loop row n₀ i₀ n i = 16 - i
+μ-loop row n₀ i₀ n i = maxLocals - i
 
 pub count-spec : {M : Type 1} → statement M
 count-spec =

@@ -1,0 +1,4 @@
+-- The sizes of the code's arrays.
+
+-- made from the definitions' numbers
+pub mod Sizes
