@@ -58,5 +58,5 @@ abbrev pub positions : ℕ
 positions = limits sequential .bytes
 
 -- the first length that is too long
-abbrev pub far : ℕ
-far = suc positions
+abbrev pub tooLong : ℕ
+tooLong = suc positions

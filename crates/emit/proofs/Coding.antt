@@ -10,6 +10,7 @@ use lib.ListN.{length, getD}
 use Rattle.value.specs.Values.{bytes}
 use Rattle.format.specs.Syntax.{Expr, local, Instr, assign, write, read, Block, end, Plain}
 use Rattle.format.specs.Encode.{expr, instr, block}
+use Rattle.format.specs.Rules.{maxLocals}
 use Rattle.translation.specs.Code.{_then_, num, loc, tid, tmp, aux, moved, mentions, keep, variables, loadAll, loads}
 use Rattle.writer.specs.Laws.Put.{Put, PutExpr, PutInstr, PutBlock, Onto, Writes}
 use Rattle.emit.specs.Laws.Sources.{Takes, Loads, LoadsIf, LoadsAll, Loading, Goes, Returns}
@@ -129,7 +130,7 @@ module _ {s : Site} {flag : Bool} {x : ℕ} where
   }
 
 -- before the first variable
-pub loading-start : {s : Site} {flags : List Bool} {o : List ℕ} {p : ℕ} → Loading s flags o p 16 o p
+pub loading-start : {s : Site} {flags : List Bool} {o : List ℕ} {p : ℕ} → Loading s flags o p maxLocals o p
 loading-start = record {
   rest = λ G m n es h f c. let e : n ≡ n - 0 = omega arith in onto-same (ap (λ (k : ℕ). block (loadAll G m n (variables 0 k es) c)) e);
   kept = refl;
@@ -138,11 +139,11 @@ loading-start = record {
 
 -- a variable more
 pub loading-next : {s : Site} {flags : List Bool} {o o′ o″ : List ℕ} {p q r : ℕ} (left : ℕ) → Loading s flags o p left o′ q → 0 < left
-    → LoadsIf s (getD flags (16 - left) false) (16 - left) o′ q o″ r → length o″ ≡ length o′ → Loading s flags o p (left - 1) o″ r
+    → LoadsIf s (getD flags (maxLocals - left) false) (maxLocals - left) o′ q o″ r → length o″ ≡ length o′ → Loading s flags o p (left - 1) o″ r
 loading-next {s} {flags} {o} {o′} {o″} {p} {q} {r} left L some I k = record {
   rest = λ G m n es h f c.
-      let x : ℕ = 16 - left in
-      let next : x + 1 ≡ 16 - (left - 1) = omega (arith, L .most) in
+      let x : ℕ = maxLocals - left in
+      let next : x + 1 ≡ maxLocals - (left - 1) = omega (arith, L .most) in
       let A = L .rest G m n es h f c in
       let B = I .gives G m n es h (f x (omega arith)) c in
       subst (λ (y : ℕ). Onto o p (block (loads G m n es c)) o″ r (block (loadAll G m n (variables y (n - y) es) c))) next
@@ -157,7 +158,7 @@ loading-end {s} {flags} {o} {o′} {p} {r} {left} L none = record {
   gives = λ G m n es h f. record {
     before = λ c.
         subst (λ (xs : List ℕ). Onto o p (block (loads G m n es c)) o′ r (block (loadAll G m n xs c)))
-        (no-variable (16 - left) n es (omega (arith, h .few))) (L .rest G m n es h f c);
+        (no-variable (maxLocals - left) n es (omega (arith, h .few))) (L .rest G m n es h f c);
     kept = L .kept;
   };
 }

@@ -15,6 +15,7 @@ use Rattle.format.specs.Syntax.{Expr, constant, local, one, two}
 use Rattle.format.specs.Encode.{expr}
 use Rattle.format.specs.Laws.Stands.{Stands, first, in-take}
 use Rattle.format.specs.Laws.ExprGrammar.{ExprAt, OneAt, TwoAt, one-here, two-here, local-here, expr-inside, expr-deep}
+use Rattle.format.specs.Rules.{maxLocals}
 use Rattle.translation.specs.Code.{shift}
 use Rattle.writer.specs.Laws.Put.{Put}
 use Rattle.emit.specs.Laws.Sources.{Low, Copies}
@@ -117,7 +118,7 @@ module _ {t : List ℕ} {i d : ℕ} where
   copy-local {o} {o″ = o″} {p} {r = r} {n} {x} m long P same Q = record {
     copied = λ e j h low.
         let is : e ≡ local (getD t (i + 1) 0) = local-here h m .0 in
-        let small : getD t (i + 1) 0 < 16 = rw is at low in
+        let small : getD t (i + 1) 0 < maxLocals = rw is at low in
         let moved : x ≡ suc (suc (suc (getD t (i + 1) 0))) = omega (arith, same) in
         rw is (rw (m, moved) at (put-cons P Q));
     ends = λ e j h low. let one : payloadOf (getD t i 0) ≡ 1 = rw m refl in omega (arith, local-here h m .1);
@@ -153,12 +154,12 @@ module _ {t : List ℕ} {i d : ℕ} where
       here : (e : Expr) (j : ℕ) → ExprAt t i d e j → OneAt t i d (mark .0) e j
       here e j h = one-here h (mark .1)
 
-      copied : (e : Expr) (j : ℕ) → ExprAt t i d e j → Low 16 e → OneAt t i d (mark .0) e j → Put o p (expr (shift e)) o″ (r .to)
+      copied : (e : Expr) (j : ℕ) → ExprAt t i d e j → Low maxLocals e → OneAt t i d (mark .0) e j → Put o p (expr (shift e)) o″ (r .to)
       copied e j h low w =
           let byte : getD t i 0 ≡ mark₁ (mark .0) = first (rw (w .is) at (h .stands)) in
           rw (w .is) (rw byte at (put-cons P (C .copied (w .a) j (w .inner) (rw (w .is) at low))))
 
-      ends : (e : Expr) (j : ℕ) → ExprAt t i d e j → Low 16 e → OneAt t i d (mark .0) e j → r .next ≡ j
+      ends : (e : Expr) (j : ℕ) → ExprAt t i d e j → Low maxLocals e → OneAt t i d (mark .0) e j → r .next ≡ j
       ends e j h low w = C .ends (w .a) j (w .inner) (rw (w .is) at low)
 
   -- on two
@@ -176,18 +177,18 @@ module _ {t : List ℕ} {i d : ℕ} where
       here : (e : Expr) (j : ℕ) → ExprAt t i d e j → TwoAt t i d (mark .0) e j
       here e j h = two-here h (mark .1)
 
-      copied : (e : Expr) (j : ℕ) → ExprAt t i d e j → Low 16 e → TwoAt t i d (mark .0) e j → Put o p (expr (shift e)) o‴ (y .to)
+      copied : (e : Expr) (j : ℕ) → ExprAt t i d e j → Low maxLocals e → TwoAt t i d (mark .0) e j → Put o p (expr (shift e)) o‴ (y .to)
       copied e j h low w =
           let byte : getD t i 0 ≡ mark₂ (mark .0) = first (rw (w .is) at (h .stands)) in
-          let lows : Low 16 (w .a) × Low 16 (w .b) = rw (w .is) at low in
+          let lows : Low maxLocals (w .a) × Low maxLocals (w .b) = rw (w .is) at low in
           let mid : x .next ≡ w .k = X .ends (w .a) (w .k) (w .left) (lows .0) in
           rw (w .is)
           (rw byte at (put-cons P (put-then (expr (shift (w .a))) (expr (shift (w .b)))
           (X .copied (w .a) (w .k) (w .left) (lows .0)) (Y .copied (w .b) j (rw mid (w .right)) (lows .1)))))
 
-      ends : (e : Expr) (j : ℕ) → ExprAt t i d e j → Low 16 e → TwoAt t i d (mark .0) e j → y .next ≡ j
+      ends : (e : Expr) (j : ℕ) → ExprAt t i d e j → Low maxLocals e → TwoAt t i d (mark .0) e j → y .next ≡ j
       ends e j h low w =
-          let lows : Low 16 (w .a) × Low 16 (w .b) = rw (w .is) at low in
+          let lows : Low maxLocals (w .a) × Low maxLocals (w .b) = rw (w .is) at low in
           let mid : x .next ≡ w .k = X .ends (w .a) (w .k) (w .left) (lows .0) in
           Y .ends (w .b) j (rw mid (w .right)) (lows .1)
 

@@ -15,6 +15,7 @@ use Rattle.format.specs.Laws.Stands.{first, others, two-bytes}
 use Rattle.format.specs.Laws.Procs.{takes-at, proc-sound}
 use Rattle.format.specs.Laws.Names.{Takes}
 use Rattle.format.specs.Laws.TablePlaces.{recordsAt, record-stands, main-stands}
+use Rattle.format.specs.Encode.{recordSize}
 use Rattle.translation.specs.Layout.{localsOf, before}
 use Rattle.emit.specs.Laws.Shapes.{Shaped, LocalsAt, Summed, BeforeAt, MainAt, HubAt, SiteAt, RowsAt}
 use Rattle.emit.specs.declared.layout.Shape.{Shape}
@@ -67,13 +68,13 @@ module _ {t : List ℕ} {h : Shape} where
   locals-past {m} l = record { gives = λ p w. sym (ap localsOf (at-past (p .procs) m (omega (arith, w .procedures)))) }
 
   -- in the record of a procedure
-  pub locals-in : {m r : ℕ} → m < h .procedures → r ≡ getD t (h .records + 6 * m + 1) 0 → LocalsAt t h m r
+  pub locals-in : {m r : ℕ} → m < h .procedures → r ≡ getD t (h .records + recordSize * m + 1) 0 → LocalsAt t h m r
   locals-in {m} {r} l e = record { gives = λ p w. by p w (at (p .procs) m) refl }
     where
       by : (p : Program Plain) → Shaped t h p → (q : Maybe (Proc Plain)) → at (p .procs) m ≡ q → r ≡ localsOf (at (p .procs) m)
       by p w (is q) f =
           let s = others (record-stands concurrent p (w .is) m f) in
-          let same : h .records + 6 * m + 1 ≡ recordsAt p + 6 * m + 1 = omega (arith, w .records) in
+          let same : h .records + recordSize * m + 1 ≡ recordsAt p + recordSize * m + 1 = omega (arith, w .records) in
           e ∙ rw same (first s) ∙ sym (ap localsOf f)
       by p w nothing f = nowhere (p .procs) m (omega (arith, w .procedures)) f
 
@@ -115,11 +116,12 @@ module _ {t : List ℕ} {h : Shape} where
   main-past {k} l = record { gives = λ p m w e. absurd (omega (arith, w .threads, at-below (p .mains) k e)) }
 
   -- in the table
-  pub main-in : {k r : ℕ} → r ≡ numberAt 2 t (h .records + 6 * h .procedures + 2 * h .locations + 2 * k) → MainAt t h k r
+  pub main-in : {k r : ℕ} → r ≡ numberAt 2 t (h .records + recordSize * h .procedures + 2 * h .locations + 2 * k) → MainAt t h k r
   main-in {k} {r} e = record {
     gives = λ p m w f.
         let s = main-stands concurrent p (w .is) k f in
-        let same : h .records + 6 * h .procedures + 2 * h .locations + 2 * k ≡ recordsAt p + 6 * length (p .procs) + 2 * length (p .sizes) + 2 * k =
+        let same : h .records + recordSize * h .procedures + 2 * h .locations + 2 * k
+        ≡ recordsAt p + recordSize * length (p .procs) + 2 * length (p .sizes) + 2 * k =
         omega (arith, w .records, w .procedures, w .locations)
         in
         e ∙ rw same (omega (arith, two-bytes m s (main-small p w k m f)));

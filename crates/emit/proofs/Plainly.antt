@@ -12,6 +12,8 @@ use Rattle.format.specs.Laws.Grammar.{ExprAt, InstrAt, AssignAt, WriteAt, ReadA
 use Rattle.labels.specs.Walks.{Gathers, ExprEnds}
 use Rattle.format.specs.Variables.{flags}
 use Rattle.format.specs.Laws.Variables.{flag-at, flags-one}
+use Rattle.format.specs.Decode.{maxDepth}
+use Rattle.format.specs.Rules.{maxLocals}
 use Rattle.labels.specs.declared.variables.Gathered.{Gathered}
 use Rattle.translation.specs.Layout.{Layout}
 use Rattle.translation.specs.Code.{loc, tmp, moved, mentions, shift, insideI}
@@ -31,7 +33,7 @@ low-more (one o a) h l = low-more a h l
 low-more (two o a b) h l = (low-more a h (l .0), low-more b h (l .1))
 
 -- a moved local, as its byte
-moved-byte : {x y : ℕ} → y ≡ (x + 3) % 256 → x < 16 → y ≡ moved x
+moved-byte : {x y : ℕ} → y ≡ (x + 3) % 256 → x < maxLocals → y ≡ moved x
 moved-byte e h = omega (arith, e, h)
 
 -- local x into its location
@@ -48,7 +50,7 @@ module _ {t : List ℕ} where
   -- ---- loads
 
   -- those of an expression's variables
-  pub loads-of : {i : ℕ} {g : Gathered} {s : Site} {o o′ : List ℕ} {p r : ℕ} → Gathers t i 16 g → LoadsAll s (g .set) o p o′ r
+  pub loads-of : {i : ℕ} {g : Gathered} {s : Site} {o o′ : List ℕ} {p r : ℕ} → Gathers t i maxDepth g → LoadsAll s (g .set) o p o′ r
       → LoadsOf t i s o p o′ r
   loads-of {g = g} A L = record {
     gives = λ G m n e j h at.
@@ -60,7 +62,7 @@ module _ {t : List ℕ} where
 
   -- tmp := location l; tmp[tid] := e
   pub store : {i l : ℕ} {o o₁ o₂ o₃ : List ℕ} {p p₁ p₂ : ℕ} {r : Copied} → PutInstr o p (assign tmp (loc l)) o₁ p₁
-      → Put o₁ p₁ (0x21 ∷ 1 ∷ 5 ∷ 0 ∷ []) o₂ p₂ → Copies t i 16 o₂ p₂ o₃ r → Stores t i l o p o₃ r
+      → Put o₁ p₁ (0x21 ∷ 1 ∷ 5 ∷ 0 ∷ []) o₂ p₂ → Copies t i maxDepth o₂ p₂ o₃ r → Stores t i l o p o₃ r
   store A B C = record {
     gives = λ G m n e j h low. writes-then (writes-instr A) (writes-instr (kept B (record { puts = C .copied e j h low })));
     ends = C .ends;
@@ -86,7 +88,7 @@ module _ {t : List ℕ} where
           (writes-then (L .gives G m n (w .e) j h (record { stands = w .source; low = ok′ .1 }))
           (S′ .gives G m n (w .e) j (w .source) (low-more (w .e) (h .few) (ok′ .1))))
 
-      ends : (n d : ℕ) (a : Instr ℕ) (j : ℕ) → n ≤ 16 → InPlaceI n a → AssignAt t i d a j → r .next ≡ j
+      ends : (n d : ℕ) (a : Instr ℕ) (j : ℕ) → n ≤ maxLocals → InPlaceI n a → AssignAt t i d a j → r .next ≡ j
       ends n d a j few ok w =
           let ok′ : (getD t (i + 1) 0 < n) × Low n (w .e) = rw (w .is) at ok in
           S .ends (w .e) j (w .source) (low-more (w .e) few (ok′ .1))
@@ -103,7 +105,7 @@ module _ {t : List ℕ} where
 
   -- y[a] := e
   pub set-one : {i y z : ℕ} {o o₁ o₂ o₃ o₄ : List ℕ} {p p₁ p₂ : ℕ} {u r : Copied} → Put o p (0x21 ∷ []) o₁ p₁ → z ≡ (y + 3) % 256
-      → Put o₁ p₁ (z ∷ []) o₂ p₂ → Copies t i 16 o₂ p₂ o₃ u → Copies t (u .next) 16 o₃ (u .to) o₄ r → Sets t i y o p o₄ r
+      → Put o₁ p₁ (z ∷ []) o₂ p₂ → Copies t i maxDepth o₂ p₂ o₃ u → Copies t (u .next) maxDepth o₃ (u .to) o₄ r → Sets t i y o p o₄ r
   set-one {i} {y} {z} {o} {o₁} {o₂} {o₃} {o₄} {p} {p₁} {p₂} {u} {r} A b B C D = record {
     gives = λ a e k j ha la he le low.
         let mid : u .next ≡ k = C .ends a k ha la in
@@ -131,15 +133,15 @@ module _ {t : List ℕ} where
           let ok′ : (getD t (i + 1) 0 < n) × Low n (w .o) × Low n (w .e) = rw (w .is) at ok in
           let mid : k ≡ w .k = K .ends (w .o) (w .k) (w .offset) in
           let low : y < n = rw same (ok′ .0) in
-          let source : ExprAt t k 16 (w .e) j = rw mid (w .source) in
-          let offset : ExprAt t (i + 2) 16 (w .o) k = rw mid (w .offset) in
+          let source : ExprAt t k maxDepth (w .e) j = rw mid (w .source) in
+          let offset : ExprAt t (i + 2) maxDepth (w .o) k = rw mid (w .offset) in
           rw (w .is, ← same)
           (writes-then (L .gives G m n (w .o) (w .e) j h (record { stands = offset; low = ok′ .1 }) (record { stands = source; low = ok′ .2 }) low)
           (writes-instr
           (S .gives (w .o) (w .e) k j offset (low-more (w .o) (h .few) (ok′ .1)) source (low-more (w .e) (h .few) (ok′ .2))
           (omega (arith, low, h .few)))))
 
-      ends : (n d : ℕ) (a : Instr ℕ) (j : ℕ) → n ≤ 16 → InPlaceI n a → WriteAt t i d a j → r .next ≡ j
+      ends : (n d : ℕ) (a : Instr ℕ) (j : ℕ) → n ≤ maxLocals → InPlaceI n a → WriteAt t i d a j → r .next ≡ j
       ends n d a j few ok w =
           let ok′ : (getD t (i + 1) 0 < n) × Low n (w .o) × Low n (w .e) = rw (w .is) at ok in
           S .ends (w .o) (w .e) (w .k) j (w .offset) (low-more (w .o) few (ok′ .1)) (w .source) (low-more (w .e) few (ok′ .2))
@@ -148,7 +150,7 @@ module _ {t : List ℕ} where
 
   -- x := y[a]
   pub get-one : {i x y u v : ℕ} {o o₁ o₂ : List ℕ} {p p₁ : ℕ} {r : Copied} → u ≡ (x + 3) % 256 → v ≡ (y + 3) % 256
-      → Put o p (0x22 ∷ u ∷ v ∷ []) o₁ p₁ → Copies t i 16 o₁ p₁ o₂ r → Gets t i x y o p o₂ r
+      → Put o p (0x22 ∷ u ∷ v ∷ []) o₁ p₁ → Copies t i maxDepth o₁ p₁ o₂ r → Gets t i x y o p o₂ r
   get-one {x = x} {y} {u} {v} a b A C = record {
     gives = λ e j h low lx ly.
         let first : u ≡ moved x = moved-byte a lx in
@@ -181,7 +183,7 @@ module _ {t : List ℕ} where
           (writes-instr (S .gives (w .o) j (w .offset) (low-more (w .o) (h .few) (ok′ .2)) (omega (arith, lx, h .few)) (omega (arith, ly, h .few))))
           (H .gives G m n h lx))))
 
-      ends : (n d : ℕ) (a : Instr ℕ) (j : ℕ) → n ≤ 16 → InPlaceI n a → ReadAt t i d a j → r .next ≡ j
+      ends : (n d : ℕ) (a : Instr ℕ) (j : ℕ) → n ≤ maxLocals → InPlaceI n a → ReadAt t i d a j → r .next ≡ j
       ends n d a j few ok w =
           let ok′ : (getD t (i + 1) 0 < n) × (getD t (i + 2) 0 < n) × Low n (w .o) = rw (w .is) at ok in
           S .ends (w .o) j (w .offset) (low-more (w .o) few (ok′ .2))

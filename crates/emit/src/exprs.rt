@@ -1,4 +1,5 @@
 // Expressions of the source, written into the copy: local x becomes local 3 + x.
+use basics::numbers::LOCAL;
 use writer::bytes::put;
 use writer::bytes::put_part;
 ghost use mathlib.Core.Path.{_≡_};
@@ -10,9 +11,6 @@ pub struct Copied {
     pub next: usize,
     pub to: usize,
 }
-
-// The mark of a local variable.
-pub const LOCAL: u8 = 0x05;
 
 // "local i as 3+i"
 pub fn moved(x: u8) -> u8

@@ -1,6 +1,9 @@
 // Where the copy keeps what: the locations after the source's. No other file knows their numbers.
 use basics::bytes::byte_at;
 use basics::bytes::two_bytes;
+use basics::numbers::MAIN;
+use basics::numbers::RECORD;
+use basics::numbers::SIZE;
 ghost use mathlib.Core.Path.{_≡_};
 ghost use Prim.Native.Nat.{_+_};
 ghost use Rattle.emit.specs.Laws.Shapes.{LocalsAt, BeforeAt, MainAt, HubAt, SiteAt, RowsAt};
@@ -36,7 +39,7 @@ pub fn locals_of(t: &[u8], shape: Shape, m: usize) -> u8
     if shape.procedures as usize <= m {
         return 0;
     }
-    byte_at(t, shape.records as usize + 6 * m + 1)
+    byte_at(t, shape.records as usize + RECORD * m + 1)
 }
 
 // The locals of the procedures before m.
@@ -63,8 +66,8 @@ pub fn main_of(t: &[u8], shape: Shape, k: usize) -> usize
     if shape.threads as usize <= k {
         return 0;
     }
-    let sizes = shape.records as usize + 6 * (shape.procedures as usize);
-    two_bytes(t, sizes + 2 * (shape.locations as usize) + 2 * k) as usize
+    let sizes = shape.records as usize + RECORD * (shape.procedures as usize);
+    two_bytes(t, sizes + SIZE * (shape.locations as usize) + MAIN * k) as usize
 }
 
 // "ptid (size 1), pct"

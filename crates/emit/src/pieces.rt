@@ -1,11 +1,15 @@
 // The pieces of generated code that do not read the source: loads, stores and labels.
-use crate::exprs::LOCAL;
 use crate::exprs::moved;
 use crate::layout::Site;
 use crate::layout::home;
 use basics::numbers::ASSIGN;
 use basics::numbers::END;
+use basics::numbers::FLAGS;
+use basics::numbers::LOCAL;
+use basics::numbers::LOCALS;
+use basics::numbers::LOCATION;
 use basics::numbers::READ;
+use basics::numbers::WHOLE;
 use basics::numbers::WRITE;
 use writer::bytes::put;
 use writer::bytes::put_four;
@@ -16,11 +20,6 @@ ghost use Rattle.format.specs.Syntax.{local, assign, write, read};
 ghost use Rattle.translation.specs.Code.{tid, tmp, num, loc};
 ghost use Rattle.writer.specs.Laws.Put.{Put, PutExpr, PutInstr};
 ghost use Rattle.emit.specs.Laws.Sources.{Takes, Loads, LoadsIf, LoadsAll, Goes, Returns};
-
-// The marks of constants.
-pub const WHOLE: u8 = 0x01;
-
-pub const LOCATION: u8 = 0x02;
 
 // "it has parameter tid = 0, then tmp = 1, aux = 2"
 pub const TID: u8 = 0;
@@ -98,13 +97,13 @@ pub fn put_flagged(s: Site, flag: bool, x: u8, out: &mut [u8], at: usize) -> usi
 }
 
 // "Loads go over distinct variables, rising": those whose flag is set.
-pub fn put_loads(s: Site, flags: [bool; 16], out: &mut [u8], at: usize) -> usize
+pub fn put_loads(s: Site, flags: [bool; FLAGS], out: &mut [u8], at: usize) -> usize
     ensures { λ r. ⌜ LoadsAll s flags (now (out .entry)) at (now (out .exit)) r ⌝ }
 {
-    let mut left: u8 = 16;
+    let mut left = LOCALS;
     let mut p = at;
     while 0 < left {
-        let x = 16 - left;
+        let x = LOCALS - left;
         p = put_flagged(s, flags[x as usize], x, out, p);
         left -= 1;
     }

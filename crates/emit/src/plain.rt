@@ -1,6 +1,5 @@
 // The code of the instructions that hold no block: assign, read and write, without the label that follows.
 use crate::exprs::Copied;
-use crate::exprs::LOCAL;
 use crate::exprs::moved;
 use crate::exprs::put_expr;
 use crate::layout::Site;
@@ -12,6 +11,7 @@ use crate::pieces::put_locate;
 use basics::bytes::byte_at;
 use basics::numbers::ASSIGN;
 use basics::numbers::DEPTH;
+use basics::numbers::LOCAL;
 use basics::numbers::READ;
 use basics::numbers::WRITE;
 use labels::count::after_expr;

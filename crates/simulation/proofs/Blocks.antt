@@ -7,6 +7,8 @@ use lib.ListN.{length, getD}
 use Rattle.format.specs.Syntax.{Instr, Block, end}
 use Rattle.format.specs.Encode.{expr, block}
 use Rattle.format.specs.Laws.Grammar.{BlockAt, IfAt, if-here, StepAt, end-here, step-here, block-inside, block-deep}
+use Rattle.format.specs.Decode.{maxDepth}
+use Rattle.format.specs.Rules.{maxLocals}
 use Rattle.translation.specs.Layout.{Layout}
 use Rattle.translation.specs.Code.{shift, insideI, inside}
 use Rattle.writer.specs.Laws.Put.{Put, Writes}
@@ -20,7 +22,7 @@ use Rattle.emit.proofs.Plainly.{low-more}
 
 module _ {t : List ℕ} where
   -- "if e"
-  pub asked : {i : ℕ} {o o₁ o₂ : List ℕ} {p p₁ : ℕ} {r : Copied} → Put o p (0x24 ∷ []) o₁ p₁ → Copies t i 16 o₁ p₁ o₂ r → Asks t i o p o₂ r
+  pub asked : {i : ℕ} {o o₁ o₂ : List ℕ} {p p₁ : ℕ} {r : Copied} → Put o p (0x24 ∷ []) o₁ p₁ → Copies t i maxDepth o₁ p₁ o₂ r → Asks t i o p o₂ r
   asked A C = record { gives = λ e j h low. put-cons A (C .copied e j h low); ends = C .ends; forward = C .forward }
 
   -- ---- instructions
@@ -46,7 +48,7 @@ module _ {t : List ℕ} where
       gives : (G : Layout) (m n : ℕ) (a : Instr ℕ) (j : ℕ) → Sited G m n s → InPlaceI n a → IfAt t i d a j → Writes o p (insideI G m n a) o₄ (r .to)
       gives G m n a j h ok w =
           let ok′ : Low n (w .e) × InPlace n (w .b) × InPlace n (w .c) = rw (w .is) at ok in
-          let low : Low 16 (w .e) = low-more (w .e) (h .few) (ok′ .0) in
+          let low : Low maxLocals (w .e) = low-more (w .e) (h .few) (ok′ .0) in
           let one : q .next ≡ w .k = A .ends (w .e) (w .k) (w .test) low in
           let yes : BlockAt t (q .next) d (w .b) (w .l) = rw one (w .first) in
           let two : u .next ≡ w .l = B .ends n (w .b) (w .l) (h .few) yes (ok′ .1) in
@@ -59,7 +61,7 @@ module _ {t : List ℕ} where
                 (B .gives G m n (w .b) (w .l) h yes (ok′ .1) .puts) (C .gives G m n (w .c) j h no (ok′ .2) .puts));
           })))
 
-      ends : (n : ℕ) (a : Instr ℕ) (j : ℕ) → n ≤ 16 → InPlaceI n a → IfAt t i d a j → r .next ≡ j
+      ends : (n : ℕ) (a : Instr ℕ) (j : ℕ) → n ≤ maxLocals → InPlaceI n a → IfAt t i d a j → r .next ≡ j
       ends n a j few ok w =
           let ok′ : Low n (w .e) × InPlace n (w .b) × InPlace n (w .c) = rw (w .is) at ok in
           let one : q .next ≡ w .k = A .ends (w .e) (w .k) (w .test) (low-more (w .e) few (ok′ .0)) in
@@ -117,7 +119,7 @@ module _ {t : List ℕ} where
           rw (w .is)
           (writes-then (I .gives G m n (w .s) (w .k) h (w .here) (ok′ .0)) (B .gives G m n (w .rest) j h (rw next (w .after)) (ok′ .1)))
 
-      ends : (n : ℕ) (b : Block ℕ) (j : ℕ) → n ≤ 16 → InPlace n b → StepAt t i d b j → r .next ≡ j
+      ends : (n : ℕ) (b : Block ℕ) (j : ℕ) → n ≤ maxLocals → InPlace n b → StepAt t i d b j → r .next ≡ j
       ends n b j few ok w =
           let ok′ : InPlaceI n (w .s) × InPlace n (w .rest) = rw (w .is) at ok in
           let next : u .next ≡ w .k = I .ends n (w .s) (w .k) few (w .here) (ok′ .0) in

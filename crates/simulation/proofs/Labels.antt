@@ -18,6 +18,8 @@ use Rattle.format.specs.Laws.Stands.{first}
 use Rattle.labels.specs.Walks.{Gathers}
 use Rattle.format.specs.Variables.{flags, joined}
 use Rattle.format.specs.Laws.Variables.{flag-at}
+use Rattle.format.specs.Decode.{maxDepth, maxNesting}
+use Rattle.format.specs.Rules.{maxLocals}
 use Rattle.labels.specs.declared.variables.Gathered.{Gathered}
 use Rattle.translation.specs.Layout.{Layout}
 use Rattle.translation.specs.Code.{_then_, num, loc, tid, tmp, mentioned, mentions, shift, goto, passes, code}
@@ -87,22 +89,22 @@ module _ {t : List ℕ} where
   -- ---- calls
 
   -- before the first argument
-  pub gather-start : {i k : ℕ} → Gathering t i k (replicate 16 false) i k
+  pub gather-start : {i k : ℕ} → Gathering t i k (replicate maxLocals false) i k
   gather-start {i} {k} = record {
     back = λ M. record { gives = λ es j at x l. M .gives es j at x l ∙ ap (λ (b : Bool). either b (mentions x es)) (no-flag x) };
   }
     where
-      no-flag : (x : ℕ) → getD (replicate 16 false) x false ≡ false
-      no-flag x = none-set 16 x
+      no-flag : (x : ℕ) → getD (replicate maxLocals false) x false ≡ false
+      no-flag x = none-set maxLocals x
 
   -- an argument more
-  pub gather-next : {i k i′ left : ℕ} {set more : List Bool} {g : Gathered} → Gathering t i k set i′ left → 0 < left → Gathers t i′ 16 g
+  pub gather-next : {i k i′ left : ℕ} {set more : List Bool} {g : Gathered} → Gathering t i k set i′ left → 0 < left → Gathers t i′ maxDepth g
       → more ≡ joined set (g .set) → Gathering t i k more (g .next) (left - 1)
   gather-next {i} {k} {i′} {left} {set} {more} {g} F some A e = record {
     back = λ M. F .back (record { gives = λ es j at x l. one es j x l (exprs-more at some) M });
   }
     where
-      one : {r : List Bool} (es : List Expr) (j x : ℕ) → x < 16 → MoreAt t i′ left es j → GathersMore t (g .next) (left - 1) more r
+      one : {r : List Bool} (es : List Expr) (j x : ℕ) → x < maxLocals → MoreAt t i′ left es j → GathersMore t (g .next) (left - 1) more r
           → getD r x false ≡ either (getD set x false) (mentions x es)
       one {r} es j x l w M =
           let found : g .set ≡ flags (λ (y : ℕ). mentioned y (w .e)) = A .set (w .e) (w .k) (w .here) in
@@ -147,11 +149,11 @@ module _ {t : List ℕ} where
     gives = λ G m n q z es j h few at. gives G m n q z es j h few (at .low) (exprs-more (at .stand) some);
   }
     where
-      gives : (G : Layout) (m n q z : ℕ) (es : List Expr) (j : ℕ) → Sited G q z c → n ≤ 16 → Each (Low n) es → MoreAt t i k es j
+      gives : (G : Layout) (m n q z : ℕ) (es : List Expr) (j : ℕ) → Sited G q z c → n ≤ maxLocals → Each (Low n) es → MoreAt t i k es j
           → Writes o p (passes G m n q x es) o₂ r
       gives G m n q z es j h few low w =
           let lows : Low n (w .e) × Each (Low n) (w .rest) = rw (w .is) at low in
-          let low′ : Low 16 (w .e) = low-more (w .e) few (lows .0) in
+          let low′ : Low maxLocals (w .e) = low-more (w .e) few (lows .0) in
           let next : u .next ≡ w .k = S .ends (w .e) (w .k) (w .here) low′ in
           let home : l ≡ G .home q x = place ∙ h .home x in
           let S′ : Stores t i (G .home q x) o p o₁ u = rw home at S in
@@ -194,13 +196,13 @@ module _ {t : List ℕ} where
   -- ---- the code in place, and then pc
 
   -- atomic
-  pub atomically : {i next : ℕ} {s : Site} {o o₁ o₂ : List ℕ} {p q : ℕ} {u : Copied} → getD t i 0 ≡ 0x26 → InsideBlock t (i + 1) 16 s o p o₁ u
+  pub atomically : {i next : ℕ} {s : Site} {o o₁ o₂ : List ℕ} {p q : ℕ} {u : Copied} → getD t i 0 ≡ 0x26 → InsideBlock t (i + 1) maxNesting s o p o₁ u
       → Goes s next o₁ (u .to) o₂ q → Steps t i s next o p o₂ q
   atomically {i} {next} {s} {o} {o₁} {o₂} {p} {q} {u} b I E = record {
     gives = λ G m n begin l a j h at ok. gives G m n begin l a j h ok (atomic-here at b);
   }
     where
-      gives : (G : Layout) (m n : ℕ) (begin : ℕ → ℕ) (l : ℕ) (a : Instr ℕ) (j : ℕ) → Sited G m n s → OneLabel n a → AtomicAt t i 16 a j
+      gives : (G : Layout) (m n : ℕ) (begin : ℕ → ℕ) (l : ℕ) (a : Instr ℕ) (j : ℕ) → Sited G m n s → OneLabel n a → AtomicAt t i maxNesting a j
           → PutBlock o p (code G m n begin l a next) o₂ q
       gives G m n begin l a j h ok w =
           let ok′ : InPlace n (w .b) = rw (w .is) at ok in
@@ -211,14 +213,14 @@ module _ {t : List ℕ} where
       → Goes s next o₁ (u .to) o₂ q → Steps t i s next o p o₂ q
   plainly {i} {next} {s} {o} {o₁} {o₂} {p} {q} {u} b P E = record { gives = gives }
     where
-      gives : (G : Layout) (m n : ℕ) (begin : ℕ → ℕ) (l : ℕ) (a : Instr ℕ) (j : ℕ) → Sited G m n s → InstrAt t i 16 a j → OneLabel n a
+      gives : (G : Layout) (m n : ℕ) (begin : ℕ → ℕ) (l : ℕ) (a : Instr ℕ) (j : ℕ) → Sited G m n s → InstrAt t i maxNesting a j → OneLabel n a
           → PutBlock o p (code G m n begin l a next) o₂ q
       gives G m n begin l (assign x e) j h at ok =
-          writes-block (P .gives (λ z. omega (arith, first (at .stands))) .gives G m n 16 (assign x e) j h at ok) (E .gives G m n h)
+          writes-block (P .gives (λ z. omega (arith, first (at .stands))) .gives G m n maxNesting (assign x e) j h at ok) (E .gives G m n h)
       gives G m n begin l (write y a e) j h at ok =
-          writes-block (P .gives (λ z. omega (arith, first (at .stands))) .gives G m n 16 (write y a e) j h at ok) (E .gives G m n h)
+          writes-block (P .gives (λ z. omega (arith, first (at .stands))) .gives G m n maxNesting (write y a e) j h at ok) (E .gives G m n h)
       gives G m n begin l (read x y a) j h at ok =
-          writes-block (P .gives (λ z. omega (arith, first (at .stands))) .gives G m n 16 (read x y a) j h at ok) (E .gives G m n h)
+          writes-block (P .gives (λ z. omega (arith, first (at .stands))) .gives G m n maxNesting (read x y a) j h at ok) (E .gives G m n h)
       gives G m n begin l (while e c) j h at ok = absurd ok
       gives G m n begin l (if e c d) j h at ok = absurd ok
       gives G m n begin l (call f es) j h at ok = absurd ok

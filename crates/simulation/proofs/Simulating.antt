@@ -18,9 +18,9 @@ use Rattle.value.specs.Laws.Maybes.{is-inj, missing}
 use Rattle.format.specs.Syntax.{Expr, Instr, assign, write, read, while, if, call, atomic, select, Block, end, step, _⊕_, Proc, Program, concurrent}
 use Rattle.format.specs.Syntax as S
 use Rattle.format.specs.Encode.{instr, block, each, bodiesOf}
-use Rattle.format.specs.Decode.{noForm, forms}
+use Rattle.format.specs.Decode.{noForm, forms, maxNesting}
 use Rattle.format.specs.Labels.{first, count, counts, label, labels, labelled}
-use Rattle.format.specs.Rules.{named, allowed, Here}
+use Rattle.format.specs.Rules.{named, allowed, Here, limits, maxLabels, maxLocals}
 use Rattle.labels.specs.LabelMap.{Node, Mapped, nodeOf, allNodes, next, other}
 use Rattle.format.specs.Laws.Stands.{Stands, inside, front}
 use Rattle.format.specs.Laws.Stands as St
@@ -37,6 +37,7 @@ use Rattle.labels.specs.Laws.LabelMap.{NodeOf, node-of, node-there, length-node
 use Rattle.translation.specs.Layout.{layout, localsOf}
 use Rattle.translation.specs.Code.{calls, code}
 use Rattle.translation.specs.Translate.{endsOf, begins, later}
+use Rattle.basics.specs.Sizes.{tooLong}
 use Rattle.writer.specs.Laws.Put.{PutBlock}
 use Rattle.emit.specs.Laws.Sources.{Low, Sited, ExprsOf, Tests, Calls, Steps, Returns}
 use Rattle.emit.specs.Laws.Shapes.{Shaped, SiteAt}
@@ -50,11 +51,11 @@ use Rattle.simulation.proofs.Nodes.{fits-inherited, named-inherited, of
 -- ---- calls
 
 -- where procedure m begins
-pub begin-in : {bounds : List ℕ} {m : ℕ} → m < 16 → BeginAt bounds m (getD bounds (2 * m + 0) 0)
+pub begin-in : {bounds : List ℕ} {m : ℕ} → m < limits concurrent .procs → BeginAt bounds m (getD bounds (2 * m + 0) 0)
 begin-in {m = m} h = record { gives = λ l. rw (add-zero (2 * m)) }
 
 -- there is no such procedure
-pub begin-past : {bounds : List ℕ} {m r : ℕ} → 16 ≤ m → BeginAt bounds m r
+pub begin-past : {bounds : List ℕ} {m r : ℕ} → limits concurrent .procs ≤ m → BeginAt bounds m r
 begin-past h = record { gives = λ l. absurd (omega (arith, h, l)) }
 
 module _ {t : List ℕ} {i : ℕ} {h : Shape} {bounds : List ℕ} {s : Site} where
@@ -67,12 +68,12 @@ module _ {t : List ℕ} {i : ℕ} {h : Shape} {bounds : List ℕ} {s : Site} whe
   }
     where
       gives : (q : Program S.Plain) (m z g j : ℕ) (es : List Expr) → Shaped t h q → Begun q bounds → Sited (layout q) m z s → g < length (q .procs)
-          → Each (Low z) es → CallAt {A = ℕ} t i 16 (call g es) j → PutBlock o p (calls (layout q) m z g es (begins q g) next) o′ r
+          → Each (Low z) es → CallAt {A = ℕ} t i maxNesting (call g es) j → PutBlock o p (calls (layout q) m z g es (begins q g) next) o′ r
       gives q m z g j es w begun here less low v =
           let same : _≡_ {A = Instr ℕ} (call g es) (call (unbytes (take 2 (drop (i + 1) t))) (v .es)) = v .is in
           let args : es ≡ v .es = cc in
           let name : g ≡ f = cc (number-at 2 t (i + 1)) in
-          let few : g < 16 = omega (arith, less, w .sound .procs .high) in
+          let few : g < limits concurrent .procs = omega (arith, less, w .sound .procs .high) in
           let found : at (q .procs) f ≡ is (getD (q .procs) f dummy) = at-getD (q .procs) f dummy (omega (arith, less, name)) in
           let first : b ≡ begins q g =
           begin .gives (omega (arith, few, name)) ∙ begun .begins f (omega (arith, less, name)) ∙ ap (begins q) (sym name)
@@ -108,7 +109,7 @@ module _ {t : List ℕ} {i : ℕ} {h : Shape} {bounds : List ℕ} {s : Site} whe
   }
     where
       gives : (q : Program S.Plain) (m n l k j : ℕ) (a : Instr ℕ) → Sited (layout q) m n s → OfLabel q n a → Leads l a k next other
-          → WhileAt t i 16 a j
+          → WhileAt t i maxNesting a j
           → PutBlock o p (code (layout q) m n (begins q) l a k) o′ r
       gives q m n l k j a here ok lead v =
           let low : Low n (v .e) = rw (v .is) at ok in
@@ -123,8 +124,8 @@ module _ {t : List ℕ} {i : ℕ} {h : Shape} {bounds : List ℕ} {s : Site} whe
     gives = λ q m n z k j a w begun here at ok lead. gives q m n z k j a here ok lead (if-here at b);
   }
     where
-      gives : (q : Program S.Plain) (m n l k j : ℕ) (a : Instr ℕ) → Sited (layout q) m n s → OfLabel q n a → Leads l a k next other → IfAt t i 16 a j
-          → PutBlock o p (code (layout q) m n (begins q) l a k) o′ r
+      gives : (q : Program S.Plain) (m n l k j : ℕ) (a : Instr ℕ) → Sited (layout q) m n s → OfLabel q n a → Leads l a k next other
+          → IfAt t i maxNesting a j → PutBlock o p (code (layout q) m n (begins q) l a k) o′ r
       gives q m n l k j a here ok lead v =
           let low : Low n (v .e) = rw (v .is) at ok in
           let to : (next ≡ first k (v .b)) × (other ≡ first k (v .c)) = rw (v .is) at lead in
@@ -138,9 +139,9 @@ module _ {t : List ℕ} {i : ℕ} {h : Shape} {bounds : List ℕ} {s : Site} whe
     gives = λ q m n z k j a w begun here at ok lead. gives q m n z k j a w begun here at ok lead (call-here at b);
   }
     where
-      gives : (q : Program S.Plain) (m n l k j : ℕ) (a : Instr ℕ) → Shaped t h q → Begun q bounds → Sited (layout q) m n s → InstrAt t i 16 a j
-          → OfLabel q n a
-          → Leads l a k next other → CallAt t i 16 a j → PutBlock o p (code (layout q) m n (begins q) l a k) o′ r
+      gives : (q : Program S.Plain) (m n l k j : ℕ) (a : Instr ℕ) → Shaped t h q → Begun q bounds → Sited (layout q) m n s
+          → InstrAt t i maxNesting a j → OfLabel q n a
+          → Leads l a k next other → CallAt t i maxNesting a j → PutBlock o p (code (layout q) m n (begins q) l a k) o′ r
       gives q m n l k j a w begun here at ok lead v =
           let f : ℕ = unbytes (take 2 (drop (i + 1) t)) in
           let ok′ : (f < length (q .procs)) × Each (Low n) (v .es) = rw (v .is) at ok in
@@ -156,7 +157,7 @@ module _ {t : List ℕ} {i : ℕ} {h : Shape} {bounds : List ℕ} {s : Site} whe
     gives = λ q m n l k j a w begun here at ok lead. gives q m n l k j a here at ok lead;
   }
     where
-      gives : (q : Program S.Plain) (m n l k j : ℕ) (a : Instr ℕ) → Sited (layout q) m n s → InstrAt t i 16 a j → OfLabel q n a
+      gives : (q : Program S.Plain) (m n l k j : ℕ) (a : Instr ℕ) → Sited (layout q) m n s → InstrAt t i maxNesting a j → OfLabel q n a
           → Leads l a k next other
           → PutBlock o p (code (layout q) m n (begins q) l a k) o′ r
       gives q m n l k j (assign x e) here at ok to = rw (← to) (C .gives (layout q) m n (begins q) l (assign x e) j here at ok)
@@ -237,11 +238,11 @@ module _ {t : List ℕ} {h : Shape} {map bounds : List ℕ} where
           sound : ProcSound concurrent q (d .proc) f
           sound = proc-sound (w .sound) (d .proc) f (found .2)
 
-          fits : BlockFits 16 (v .left)
+          fits : BlockFits maxNesting (v .left)
           fits =
-              spot-has (fits-inherited 16) (v .spot .spot)
-              (subst (λ (b : Block ℕ). BlockFits 16 b) (sym (found .3)) (fits-label (f .body) (found .1)
-              (each-at (BlockFits 16) (bodiesOf (q .procs)) (d .proc) (bodies-fit concurrent q (w .sound))
+              spot-has (fits-inherited maxNesting) (v .spot .spot)
+              (subst (λ (b : Block ℕ). BlockFits maxNesting b) (sym (found .3)) (fits-label (f .body) (found .1)
+              (each-at (BlockFits maxNesting) (bodiesOf (q .procs)) (d .proc) (bodies-fit concurrent q (w .sound))
               (body-at (q .procs) (d .proc) (found .2)))))
 
           named′ : named (labelled q) n (v .left) ≡ true
@@ -275,7 +276,7 @@ module _ {t : List ℕ} {h : Shape} {map bounds : List ℕ} where
               let there : Stands t (getD map (4 * l) 0) (block (step k a rest)) (d .place + length (block (v .left))) =
               subst (λ (b : Block ℕ). Stands t (getD map (4 * l) 0) (block b) (d .place + length (block (v .left)))) c code-there
               in
-              let fits′ : BlockFits 16 (step k a rest) = subst (λ (b : Block ℕ). BlockFits 16 b) c fits in
+              let fits′ : BlockFits maxNesting (step k a rest) = subst (λ (b : Block ℕ). BlockFits maxNesting b) c fits in
               let names : named (labelled q) n (step k a rest) ≡ true = subst (λ (b : Block ℕ). named (labelled q) n b ≡ true) c named′ in
               let may : allowed (outer (d .proc)) (step k a rest) ≡ true = subst (λ (b : Block ℕ). allowed (outer (d .proc)) b ≡ true) c allowed′ in
               let ok : OfLabel q n a =
@@ -286,14 +287,14 @@ module _ {t : List ℕ} {h : Shape} {map bounds : List ℕ} where
               let lead : Leads k a (first K (rest ⊕ v .after)) (getD map (4 * l + 2) 0) (getD map (4 * l + 3) 0) =
               leads-map q n k K _ _ a (rest ⊕ v .after) ok (mapped .next l d e ∙ ap (next K) some) (mapped .other l d e ∙ ap (other K) some)
               in
-              let at : InstrAt t (getD map (4 * l) 0) 16 a (getD map (4 * l) 0 + length (instr a)) =
-              record { stands = front (instr a) (block rest) there; fits = fits-inherited 16 .first k a rest fits′ }
+              let at : InstrAt t (getD map (4 * l) 0) maxNesting a (getD map (4 * l) 0 + length (instr a)) =
+              record { stands = front (instr a) (block rest) there; fits = fits-inherited maxNesting .first k a rest fits′ }
               in
               coded some
               (N .gives q (d .proc) n k (first K (rest ⊕ v .after)) _ a w (record { begins = mapped .begins }) here at ok lead)
 
 -- the locals of a label's procedure are few
-pub node-locals : (q : Program S.Plain) (l : ℕ) {d : Node} → Sound concurrent q → nodeOf q l ≡ is d → localsOf (at (q .procs) (d .proc)) ≤ 16
+pub node-locals : (q : Program S.Plain) (l : ℕ) {d : Node} → Sound concurrent q → nodeOf q l ≡ is d → localsOf (at (q .procs) (d .proc)) ≤ maxLocals
 node-locals q l {d} sound e =
     let v = node-of q l e in
     let found = labels-found (q .procs) 1 (d .proc) (v .spot .found) in
@@ -330,7 +331,7 @@ length-later q = ap length (later-nodes q) ∙ length-map (allNodes 0 0 (labelle
 
 module _ {t : List ℕ} {h : Shape} {map bounds : List ℕ} where
   -- before the first
-  pub simulating-start : {offsets o : List ℕ} {p : ℕ} → length offsets ≡ 400 → Simulating t h map bounds offsets 0 o p o p
+  pub simulating-start : {offsets o : List ℕ} {p : ℕ} → length offsets ≡ maxLabels → Simulating t h map bounds offsets 0 o p o p
   simulating-start l = record {
     done = λ q w m. put-none;
     places = λ q w m. record { at = λ i h. absurd (omega (arith, h)) };
@@ -340,8 +341,8 @@ module _ {t : List ℕ} {h : Shape} {map bounds : List ℕ} where
   }
 
   -- one more
-  pub simulating-next : {offsets o o₁ o₂ : List ℕ} {k p p₁ p₂ : ℕ} → Simulating t h map bounds offsets k o p o₁ p₁ → k < h .labels → h .labels ≤ 400
-      → PutsLabel t h map bounds (k + 1) o₁ p₁ o₂ p₂ → length o₂ ≡ length o₁ → Simulating t h map bounds (set offsets k p₁) (k + 1) o p o₂ p₂
+  pub simulating-next : {offsets o o₁ o₂ : List ℕ} {k p p₁ p₂ : ℕ} → Simulating t h map bounds offsets k o p o₁ p₁ → k < h .labels
+      → h .labels ≤ maxLabels → PutsLabel t h map bounds (k + 1) o₁ p₁ o₂ p₂ → length o₂ ≡ length o₁ → Simulating t h map bounds (set offsets k p₁) (k + 1) o p o₂ p₂
   simulating-next {offsets} {o} {o₁} {o₂} {k} {p} {p₁} {p₂} D less few L kept = record {
     done = λ q w m.
         let d = node-there q (suc k) (omega arith) (omega (arith, w .labels)) in
@@ -357,11 +358,11 @@ module _ {t : List ℕ} {h : Shape} {map bounds : List ℕ} where
     most = omega arith;
   }
     where
-      places : (q : Program S.Plain) → Shaped t h q → Mapped q map bounds → (i : ℕ) → i < k + 1 → p + length (bodies (take i (later q))) ≤ 65537
+      places : (q : Program S.Plain) → Shaped t h q → Mapped q map bounds → (i : ℕ) → i < k + 1 → p + length (bodies (take i (later q))) ≤ tooLong
           → getD (set offsets k p₁) i 0 ≡ p + length (bodies (take i (later q)))
       places q w m i l room = elim (ℕ-discrete i k) [
         | yes e ↦
-            let room′ : p + length (bodies (take k (later q))) ≤ 65537 = rw e at room in
+            let room′ : p + length (bodies (take k (later q))) ≤ tooLong = rw e at room in
             rw e (getD-set-same offsets k p₁ 0 (omega (arith, D .long)) ∙ D .done q w m .next room′)
         | no n ↦ getD-set-other offsets k i p₁ 0 n ∙ D .places q w m .at i (omega arith) room
       ]

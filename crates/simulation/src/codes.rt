@@ -4,6 +4,8 @@ use crate::inside::put_inside;
 use basics::numbers::ATOMIC;
 use basics::numbers::DEPTH;
 use basics::numbers::END;
+use basics::numbers::FLAGS;
+use basics::numbers::NESTING;
 use emit::layout::Site;
 use emit::layout::home;
 use emit::pieces::put_goto;
@@ -19,9 +21,6 @@ use writer::bytes::put;
 ghost use Prim.Native.Nat.{_<_};
 ghost use lib.ListN.{length};
 ghost use Rattle.emit.specs.Laws.Sources.{Ways, Questions, Tests, GathersEach, LoadsEach, Passes, Marks, Calls, Steps};
-
-// The depth of a body.
-const BLOCKS: u8 = 16;
 
 // A branch of "one tmp[tid] := label".
 fn put_way(out: &mut [u8], at: usize, label: usize) -> usize
@@ -59,10 +58,10 @@ pub fn put_test(
 }
 
 // The variables of `count` expressions from `at` on, as flags.
-fn gather_each(t: &[u8], at: usize, count: u8) -> [bool; 16]
+fn gather_each(t: &[u8], at: usize, count: u8) -> [bool; FLAGS]
     ensures { λ r. ⌜ GathersEach (now (t .entry)) at count r ⌝ }
 {
-    let mut set = [false; 16];
+    let mut set = [false; FLAGS];
     let mut i = at;
     let mut left = count;
     while 0 < left {
@@ -133,7 +132,7 @@ pub fn put_step(t: &[u8], at: usize, s: Site, next: usize, out: &mut [u8], to: u
     ensures { λ r. ⌜ Steps (now (t .entry)) at s next (now (out .entry)) to (now (out .exit)) r ⌝ }
 {
     if t[at] == ATOMIC {
-        let p = put_inside(t, at + 1, BLOCKS, s, out, to).to;
+        let p = put_inside(t, at + 1, NESTING, s, out, to).to;
         return put_pc(s, next, out, p);
     }
     let p = put_plain(t, at, s, out, to).to;

@@ -4,28 +4,36 @@ use crate::codes::put_step;
 use crate::codes::put_test;
 use basics::bytes::byte_at;
 use basics::bytes::two_bytes;
+use basics::numbers::BOUNDS;
 use basics::numbers::CALL;
 use basics::numbers::END;
 use basics::numbers::IF;
+use basics::numbers::LABELS;
+use basics::numbers::MAP;
+use basics::numbers::NODE;
+use basics::numbers::PAIR;
+use basics::numbers::PROCEDURES;
 use basics::numbers::WHILE;
 use emit::layout::Shape;
 use emit::layout::Site;
 use emit::layout::site_of;
 use emit::pieces::put_return;
+use labels::label_map::FIRST;
+use labels::label_map::NEXT;
+use labels::label_map::OTHER;
+use labels::label_map::PROCEDURE;
 ghost use mathlib.Core.Path.{_≡_};
 ghost use Prim.Native.Nat.{_≤_, _<_};
 ghost use lib.ListN.{length};
+ghost use Rattle.format.specs.Rules.{maxLabels};
 ghost use Rattle.simulation.specs.Laws.Bodies.{BeginAt, CallsAt, PutsNode, PutsLabel, PutsBodies};
 
-// Of the two labels of a procedure in `bounds`, that of its beginning.
-const FIRST: usize = 0;
-
 // Where procedure m begins; 0 past the last.
-pub fn begin_of(bounds: &[usize; 32], m: usize) -> usize
+pub fn begin_of(bounds: &[usize; BOUNDS], m: usize) -> usize
     ensures { λ r. ⌜ BeginAt (now (bounds .entry)) m r ⌝ }
 {
-    if m < 16 {
-        return bounds[2 * m + FIRST];
+    if m < PROCEDURES {
+        return bounds[PAIR * m + FIRST];
     }
     0
 }
@@ -35,7 +43,7 @@ fn put_call_at(
     t: &[u8],
     at: usize,
     shape: Shape,
-    bounds: &[usize; 32],
+    bounds: &[usize; BOUNDS],
     s: Site,
     next: usize,
     out: &mut [u8],
@@ -65,7 +73,7 @@ fn put_node(
     t: &[u8],
     at: usize,
     shape: Shape,
-    bounds: &[usize; 32],
+    bounds: &[usize; BOUNDS],
     s: Site,
     next: usize,
     other: usize,
@@ -97,20 +105,20 @@ fn put_node(
 fn put_label(
     t: &[u8],
     shape: Shape,
-    map: &[usize; 1604],
-    bounds: &[usize; 32],
+    map: &[usize; MAP],
+    bounds: &[usize; BOUNDS],
     label: usize,
     out: &mut [u8],
     to: usize,
 ) -> usize
-    requires { ⌜ label ≤ 400 ⌝ }
+    requires { ⌜ label ≤ maxLabels ⌝ }
     ensures { λ r. ⌜ PutsLabel (now (t .entry)) shape (now (map .entry)) (now (bounds .entry)) label (now (out .entry)) to (now (out .exit)) r ⌝ }
 {
-    let row = 4 * label;
+    let row = NODE * label;
     let at = map[row];
-    let next = map[row + 2];
-    let other = map[row + 3];
-    let s = site_of(t, shape, map[row + 1]);
+    let next = map[row + NEXT];
+    let other = map[row + OTHER];
+    let s = site_of(t, shape, map[row + PROCEDURE]);
     put_node(t, at, shape, bounds, s, next, other, out, to)
 }
 
@@ -118,13 +126,13 @@ fn put_label(
 pub fn put_bodies(
     t: &[u8],
     shape: Shape,
-    map: &[usize; 1604],
-    bounds: &[usize; 32],
-    offsets: &mut [usize; 400],
+    map: &[usize; MAP],
+    bounds: &[usize; BOUNDS],
+    offsets: &mut [usize; LABELS],
     out: &mut [u8],
     to: usize,
 ) -> usize
-    requires { ⌜ (shape .labels ≤ 400) × (length (now offsets) ≡ 400) ⌝ }
+    requires { ⌜ (shape .labels ≤ maxLabels) × (length (now offsets) ≡ maxLabels) ⌝ }
     ensures { λ r. ⌜ PutsBodies (now (t .entry)) shape (now (map .entry)) (now (bounds .entry)) (now (offsets .exit))
         (now (out .entry)) to (now (out .exit)) r ⌝ }
 {

@@ -11,9 +11,9 @@ use borrow.Author.Tests.{lt-ltb, le-ltb}
 use Rattle.value.specs.Lists.{over}
 use Rattle.value.specs.Laws.Bytes.{bytes-at}
 use Rattle.format.specs.Syntax.{Program, Plain, concurrent, sequential}
-use Rattle.format.specs.Encode.{table}
+use Rattle.format.specs.Encode.{table, trailerSize, distance}
 use Rattle.labels.specs.LabelMap.{Mapped}
-use Rattle.format.specs.Rules.{Verdict, refused, accepted, verdict}
+use Rattle.format.specs.Rules.{Verdict, refused, accepted, verdict, limits}
 use Rattle.format.specs.Calls.{readAs, readCall}
 use Rattle.labels.specs.Walks.{MapsLabels}
 use Rattle.format.specs.declared.ReadAnswer.{ReadAnswer}
@@ -29,6 +29,7 @@ use Rattle.emit.specs.Laws.Shapes.{Shaped}
 use Rattle.translator.specs.Laws.Tables.{TableOf}
 use Rattle.translator.specs.Laws.Answers.{Accepts, AcceptedAs, WritesCopy}
 use Rattle.translation.specs.declared.WriteAnswer.{WriteAnswer}
+use Rattle.basics.specs.Sizes.{tooLong}
 use Rattle.emit.specs.declared.layout.Shape.{Shape}
 
 -- ---- the reader's answer
@@ -85,7 +86,7 @@ module _ (t : List ℕ) {a : ReadAnswer} (same : a ≡ readCall concurrent t) wh
 -- its shape
 pub shapes : {t : List ℕ} {a : ReadAnswer} → Accepts t a
     → AcceptedAs t (record {
-      records = length t - 16 - (6 * a .procedures + 2 * a .locations + 2 * a .threads);
+      records = length t - trailerSize - distance (a .procedures) (a .locations) (a .threads);
       procedures = a .procedures;
       locations = a .locations;
       threads = a .threads;
@@ -127,29 +128,31 @@ module _ {t : List ℕ} {h : Shape} {map bounds : List ℕ} {n : ℕ} (M : MapsL
 
   module _ {o₁ o₂ : List ℕ} {l : ℕ} (T : TableOf t h map bounds o₁ o₂ l) where
     -- counted right, as far as counting goes
-    long : (q : Program Plain) → Shaped t h q → l ≤ 65536 → l ≡ length (table sequential (translate q))
+    long : (q : Program Plain) → Shaped t h q → l ≤ limits sequential .bytes → l ≡ length (table sequential (translate q))
     long q w less =
         let P : Put o₁ 0 (table sequential (translate q)) o₂ l = T .gives q w (mapped q w) in
-        elim (decLe 65537 (0 + length (table sequential (translate q)))) [
+        elim (decLe tooLong (0 + length (table sequential (translate q)))) [
           | yes far ↦ absurd (omega (arith, P .far far))
           | no near ↦ omega (arith, P .next (omega arith))
         ]
 
     -- 9
-    pub too-long : {o : List ℕ} {r : WriteAnswer} → 65536 < l → r ≡ refusal 9 → WritesCopy t h o o r
+    pub too-long : {o : List ℕ} {r : WriteAnswer} → limits sequential .bytes < l → r ≡ refusal 9 → WritesCopy t h o o r
     too-long {o} {r} more e = record { gives = λ q w. gives q w }
       where
         gives : (q : Program Plain) → Shaped t h q → left r o ≡ writesTable (table sequential (translate q)) o
         gives q w =
             let P : Put o₁ 0 (table sequential (translate q)) o₂ l = T .gives q w (mapped q w) in
-            let passes : 65536 < length (table sequential (translate q)) = elim (decLe (0 + length (table sequential (translate q))) 65537) [
+            let passes : limits sequential .bytes < length (table sequential (translate q)) =
+            elim (decLe (0 + length (table sequential (translate q))) tooLong) [
               | yes near ↦ omega (arith, P .next near)
               | no far ↦ omega arith
             ] in
-            ap (λ (x : WriteAnswer). left x o) e ∙ rw (lt-ltb 65536 (length (table sequential (translate q))) passes, writesTable)
+            ap (λ (x : WriteAnswer). left x o) e
+            ∙ rw (lt-ltb (limits sequential .bytes) (length (table sequential (translate q))) passes, writesTable)
 
     -- 10
-    pub no-room : {o : List ℕ} {r : WriteAnswer} → l ≤ 65536 → length o < l → r ≡ refusal 10 → WritesCopy t h o o r
+    pub no-room : {o : List ℕ} {r : WriteAnswer} → l ≤ limits sequential .bytes → length o < l → r ≡ refusal 10 → WritesCopy t h o o r
     no-room {o} {r} less short e = record { gives = λ q w. gives q w }
       where
         gives : (q : Program Plain) → Shaped t h q → left r o ≡ writesTable (table sequential (translate q)) o
@@ -157,10 +160,11 @@ module _ {t : List ℕ} {h : Shape} {map bounds : List ℕ} {n : ℕ} (M : MapsL
             let new : List ℕ = table sequential (translate q) in
             let is : l ≡ length new = long q w less in
             ap (λ (x : WriteAnswer). left x o) e
-            ∙ rw (le-ltb 65536 (length new) (omega arith), writesTable, lt-ltb (length o) (length new) (omega arith), writes)
+            ∙ rw (le-ltb (limits sequential .bytes) (length new) (omega arith), writesTable, lt-ltb (length o) (length new) (omega arith), writes)
 
     -- written
-    pub copied : {o o′ : List ℕ} {k : ℕ} → l ≤ 65536 → l ≤ length o → TableOf t h map bounds o o′ k → WritesCopy t h o o′ (written l)
+    pub copied : {o o′ : List ℕ} {k : ℕ} → l ≤ limits sequential .bytes → l ≤ length o → TableOf t h map bounds o o′ k
+        → WritesCopy t h o o′ (written l)
     copied {o} {o′} {k} less room W = record { gives = λ q w. gives q w }
       where
         gives : (q : Program Plain) → Shaped t h q → left (written l) o′ ≡ writesTable (table sequential (translate q)) o
@@ -172,7 +176,7 @@ module _ {t : List ℕ} {h : Shape} {map bounds : List ℕ} {n : ℕ} (M : MapsL
             P .wrote (omega arith) ∙ sets-eq new o 0 (omega arith) ∙ ap (λ (i : ℕ). new ++ drop i o) (zero-add (length new))
             in
             ap₂ (λ (x : ℕ) (y : List ℕ). left (written x) y) is out
-            ∙ rw (le-ltb 65536 (length new) (omega arith), writesTable, le-ltb (length o) (length new) (omega arith), writes)
+            ∙ rw (le-ltb (limits sequential .bytes) (length new) (omega arith), writesTable, le-ltb (length o) (length new) (omega arith), writes)
 
 -- the call
 pub call-copies : (t : List ℕ) {h : Shape} (o : List ℕ) {o′ : List ℕ} {r : WriteAnswer} → AcceptedAs t h → WritesCopy t h o o′ r

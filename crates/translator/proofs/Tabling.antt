@@ -12,16 +12,19 @@ use Rattle.value.specs.Values.{bytes}
 use Rattle.value.specs.Lists.{at}
 use Rattle.value.specs.Laws.Maybes.{is-inj, missing}
 use Rattle.format.specs.Syntax.{Proc, Program, Plain, concurrent, sequential}
-use Rattle.format.specs.Encode.{block, each, Head, head, heads, middle, middleOf, front, trailer, trailerOf, distance, table}
+use Rattle.format.specs.Encode.{block, each, Head, head, heads, middle, middleOf, front, trailer, trailerOf, distance, table, recordSize, trailerSize}
+use Rattle.format.specs.Encode.{formMark, kindMark}
 use Rattle.labels.specs.LabelMap.{Mapped, nodeOf}
 use Rattle.format.specs.Laws.Heads.{length-heads}
 use Rattle.labels.specs.Laws.LabelMap.{node-there}
 use Rattle.format.specs.Laws.Sections.{length-each}
 use Rattle.format.specs.Laws.Stands.{Stands, whole, back}
 use Rattle.format.specs.Laws.Stands as St
+use Rattle.format.specs.Rules.{maxLocals}
 use Rattle.translation.specs.Layout.{localsOf, sizes}
 use Rattle.translation.specs.Code.{moved}
 use Rattle.translation.specs.Translate.{zeroth, later, translate}
+use Rattle.basics.specs.Sizes.{tooLong}
 use Rattle.writer.specs.Laws.Put.{Put, Onto}
 use Rattle.emit.specs.Laws.Shapes.{Shaped, LocalsAt, RowsAt}
 use Rattle.simulation.specs.Laws.Bodies.{bodies, simulated, PutsBodies}
@@ -35,10 +38,10 @@ use Rattle.simulation.proofs.Simulating.{take-more, later-at, length-later, nod
 -- ---- parts
 
 -- where counting stops, more is not counted
-pub put-stop : {o o′ : List ℕ} {p q : ℕ} (a b : List ℕ) → Put o p a o′ q → 65537 ≤ q → 1 ≤ length b → Put o p (a ++ b) o′ q
+pub put-stop : {o o′ : List ℕ} {p q : ℕ} (a b : List ℕ) → Put o p a o′ q → tooLong ≤ q → 1 ≤ length b → Put o p (a ++ b) o′ q
 put-stop {o} {o′} {p} {q} a b A far some = record { wrote = λ l. never l; next = λ l. never l; far = λ l. far; kept = A .kept }
   where
-    never : {G : Type 0} → p + length (a ++ b) ≤ 65537 → G
+    never : {G : Type 0} → p + length (a ++ b) ≤ tooLong → G
     never l = let n : length (a ++ b) ≡ length a + length b = length-append a b in absurd (omega (arith, A .next (omega arith)))
 
 -- ---- records
@@ -84,7 +87,7 @@ module _ {t : List ℕ} {h : Shape} {map offsets : List ℕ} where
     gives = λ q d w bounds mapped node.
         let there : getD map (4 * (k + 1) + 1) 0 ≡ d .proc = mapped .proc (k + 1) d node in
         let locals : n ≡ localsOf (at (q .procs) (d .proc)) = L .gives q w ∙ ap (λ (m : ℕ). localsOf (at (q .procs) m)) there in
-        let few : localsOf (at (q .procs) (d .proc)) ≤ 16 = node-locals q (k + 1) (w .sound) node in
+        let few : localsOf (at (q .procs) (d .proc)) ≤ maxLocals = node-locals q (k + 1) (w .sound) node in
         let same : y ≡ moved (localsOf (at (q .procs) (d .proc))) = omega (arith, e, locals, few) in
         rw same at P;
   }
@@ -144,7 +147,7 @@ rows-end (suc k) size O none = absurd (omega (arith, none))
 module _ {t : List ℕ} {h : Shape} where
   -- the source's sizes stand in its table
   sizes-stand : (q : Program Plain) → Shaped t h q
-      → Stands t (h .records + 6 * h .procedures) (each (bytes 2) (q .sizes)) (h .records + 6 * h .procedures + 2 * h .locations)
+      → Stands t (h .records + recordSize * h .procedures) (each (bytes 2) (q .sizes)) (h .records + recordSize * h .procedures + 2 * h .locations)
   sizes-stand q w =
       let records : List ℕ = each head (heads 0 (q .procs)) in
       let sizes : List ℕ = each (bytes 2) (q .sizes) in
@@ -152,22 +155,24 @@ module _ {t : List ℕ} {h : Shape} where
       let bs : List ℕ = bodies (q .procs) in
       let all : Stands t 0 (front q) (0 + length (front q)) = St.front (front q) (trailer (trailerOf concurrent q)) (whole (w .is)) in
       let here = St.front sizes mains (back records (sizes ++ mains) (back bs (records ++ (sizes ++ mains)) all)) in
-      let long : length records ≡ 6 * length (q .procs) =
-      length-each head 6 (λ h. refl) (heads 0 (q .procs)) ∙ ap (λ (n : ℕ). 6 * n) (length-heads 0 (q .procs))
+      let long : length records ≡ recordSize * length (q .procs) =
+      length-each head recordSize (λ h. refl) (heads 0 (q .procs)) ∙ ap (λ (n : ℕ). recordSize * n) (length-heads 0 (q .procs))
       in
       let long′ : length sizes ≡ 2 * length (q .sizes) = length-each (bytes 2) 2 (λ n. refl) (q .sizes) in
-      let from : 0 + length bs + length records ≡ h .records + 6 * h .procedures = omega (arith, w .records, w .procedures) in
-      let until : h .records + 6 * h .procedures + length sizes ≡ h .records + 6 * h .procedures + 2 * h .locations = omega (arith, w .locations) in
+      let from : 0 + length bs + length records ≡ h .records + recordSize * h .procedures = omega (arith, w .records, w .procedures) in
+      let until : h .records + recordSize * h .procedures + length sizes ≡ h .records + recordSize * h .procedures + 2 * h .locations =
+      omega (arith, w .locations)
+      in
       rw until at (rw from at here)
 
   -- the table is too short for them
-  pub sizes-cut : {o o′ : List ℕ} {p r : ℕ} → length t < h .records + 6 * h .procedures + 2 * h .locations → SizesOf t h o p o′ r
+  pub sizes-cut : {o o′ : List ℕ} {p r : ℕ} → length t < h .records + recordSize * h .procedures + 2 * h .locations → SizesOf t h o p o′ r
   sizes-cut l = record { gives = λ q w. absurd (omega (arith, l, sizes-stand q w .fits)) }
 
   -- the source's, that of ptid, and the others
   pub sizes-all : {o o₁ o₂ o₃ : List ℕ} {p p₁ p₂ p₃ n : ℕ}
-      → Put o p (slice (h .records + 6 * h .procedures) (h .records + 6 * h .procedures + 2 * h .locations) t) o₁ p₁ → Put o₁ p₁ (bytes 2 1) o₂ p₂
-      → RowsAt t h n → Put o₂ p₂ (each (bytes 2) (replicate n (h .threads))) o₃ p₃ → SizesOf t h o p o₃ p₃
+      → Put o p (slice (h .records + recordSize * h .procedures) (h .records + recordSize * h .procedures + 2 * h .locations) t) o₁ p₁
+      → Put o₁ p₁ (bytes 2 1) o₂ p₂ → RowsAt t h n → Put o₂ p₂ (each (bytes 2) (replicate n (h .threads))) o₃ p₃ → SizesOf t h o p o₃ p₃
   sizes-all {o} {o₁} {o₂} {o₃} {p} {p₁} {p₂} {p₃} {n} A B R C = record {
     gives = λ q w.
         let first : Put o p (each (bytes 2) (q .sizes)) o₁ p₁ = put-same (slice-is (sizes-stand q w)) A in
@@ -206,11 +211,11 @@ module _ {t : List ℕ} {h : Shape} where
         at = λ i l.
             let zero-first = Z .gives q w (record { begins = m .begins }) .puts in
             let rest = B .gives q w m in
-            let small : p + length (bodies (later q)) < 65537 = elim (decLe 65537 (p + length (bodies (later q)))) [
+            let small : p + length (bodies (later q)) < tooLong = elim (decLe tooLong (p + length (bodies (later q)))) [
               | yes far ↦ absurd (omega (arith, rest .far far, less))
               | no near ↦ omega arith
             ] in
-            let near : 0 + length (block (zeroth q .body)) ≤ 65537 = elim (decLe 65537 (0 + length (block (zeroth q .body)))) [
+            let near : 0 + length (block (zeroth q .body)) ≤ tooLong = elim (decLe tooLong (0 + length (block (zeroth q .body)))) [
               | yes far ↦ absurd (omega (arith, zero-first .far far, small))
               | no close ↦ omega arith
             ] in
@@ -231,11 +236,11 @@ pub lengths : {o o₁ o₂ : List ℕ} {p p₁ p₂ : ℕ} (m n : ℕ) → Put o
 lengths m n A B = record { gives = put-then (bytes 4 m) (bytes 4 n) A B }
 
 -- all of it
-pub trails : {o o₁ o₂ o₃ o₄ : List ℕ} {p p₁ p₂ p₃ p₄ P M whole : ℕ} → Put o p (0x53 ∷ []) o₁ p₁ → Put o₁ p₁ (0x50 ∷ []) o₂ p₂ → Counts P M o₂ p₂ o₃ p₃
-    → Lengths (6 * P + 2 * M) whole o₃ p₃ o₄ p₄ → Trails P M whole o p o₄ p₄
+pub trails : {o o₁ o₂ o₃ o₄ : List ℕ} {p p₁ p₂ p₃ p₄ P M whole : ℕ} → Put o p (kindMark sequential ∷ []) o₁ p₁
+    → Put o₁ p₁ (formMark ∷ []) o₂ p₂ → Counts P M o₂ p₂ o₃ p₃ → Lengths (recordSize * P + 2 * M) whole o₃ p₃ o₄ p₄ → Trails P M whole o p o₄ p₄
 trails {o₃ = o₃} {o₄} {p₃ = p₃} {p₄} {P} {M} {whole} A B C L = record {
   gives =
-      let back : 6 * P + 2 * M ≡ distance P M 0 = omega arith in
+      let back : recordSize * P + 2 * M ≡ distance P M 0 = omega arith in
       let L′ : Lengths (distance P M 0) whole o₃ p₃ o₄ p₄ = rw back at L in
       put-cons A (put-cons B (put-then (bytes 2 P ++ (bytes 2 M ++ bytes 2 0)) (bytes 4 (distance P M 0) ++ bytes 4 whole) (C .gives) (L′ .gives)));
 }
@@ -249,7 +254,7 @@ parts q = sym (append-assoc (bodies (zeroth q ∷ later q)) (middle (middleOf (t
 
 module _ {t : List ℕ} {h : Shape} {map bounds : List ℕ} where
   -- too long after the bodies
-  pub table-bodies : {o o′ offsets : List ℕ} {r : ℕ} → CodeOf t h map bounds offsets o o′ r → 65537 ≤ r → TableOf t h map bounds o o′ r
+  pub table-bodies : {o o′ offsets : List ℕ} {r : ℕ} → CodeOf t h map bounds offsets o o′ r → tooLong ≤ r → TableOf t h map bounds o o′ r
   table-bodies C far = record {
     gives = λ q w m.
         let rest : List ℕ = middle (middleOf (translate q)) ++ trailer (trailerOf sequential (translate q)) in
@@ -258,8 +263,8 @@ module _ {t : List ℕ} {h : Shape} {map bounds : List ℕ} where
   }
 
   -- too long after the sizes
-  pub table-sizes : {o o₁ o₂ offsets : List ℕ} {p r : ℕ} → CodeOf t h map bounds offsets o o₁ p → p < 65537 → MiddleOf t h map offsets o₁ p o₂ r
-      → 65537 ≤ r
+  pub table-sizes : {o o₁ o₂ offsets : List ℕ} {p r : ℕ} → CodeOf t h map bounds offsets o o₁ p → p < tooLong → MiddleOf t h map offsets o₁ p o₂ r
+      → tooLong ≤ r
       → TableOf t h map bounds o o₂ r
   table-sizes {offsets = offsets} C less M far = record {
     gives = λ q w m.
@@ -269,9 +274,9 @@ module _ {t : List ℕ} {h : Shape} {map bounds : List ℕ} where
   }
 
   -- all of it
-  pub table-all : {o o₁ o₂ o₃ offsets : List ℕ} {p q r n : ℕ} → CodeOf t h map bounds offsets o o₁ p → p < 65537
-      → MiddleOf t h map offsets o₁ p o₂ q → q < 65537
-      → RowsAt t h n → Trails (h .labels + 1) (h .locations + 1 + n) (q + 16) o₂ q o₃ r → TableOf t h map bounds o o₃ r
+  pub table-all : {o o₁ o₂ o₃ offsets : List ℕ} {p q r n : ℕ} → CodeOf t h map bounds offsets o o₁ p → p < tooLong
+      → MiddleOf t h map offsets o₁ p o₂ q → q < tooLong
+      → RowsAt t h n → Trails (h .labels + 1) (h .locations + 1 + n) (q + trailerSize) o₂ q o₃ r → TableOf t h map bounds o o₃ r
   table-all {o} {o₁} {o₂} {o₃} {offsets} {p} {q} {r} {n} C less M near R T = record { gives = gives }
     where
       gives : (x : Program Plain) → Shaped t h x → Mapped x map bounds → Put o 0 (table sequential (translate x)) o₃ r
@@ -279,11 +284,11 @@ module _ {t : List ℕ} {h : Shape} {map bounds : List ℕ} where
           let all : Put o 0 (front (translate x)) o₂ q =
           put-then (bodies (zeroth x ∷ later x)) (middle (middleOf (translate x))) (C .gives x w m) (M .gives x w bounds m (C .places x w m less))
           in
-          let short : 0 + length (front (translate x)) ≤ 65537 = elim (decLe 65537 (0 + length (front (translate x)))) [
+          let short : 0 + length (front (translate x)) ≤ tooLong = elim (decLe tooLong (0 + length (front (translate x)))) [
             | yes far ↦ absurd (omega (arith, all .far far, near))
             | no close ↦ omega arith
           ] in
-          let long : q + 16 ≡ length (front (translate x)) + 16 = omega (arith, all .next short) in
+          let long : q + trailerSize ≡ length (front (translate x)) + trailerSize = omega (arith, all .next short) in
           let procs : h .labels + 1 ≡ length (translate x .procs) = omega (arith, w .labels, length-later x) in
           let places : h .locations + 1 + n ≡ length (translate x .sizes) =
           omega (
@@ -294,7 +299,7 @@ module _ {t : List ℕ} {h : Shape} {map bounds : List ℕ} where
             w .locations,
           )
           in
-          let T′ : Trails (length (translate x .procs)) (length (translate x .sizes)) (length (front (translate x)) + 16) o₂ q o₃ r =
+          let T′ : Trails (length (translate x .procs)) (length (translate x .sizes)) (length (front (translate x)) + trailerSize) o₂ q o₃ r =
           rw (procs, places, long) at T
           in
           put-then (front (translate x)) (trailer (trailerOf sequential (translate x))) all (T′ .gives)

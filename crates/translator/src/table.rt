@@ -1,10 +1,20 @@
 // The whole sequential table: bodies, records, sizes, trailer.
+use basics::numbers::BOUNDS;
+use basics::numbers::FAR;
+use basics::numbers::FORM_MARK;
+use basics::numbers::LABELS;
+use basics::numbers::MAP;
+use basics::numbers::NODE;
+use basics::numbers::RECORD;
+use basics::numbers::SEQUENTIAL_MARK;
+use basics::numbers::SIZE;
+use basics::numbers::TRAILER;
 use emit::exprs::moved;
 use emit::layout::Shape;
 use emit::layout::locals_of;
 use emit::layout::rows_of;
+use labels::label_map::PROCEDURE;
 use simulation::simulate::put_bodies;
-use writer::bytes::FAR;
 use writer::bytes::put;
 use writer::bytes::put_four;
 use writer::bytes::put_part;
@@ -12,17 +22,13 @@ use writer::bytes::put_two;
 use zeroth::procedure::put_zeroth;
 ghost use mathlib.Core.Path.{_≡_};
 ghost use mathlib.Core.List.{_∷_};
-ghost use Prim.Native.Nat.{_≤_, _<_};
+ghost use Prim.Native.Nat.{_^_, _≤_, _<_};
 ghost use lib.ListN.{length, replicate};
 ghost use Rattle.value.specs.Values.{bytes};
 ghost use Rattle.format.specs.Encode.{each};
+ghost use Rattle.format.specs.Rules.{maxLabels};
 ghost use Rattle.writer.specs.Laws.Put.{Put};
 ghost use Rattle.translator.specs.Laws.Tables.{HeadOf, HeadsOf, SizesOf, MiddleOf, CodeOf, Lengths, Counts, Trails, TableOf};
-
-// "53 50 sequential"
-const KIND: u8 = 0x53;
-
-const MARK: u8 = 0x50;
 
 // "parameters, locals, body offset (4)"
 fn put_head(out: &mut [u8], at: usize, params: u8, locals: u8, offset: usize) -> usize
@@ -37,17 +43,17 @@ fn put_head(out: &mut [u8], at: usize, params: u8, locals: u8, offset: usize) ->
 fn put_label_head(
     t: &[u8],
     shape: Shape,
-    map: &[usize; 1604],
-    offsets: &[usize; 400],
+    map: &[usize; MAP],
+    offsets: &[usize; LABELS],
     k: usize,
     out: &mut [u8],
     at: usize,
 ) -> usize
-    requires { ⌜ k < 400 ⌝ }
+    requires { ⌜ k < maxLabels ⌝ }
     ensures { λ r. ⌜ HeadOf (now (t .entry)) shape (now (map .entry)) (now (offsets .entry)) k (now (out .entry)) at (now (out .exit)) r ⌝ }
 {
     let label = k + 1;
-    let locals = locals_of(t, shape, map[4 * label + 1]);
+    let locals = locals_of(t, shape, map[NODE * label + PROCEDURE]);
     put_head(out, at, 1, moved(locals), offsets[k])
 }
 
@@ -55,12 +61,12 @@ fn put_label_head(
 fn put_heads(
     t: &[u8],
     shape: Shape,
-    map: &[usize; 1604],
-    offsets: &[usize; 400],
+    map: &[usize; MAP],
+    offsets: &[usize; LABELS],
     out: &mut [u8],
     at: usize,
 ) -> usize
-    requires { ⌜ shape .labels ≤ 400 ⌝ }
+    requires { ⌜ shape .labels ≤ maxLabels ⌝ }
     ensures { λ r. ⌜ HeadsOf (now (t .entry)) shape (now (map .entry)) (now (offsets .entry)) (now (out .entry)) at (now (out .exit)) r ⌝ }
 {
     let labels = shape.labels as usize;
@@ -90,8 +96,8 @@ fn put_rows(n: usize, size: usize, out: &mut [u8], at: usize) -> usize
 fn put_sizes(t: &[u8], shape: Shape, out: &mut [u8], at: usize) -> usize
     ensures { λ r. ⌜ SizesOf (now (t .entry)) shape (now (out .entry)) at (now (out .exit)) r ⌝ }
 {
-    let from = shape.records as usize + 6 * (shape.procedures as usize);
-    let until = from + 2 * (shape.locations as usize);
+    let from = shape.records as usize + RECORD * (shape.procedures as usize);
+    let until = from + SIZE * (shape.locations as usize);
     if t.len() < until {
         return at;
     }
@@ -104,12 +110,12 @@ fn put_sizes(t: &[u8], shape: Shape, out: &mut [u8], at: usize) -> usize
 fn put_middle(
     t: &[u8],
     shape: Shape,
-    map: &[usize; 1604],
-    offsets: &[usize; 400],
+    map: &[usize; MAP],
+    offsets: &[usize; LABELS],
     out: &mut [u8],
     at: usize,
 ) -> usize
-    requires { ⌜ shape .labels ≤ 400 ⌝ }
+    requires { ⌜ shape .labels ≤ maxLabels ⌝ }
     ensures { λ r. ⌜ MiddleOf (now (t .entry)) shape (now (map .entry)) (now (offsets .entry)) (now (out .entry)) at (now (out .exit)) r ⌝ }
 {
     let p = put_head(out, at, 0, 4, 0);
@@ -121,12 +127,12 @@ fn put_middle(
 fn put_code(
     t: &[u8],
     shape: Shape,
-    map: &[usize; 1604],
-    bounds: &[usize; 32],
-    offsets: &mut [usize; 400],
+    map: &[usize; MAP],
+    bounds: &[usize; BOUNDS],
+    offsets: &mut [usize; LABELS],
     out: &mut [u8],
 ) -> usize
-    requires { ⌜ (shape .labels ≤ 400) × (length (now offsets) ≡ 400) ⌝ }
+    requires { ⌜ (shape .labels ≤ maxLabels) × (length (now offsets) ≡ maxLabels) ⌝ }
     ensures { λ r. ⌜ CodeOf (now (t .entry)) shape (now (map .entry)) (now (bounds .entry)) (now (offsets .exit))
         (now (out .entry)) (now (out .exit)) r ⌝ }
 {
@@ -159,27 +165,27 @@ fn put_trailer(
     locations: usize,
     whole: usize,
 ) -> usize
-    requires { ⌜ (procedures ≤ 65536) × (locations ≤ 33554432) ⌝ }
+    requires { ⌜ (procedures ≤ 2 ^ 16) × (locations ≤ 2 ^ 25) ⌝ }
     ensures { λ r. ⌜ Trails procedures locations whole (now (out .entry)) at (now (out .exit)) r ⌝ }
 {
-    let p = put(out, at, KIND);
-    let q = put(out, p, MARK);
+    let p = put(out, at, SEQUENTIAL_MARK);
+    let q = put(out, p, FORM_MARK);
     let u = put_counts(out, q, procedures, locations);
-    put_lengths(out, u, 6 * procedures + 2 * locations, whole)
+    put_lengths(out, u, RECORD * procedures + SIZE * locations, whole)
 }
 
 // The table of the copy, from byte 0 on. Where it is too long, the rest is not even counted.
 pub fn put_table(
     t: &[u8],
     shape: Shape,
-    map: &[usize; 1604],
-    bounds: &[usize; 32],
+    map: &[usize; MAP],
+    bounds: &[usize; BOUNDS],
     out: &mut [u8],
 ) -> usize
-    requires { ⌜ shape .labels ≤ 400 ⌝ }
+    requires { ⌜ shape .labels ≤ maxLabels ⌝ }
     ensures { λ r. ⌜ TableOf (now (t .entry)) shape (now (map .entry)) (now (bounds .entry)) (now (out .entry)) (now (out .exit)) r ⌝ }
 {
-    let mut offsets = [0usize; 400];
+    let mut offsets = [0usize; LABELS];
     let p = put_code(t, shape, map, bounds, &mut offsets, out);
     if FAR <= p {
         return p;
@@ -189,5 +195,5 @@ pub fn put_table(
         return q;
     }
     let locations = shape.locations as usize + 1 + rows_of(t, shape);
-    put_trailer(out, q, shape.labels as usize + 1, locations, q + 16)
+    put_trailer(out, q, shape.labels as usize + 1, locations, q + TRAILER)
 }

@@ -8,6 +8,7 @@ use mathlib.Core.List.{List, [], _∷_, _++_}
 use lib.ListN.{length, getD, set, take, drop, length-append, length-set, length-take}
 use lib.Seq.{sets, slice, slice-cons, drop-nil}
 use Rattle.value.specs.Values.{bytes}
+use Rattle.basics.specs.Sizes.{tooLong}
 use Rattle.writer.specs.Laws.Put.{Put, Onto}
 
 -- one part after the other
@@ -22,7 +23,7 @@ pub put-in : {o o′ : List ℕ} {p b r : ℕ} → o′ ≡ set o p b → r ≡ 
 put-in e q = record { wrote = λ l. e; next = λ l. q; far = λ l. omega (arith, q, l); kept = ap length e ∙ simp length-set }
 
 -- counted no further
-pub put-far : {o o′ : List ℕ} {p b : ℕ} → o′ ≡ set o p b → 65537 ≤ p → Put o p (b ∷ []) o′ p
+pub put-far : {o o′ : List ℕ} {p b : ℕ} → o′ ≡ set o p b → tooLong ≤ p → Put o p (b ∷ []) o′ p
 put-far e h = record {
   wrote = λ l. absurd (omega (arith, h, l));
   next = λ l. absurd (omega (arith, h, l));
@@ -45,7 +46,7 @@ put-then {o} {o′} {o″} {p} {q} {r} a b A B =
           B .wrote (omega (arith, A .next (omega arith))) ∙ ap (λ (k : ℕ). sets o′ k b) (A .next (omega arith))
           ∙ ap (λ (x : List ℕ). sets x (p + length a) b) (A .wrote (omega arith)) ∙ sym (sets-append o p a b);
       next = λ l. let first : q ≡ p + length a = A .next (omega arith) in omega (arith, B .next (omega arith));
-      far = λ l. elim (decLe (p + length a) 65537) [
+      far = λ l. elim (decLe (p + length a) tooLong) [
         | yes h ↦ B .far (omega (arith, A .next h))
         | no h ↦ B .far (omega (arith, A .far (omega arith)))
       ];

@@ -1,13 +1,11 @@
 // One piece of code writes: what does not fit the lent buffer is not stored, and is counted all the same.
+use basics::numbers::FAR;
 ghost use mathlib.Core.List.{[], _∷_};
 ghost use Prim.Native.Nat.{_≤_};
 ghost use lib.ListN.{length};
 ghost use lib.Seq.{slice};
 ghost use Rattle.value.specs.Values.{bytes};
 ghost use Rattle.writer.specs.Laws.Put.{Put};
-
-// Counting stops here, at the first length that is refused.
-pub const FAR: usize = 65537;
 
 // One byte.
 pub fn put(out: &mut [u8], at: usize, byte: u8) -> usize
@@ -16,6 +14,7 @@ pub fn put(out: &mut [u8], at: usize, byte: u8) -> usize
     if at < out.len() {
         out[at] = byte;
     }
+    // Counting stops at the first length that is refused.
     if at < FAR {
         return at + 1;
     }

@@ -1,13 +1,19 @@
 // Procedure 0: report RR-2017-03, figure 12.
+use basics::numbers::AND;
 use basics::numbers::ASSIGN;
+use basics::numbers::BOUNDS;
 use basics::numbers::CALL;
 use basics::numbers::END;
+use basics::numbers::EQUAL;
+use basics::numbers::FALSE;
 use basics::numbers::IF;
+use basics::numbers::LOCAL;
+use basics::numbers::NOT;
 use basics::numbers::READ;
 use basics::numbers::SELECT;
+use basics::numbers::TRUE;
 use basics::numbers::WHILE;
 use basics::numbers::WRITE;
-use emit::exprs::LOCAL;
 use emit::layout::Hub;
 use emit::layout::Shape;
 use emit::layout::hub_of;
@@ -34,17 +40,6 @@ ghost use Rattle.zeroth.specs.Laws.Zeroth.{Closes, RoundOf, LoopOf, Star
 const STMT: u8 = 2;
 
 const TERMINATED: u8 = 3;
-
-// Marks: false, true, equal, and, not.
-const FALSE: u8 = 0x03;
-
-const TRUE: u8 = 0x04;
-
-const EQUAL: u8 = 0x14;
-
-const AND: u8 = 0x15;
-
-const NOT: u8 = 0x16;
 
 // What procedure 0 has for each thread: its beginning, its "from", and whether it has finished.
 pub enum Part {
@@ -102,7 +97,7 @@ fn put_thread(
     part: Part,
     t: &[u8],
     shape: Shape,
-    bounds: &[usize; 32],
+    bounds: &[usize; BOUNDS],
     k: usize,
     out: &mut [u8],
     at: usize,
@@ -128,7 +123,7 @@ fn put_threads(
     part: Part,
     t: &[u8],
     shape: Shape,
-    bounds: &[usize; 32],
+    bounds: &[usize; BOUNDS],
     out: &mut [u8],
     at: usize,
 ) -> usize
@@ -200,7 +195,7 @@ fn put_switch(labels: usize, out: &mut [u8], at: usize) -> usize
 fn put_closing(
     t: &[u8],
     shape: Shape,
-    bounds: &[usize; 32],
+    bounds: &[usize; BOUNDS],
     hub: Hub,
     out: &mut [u8],
     at: usize,
@@ -217,7 +212,7 @@ fn put_closing(
 fn put_round(
     t: &[u8],
     shape: Shape,
-    bounds: &[usize; 32],
+    bounds: &[usize; BOUNDS],
     hub: Hub,
     out: &mut [u8],
     at: usize,
@@ -233,7 +228,7 @@ fn put_round(
 fn put_loop(
     t: &[u8],
     shape: Shape,
-    bounds: &[usize; 32],
+    bounds: &[usize; BOUNDS],
     hub: Hub,
     out: &mut [u8],
     at: usize,
@@ -251,7 +246,7 @@ fn put_loop(
 fn put_start(
     t: &[u8],
     shape: Shape,
-    bounds: &[usize; 32],
+    bounds: &[usize; BOUNDS],
     hub: Hub,
     out: &mut [u8],
     at: usize,
@@ -264,7 +259,13 @@ fn put_start(
 }
 
 // The body of procedure 0.
-pub fn put_zeroth(t: &[u8], shape: Shape, bounds: &[usize; 32], out: &mut [u8], at: usize) -> usize
+pub fn put_zeroth(
+    t: &[u8],
+    shape: Shape,
+    bounds: &[usize; BOUNDS],
+    out: &mut [u8],
+    at: usize,
+) -> usize
     ensures { λ r. ⌜ ZerothOf (now (t .entry)) shape (now (bounds .entry)) (now (out .entry)) at (now (out .exit)) r ⌝ }
 {
     let hub = hub_of(shape);

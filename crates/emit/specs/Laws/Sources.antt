@@ -10,6 +10,8 @@ use Rattle.format.specs.Syntax.{Expr, constant, local, one, two, Instr, assign,
 use Rattle.format.specs.Syntax as S
 use Rattle.format.specs.Encode.{expr, block}
 use Rattle.format.specs.Laws.Grammar.{ExprAt, ExprsAt, InstrAt, BlockAt}
+use Rattle.format.specs.Decode.{maxDepth, maxNesting}
+use Rattle.format.specs.Rules.{maxLocals}
 use Rattle.translation.specs.Code.{_then_, tid, tmp, num, loc, moved, shift, mentions, variables, load, loadAll, loads, pc, returns, put}
 use Rattle.translation.specs.Code.{keepIn, insideI, inside, goto, tests, passes, calls, code}
 use Rattle.translation.specs.Layout.{Layout}
@@ -26,8 +28,8 @@ Low n (two o a b) = Low n a × Low n b
 
 -- whatever expression stands at i, at most d deep, is written over the moved locals
 pub record Copies (t : List ℕ) (i d : ℕ) (o : List ℕ) (p : ℕ) (o′ : List ℕ) (r : Copied) : Type 0 where
-  pub copied : (e : Expr) (j : ℕ) → ExprAt t i d e j → Low 16 e → Put o p (expr (shift e)) o′ (r .to)
-  pub ends : (e : Expr) (j : ℕ) → ExprAt t i d e j → Low 16 e → r .next ≡ j
+  pub copied : (e : Expr) (j : ℕ) → ExprAt t i d e j → Low maxLocals e → Put o p (expr (shift e)) o′ (r .to)
+  pub ends : (e : Expr) (j : ℕ) → ExprAt t i d e j → Low maxLocals e → r .next ≡ j
   pub forward : i ≤ r .next
 
 -- ---- loads, stores and labels, in procedure m of n locals
@@ -35,7 +37,7 @@ pub record Copies (t : List ℕ) (i d : ℕ) (o : List ℕ) (p : ℕ) (o′ : Li
 -- a site says where the layout keeps what the code of procedure m uses
 pub record Sited (G : Layout) (m n : ℕ) (s : Site) : Type 0 where
   pub locals : s .locals ≡ n
-  pub few : n ≤ 16
+  pub few : n ≤ maxLocals
   pub pct : s .pct ≡ G .pct
   pub from : s .from ≡ G .from m
   pub home : (x : ℕ) → s .home + x ≡ G .home m x
@@ -55,7 +57,7 @@ pub record LoadsIf (s : Site) (flag : Bool) (x : ℕ) (o : List ℕ) (p : ℕ) (
 
 -- the flags are those of the variables of es
 abbrev pub Flags : List Bool → List Expr → Type 0
-Flags flags es = (x : ℕ) → x < 16 → getD flags x false ≡ mentions x es
+Flags flags es = (x : ℕ) → x < maxLocals → getD flags x false ≡ mentions x es
 
 -- the loads of all variables of es
 pub record LoadsAll (s : Site) (flags : List Bool) (o : List ℕ) (p : ℕ) (o′ : List ℕ) (r : ℕ) : Type 0 where
@@ -64,9 +66,9 @@ pub record LoadsAll (s : Site) (flags : List Bool) (o : List ℕ) (p : ℕ) (o�
 -- the loads of the last variables of 16 are left
 pub record Loading (s : Site) (flags : List Bool) (o : List ℕ) (p left : ℕ) (o′ : List ℕ) (r : ℕ) : Type 0 where
   pub rest : (G : Layout) (m n : ℕ) (es : List Expr) → Sited G m n s → Flags flags es → (c : Block S.Plain)
-      → Onto o p (block (loads G m n es c)) o′ r (block (loadAll G m n (variables (16 - left) (n - (16 - left)) es) c))
+      → Onto o p (block (loads G m n es c)) o′ r (block (loadAll G m n (variables (maxLocals - left) (n - (maxLocals - left)) es) c))
   pub kept : length o′ ≡ length o
-  pub most : left ≤ 16
+  pub most : left ≤ maxLocals
 
 -- "pc"
 pub record Goes (s : Site) (label : ℕ) (o : List ℕ) (p : ℕ) (o′ : List ℕ) (r : ℕ) : Type 0 where
@@ -80,7 +82,7 @@ pub record Returns (s : Site) (o : List ℕ) (p : ℕ) (o′ : List ℕ) (r : �
 
 -- an expression of a procedure of n locals stands at i
 pub record ExprOf (t : List ℕ) (i n : ℕ) (e : Expr) (j : ℕ) : Type 0 where
-  pub stands : ExprAt t i 16 e j
+  pub stands : ExprAt t i maxDepth e j
   pub low : Low n e
 
 -- the loads of an expression's variables
@@ -89,8 +91,8 @@ pub record LoadsOf (t : List ℕ) (i : ℕ) (s : Site) (o : List ℕ) (p : ℕ) 
 
 -- tmp := location l; tmp[tid] := e
 pub record Stores (t : List ℕ) (i l : ℕ) (o : List ℕ) (p : ℕ) (o′ : List ℕ) (r : Copied) : Type 0 where
-  pub gives : (G : Layout) (m n : ℕ) (e : Expr) (j : ℕ) → ExprAt t i 16 e j → Low 16 e → Writes o p (put G m n l (shift e)) o′ (r .to)
-  pub ends : (e : Expr) (j : ℕ) → ExprAt t i 16 e j → Low 16 e → r .next ≡ j
+  pub gives : (G : Layout) (m n : ℕ) (e : Expr) (j : ℕ) → ExprAt t i maxDepth e j → Low maxLocals e → Writes o p (put G m n l (shift e)) o′ (r .to)
+  pub ends : (e : Expr) (j : ℕ) → ExprAt t i maxDepth e j → Low maxLocals e → r .next ≡ j
   pub forward : i ≤ r .next
 
 -- local x, as it was moved, into its location
@@ -104,15 +106,16 @@ pub record LoadsWrite (t : List ℕ) (i k : ℕ) (s : Site) (y : ℕ) (o : List 
 
 -- y[a] := e
 pub record Sets (t : List ℕ) (i y : ℕ) (o : List ℕ) (p : ℕ) (o′ : List ℕ) (r : Copied) : Type 0 where
-  pub gives : (a e : Expr) (k j : ℕ) → ExprAt t i 16 a k → Low 16 a → ExprAt t k 16 e j → Low 16 e → y < 16
+  pub gives : (a e : Expr) (k j : ℕ) → ExprAt t i maxDepth a k → Low maxLocals a → ExprAt t k maxDepth e j → Low maxLocals e → y < maxLocals
       → PutInstr o p (write (moved y) (shift a) (shift e)) o′ (r .to)
-  pub ends : (a e : Expr) (k j : ℕ) → ExprAt t i 16 a k → Low 16 a → ExprAt t k 16 e j → Low 16 e → r .next ≡ j
+  pub ends : (a e : Expr) (k j : ℕ) → ExprAt t i maxDepth a k → Low maxLocals a → ExprAt t k maxDepth e j → Low maxLocals e → r .next ≡ j
   pub forward : i ≤ r .next
 
 -- x := y[a]
 pub record Gets (t : List ℕ) (i x y : ℕ) (o : List ℕ) (p : ℕ) (o′ : List ℕ) (r : Copied) : Type 0 where
-  pub gives : (a : Expr) (j : ℕ) → ExprAt t i 16 a j → Low 16 a → x < 16 → y < 16 → PutInstr o p (read (moved x) (moved y) (shift a)) o′ (r .to)
-  pub ends : (a : Expr) (j : ℕ) → ExprAt t i 16 a j → Low 16 a → r .next ≡ j
+  pub gives : (a : Expr) (j : ℕ) → ExprAt t i maxDepth a j → Low maxLocals a → x < maxLocals → y < maxLocals
+      → PutInstr o p (read (moved x) (moved y) (shift a)) o′ (r .to)
+  pub ends : (a : Expr) (j : ℕ) → ExprAt t i maxDepth a j → Low maxLocals a → r .next ≡ j
   pub forward : i ≤ r .next
 
 -- an instruction of a procedure of n locals that may stand in an atomic block
@@ -136,7 +139,7 @@ abbrev mutual
 pub record Plain (t : List ℕ) (i : ℕ) (s : Site) (o : List ℕ) (p : ℕ) (o′ : List ℕ) (r : Copied) : Type 0 where
   pub gives : (G : Layout) (m n : ℕ) (d : ℕ) (a : Instr ℕ) (j : ℕ) → Sited G m n s → InstrAt t i d a j → InPlaceI n a
       → Writes o p (insideI G m n a) o′ (r .to)
-  pub ends : (n d : ℕ) (a : Instr ℕ) (j : ℕ) → n ≤ 16 → InstrAt t i d a j → InPlaceI n a → r .next ≡ j
+  pub ends : (n d : ℕ) (a : Instr ℕ) (j : ℕ) → n ≤ maxLocals → InstrAt t i d a j → InPlaceI n a → r .next ≡ j
   pub forward : i < r .next
 
 -- where no branch stands
@@ -150,20 +153,20 @@ pub record PlainIf (t : List ℕ) (i : ℕ) (s : Site) (o : List ℕ) (p : ℕ) 
 pub record InsideInstr (t : List ℕ) (i d : ℕ) (s : Site) (o : List ℕ) (p : ℕ) (o′ : List ℕ) (r : Copied) : Type 0 where
   pub gives : (G : Layout) (m n : ℕ) (a : Instr ℕ) (j : ℕ) → Sited G m n s → InstrAt t i d a j → InPlaceI n a
       → Writes o p (insideI G m n a) o′ (r .to)
-  pub ends : (n : ℕ) (a : Instr ℕ) (j : ℕ) → n ≤ 16 → InstrAt t i d a j → InPlaceI n a → r .next ≡ j
+  pub ends : (n : ℕ) (a : Instr ℕ) (j : ℕ) → n ≤ maxLocals → InstrAt t i d a j → InPlaceI n a → r .next ≡ j
   pub forward : i < r .next
 
 -- whatever block stands at i, at most d deep
 pub record InsideBlock (t : List ℕ) (i d : ℕ) (s : Site) (o : List ℕ) (p : ℕ) (o′ : List ℕ) (r : Copied) : Type 0 where
   pub gives : (G : Layout) (m n : ℕ) (b : Block ℕ) (j : ℕ) → Sited G m n s → BlockAt t i d b j → InPlace n b → Writes o p (inside G m n b) o′ (r .to)
-  pub ends : (n : ℕ) (b : Block ℕ) (j : ℕ) → n ≤ 16 → BlockAt t i d b j → InPlace n b → r .next ≡ j
+  pub ends : (n : ℕ) (b : Block ℕ) (j : ℕ) → n ≤ maxLocals → BlockAt t i d b j → InPlace n b → r .next ≡ j
   pub forward : i ≤ r .next
 
 -- a block that is a branch, with its end
 pub record Branch (t : List ℕ) (i d : ℕ) (s : Site) (o : List ℕ) (p : ℕ) (o′ : List ℕ) (r : Copied) : Type 0 where
   pub gives : (G : Layout) (m n : ℕ) (b : Block ℕ) (j : ℕ) → Sited G m n s → BlockAt t i d b j → InPlace n b
       → PutBlock o p (inside G m n b end) o′ (r .to)
-  pub ends : (n : ℕ) (b : Block ℕ) (j : ℕ) → n ≤ 16 → BlockAt t i d b j → InPlace n b → r .next ≡ j
+  pub ends : (n : ℕ) (b : Block ℕ) (j : ℕ) → n ≤ maxLocals → BlockAt t i d b j → InPlace n b → r .next ≡ j
   pub forward : i ≤ r .next
 
 -- what is written from k on is written from i on
@@ -173,8 +176,8 @@ pub record From (t : List ℕ) (i d : ℕ) (s : Site) (o : List ℕ) (p : ℕ) (
 
 -- "if e", over the moved locals
 pub record Asks (t : List ℕ) (i : ℕ) (o : List ℕ) (p : ℕ) (o′ : List ℕ) (r : Copied) : Type 0 where
-  pub gives : (e : Expr) (j : ℕ) → ExprAt t i 16 e j → Low 16 e → Put o p (0x24 ∷ expr (shift e)) o′ (r .to)
-  pub ends : (e : Expr) (j : ℕ) → ExprAt t i 16 e j → Low 16 e → r .next ≡ j
+  pub gives : (e : Expr) (j : ℕ) → ExprAt t i maxDepth e j → Low maxLocals e → Put o p (0x24 ∷ expr (shift e)) o′ (r .to)
+  pub ends : (e : Expr) (j : ℕ) → ExprAt t i maxDepth e j → Low maxLocals e → r .next ≡ j
   pub forward : i ≤ r .next
 
 -- ---- the code of a label
@@ -199,7 +202,7 @@ pub record ExprsOf (t : List ℕ) (i k n : ℕ) (es : List Expr) (j : ℕ) : Typ
 
 -- the flags that are set, and those of k expressions from i on
 pub record GathersMore (t : List ℕ) (i k : ℕ) (set r : List Bool) : Type 0 where
-  pub gives : (es : List Expr) (j : ℕ) → ExprsAt t i k es j → (x : ℕ) → x < 16 → getD r x false ≡ either (getD set x false) (mentions x es)
+  pub gives : (es : List Expr) (j : ℕ) → ExprsAt t i k es j → (x : ℕ) → x < maxLocals → getD r x false ≡ either (getD set x false) (mentions x es)
 
 -- the flags of k expressions
 pub record GathersEach (t : List ℕ) (i k : ℕ) (r : List Bool) : Type 0 where
@@ -215,7 +218,7 @@ pub record LoadsEach (t : List ℕ) (i k : ℕ) (s : Site) (o : List ℕ) (p : �
 
 -- arguments, from parameter x of procedure q on
 pub record Passes (t : List ℕ) (i k x : ℕ) (c : Site) (o : List ℕ) (p : ℕ) (o′ : List ℕ) (r : ℕ) : Type 0 where
-  pub gives : (G : Layout) (m n q l : ℕ) (es : List Expr) (j : ℕ) → Sited G q l c → n ≤ 16 → ExprsOf t i k n es j
+  pub gives : (G : Layout) (m n q l : ℕ) (es : List Expr) (j : ℕ) → Sited G q l c → n ≤ maxLocals → ExprsOf t i k n es j
       → Writes o p (passes G m n q x es) o′ r
 
 -- what is passed from there on is passed from here on
@@ -246,5 +249,5 @@ OneLabel n (select a b) = ⊥
 
 -- and its code
 pub record Steps (t : List ℕ) (i : ℕ) (s : Site) (next : ℕ) (o : List ℕ) (p : ℕ) (o′ : List ℕ) (r : ℕ) : Type 0 where
-  pub gives : (G : Layout) (m n : ℕ) (begin : ℕ → ℕ) (l : ℕ) (a : Instr ℕ) (j : ℕ) → Sited G m n s → InstrAt t i 16 a j → OneLabel n a
+  pub gives : (G : Layout) (m n : ℕ) (begin : ℕ → ℕ) (l : ℕ) (a : Instr ℕ) (j : ℕ) → Sited G m n s → InstrAt t i maxNesting a j → OneLabel n a
       → PutBlock o p (code G m n begin l a next) o′ r

@@ -6,15 +6,18 @@ use lib.ListN.{length, getD, take}
 use Rattle.value.specs.Maybe.{is}
 use Rattle.value.specs.Lists.{at}
 use Rattle.value.specs.Laws.Lists.{Each}
-use Rattle.format.specs.Syntax.{Expr, Instr, assign, write, read, while, if, call, atomic, select, Block, end, step, Proc, Program}
+use Rattle.format.specs.Syntax.{Expr, Instr, assign, write, read, while, if, call, atomic, select, Block, end, step, Proc, Program, concurrent}
 use Rattle.format.specs.Syntax as S
 use Rattle.format.specs.Encode.{block, each, bodiesOf}
 use Rattle.format.specs.Labels.{first, counts}
 use Rattle.labels.specs.LabelMap.{Node, Mapped, nodeOf}
 use Rattle.format.specs.Laws.Grammar.{InstrAt}
+use Rattle.format.specs.Decode.{maxNesting}
+use Rattle.format.specs.Rules.{limits, maxLabels}
 use Rattle.translation.specs.Layout.{Layout, layout, localsOf}
 use Rattle.translation.specs.Code.{calls, code, returns}
 use Rattle.translation.specs.Translate.{simulating, endsOf, begins, later}
+use Rattle.basics.specs.Sizes.{tooLong}
 use Rattle.writer.specs.Laws.Put.{Put, PutBlock}
 use Rattle.emit.specs.Laws.Sources.{Low, Sited, InPlaceI, InPlace}
 use Rattle.emit.specs.Laws.Shapes.{Shaped}
@@ -51,20 +54,20 @@ pub record Begun (q : Program S.Plain) (bounds : List ℕ) : Type 0 where
 
 -- of procedure m
 pub record BeginAt (bounds : List ℕ) (m r : ℕ) : Type 0 where
-  pub gives : m < 16 → r ≡ getD bounds (2 * m) 0
+  pub gives : m < limits concurrent .procs → r ≡ getD bounds (2 * m) 0
 
 -- a call
 pub record CallsAt (t : List ℕ) (i : ℕ) (h : Shape) (bounds : List ℕ) (s : Site) (next : ℕ) (o : List ℕ) (p : ℕ) (o′ : List ℕ) (r : ℕ) : Type 0 where
   pub gives : (q : Program S.Plain) (m n f j : ℕ) (es : List Expr) → Shaped t h q → Begun q bounds → Sited (layout q) m n s
-      → InstrAt {A = ℕ} t i 16 (call f es) j
+      → InstrAt {A = ℕ} t i maxNesting (call f es) j
       → f < length (q .procs) → Each (Low n) es → PutBlock o p (calls (layout q) m n f es (begins q f) next) o′ r
 
 -- the code of what stands at i
 pub record PutsNode (t : List ℕ) (i : ℕ) (h : Shape) (bounds : List ℕ) (s : Site) (next other : ℕ) (o : List ℕ) (p : ℕ) (o′ : List ℕ) (r : ℕ)
     : Type 0 where
   pub ends : (G : Layout) (m n : ℕ) → Sited G m n s → i < length t → getD t i 0 ≡ 0 → PutBlock o p (returns G m n) o′ r
-  pub gives : (q : Program S.Plain) (m n l k j : ℕ) (a : Instr ℕ) → Shaped t h q → Begun q bounds → Sited (layout q) m n s → InstrAt t i 16 a j
-      → OfLabel q n a → Leads l a k next other → PutBlock o p (code (layout q) m n (begins q) l a k) o′ r
+  pub gives : (q : Program S.Plain) (m n l k j : ℕ) (a : Instr ℕ) → Shaped t h q → Begun q bounds → Sited (layout q) m n s
+      → InstrAt t i maxNesting a j → OfLabel q n a → Leads l a k next other → PutBlock o p (code (layout q) m n (begins q) l a k) o′ r
 
 -- the code of a label, by the code that remains there: in procedure m of n locals, where end label k follows
 abbrev pub labelCode : Layout → (ℕ → ℕ) → ℕ → ℕ → ℕ → Block ℕ → Block S.Plain
@@ -89,14 +92,14 @@ bodies ps = each block (bodiesOf ps)
 
 -- the first k bodies begin where the offsets say, from p on; said where counting goes so far
 pub record Offsets (q : Program S.Plain) (p k : ℕ) (offsets : List ℕ) : Type 0 where
-  pub at : (i : ℕ) → i < k → p + length (bodies (take i (later q))) ≤ 65537 → getD offsets i 0 ≡ p + length (bodies (take i (later q)))
+  pub at : (i : ℕ) → i < k → p + length (bodies (take i (later q))) ≤ tooLong → getD offsets i 0 ≡ p + length (bodies (take i (later q)))
 
 -- the first k bodies are written
 pub record Simulating (t : List ℕ) (h : Shape) (map bounds offsets : List ℕ) (k : ℕ) (o : List ℕ) (p : ℕ) (o′ : List ℕ) (r : ℕ) : Type 0 where
   pub done : (q : Program S.Plain) → Shaped t h q → Mapped q map bounds → Put o p (bodies (take k (later q))) o′ r
   pub places : (q : Program S.Plain) → Shaped t h q → Mapped q map bounds → Offsets q p k offsets
   pub kept : length o′ ≡ length o
-  pub long : length offsets ≡ 400
+  pub long : length offsets ≡ maxLabels
   pub most : k ≤ h .labels
 
 -- all of them

@@ -4,8 +4,8 @@ use mathlib.Core.Path.{_≡_}
 use mathlib.Core.List.{List}
 use lib.ListN.{length}
 use Rattle.format.specs.Syntax.{Program, Plain, concurrent, sequential}
-use Rattle.format.specs.Encode.{table}
-use Rattle.format.specs.Rules.{accepted, verdict}
+use Rattle.format.specs.Encode.{table, trailerSize, distance}
+use Rattle.format.specs.Rules.{accepted, verdict, limits, maxLabels}
 use Rattle.format.specs.Calls.{readAs}
 use Rattle.labels.specs.Walks.{BodiesIn}
 use Rattle.format.specs.declared.ReadAnswer.{ReadAnswer}
@@ -24,19 +24,19 @@ pub record Accepts (t : List ℕ) (a : ReadAnswer) : Type 0 where
   pub sound : Sound concurrent program
   pub answer : a ≡ readAs concurrent (accepted program)
   -- its numbers are small, and the records are inside
-  pub procedures : a .procedures ≤ 16
-  pub locations : a .locations ≤ 64
-  pub threads : a .threads ≤ 8
-  pub labels : a .labels ≤ 400
-  pub long : length t ≤ 16384
-  pub room : 16 + (6 * a .procedures + 2 * a .locations + 2 * a .threads) ≤ length t
+  pub procedures : a .procedures ≤ limits concurrent .procs
+  pub locations : a .locations ≤ limits concurrent .places
+  pub threads : a .threads ≤ limits concurrent .threads
+  pub labels : a .labels ≤ maxLabels
+  pub long : length t ≤ limits concurrent .bytes
+  pub room : trailerSize + distance (a .procedures) (a .locations) (a .threads) ≤ length t
 
 -- t is an accepted table of this shape
 pub record AcceptedAs (t : List ℕ) (h : Shape) : Type 0 where
   pub program : Program Plain
   pub verdict : verdict concurrent t ≡ accepted program
   pub shaped : Shaped t h program
-  pub few : h .labels ≤ 400
+  pub few : h .labels ≤ maxLabels
   pub bodies : BodiesIn t 0 (h .procedures)
 
 -- the copy's table is written, or refused by 9 or 10

@@ -7,12 +7,13 @@ use Rattle.value.specs.Maybe.{is}
 use Rattle.value.specs.Values.{bytes}
 use Rattle.value.specs.Lists.{at}
 use Rattle.format.specs.Syntax.{Program, Plain, sequential}
-use Rattle.format.specs.Encode.{block, each, head, heads, middle, middleOf, trailer, distance, table}
+use Rattle.format.specs.Encode.{block, each, head, heads, middle, middleOf, trailer, distance, table, formMark, kindMark}
 use Rattle.format.specs.Labels.{counts}
 use Rattle.labels.specs.LabelMap.{Node, Mapped, nodeOf}
 use Rattle.translation.specs.Layout.{localsOf, sizes}
 use Rattle.translation.specs.Code.{moved}
 use Rattle.translation.specs.Translate.{zeroth, later, translate}
+use Rattle.basics.specs.Sizes.{tooLong}
 use Rattle.writer.specs.Laws.Put.{Put}
 use Rattle.emit.specs.Laws.Shapes.{Shaped}
 use Rattle.simulation.specs.Laws.Bodies.{bodies}
@@ -51,7 +52,7 @@ pub record MiddleOf (t : List ℕ) (h : Shape) (map offsets : List ℕ) (o : Lis
 -- the bodies; where counting goes on, the offsets are right
 pub record CodeOf (t : List ℕ) (h : Shape) (map bounds offsets : List ℕ) (o o′ : List ℕ) (r : ℕ) : Type 0 where
   pub gives : (q : Program Plain) → Shaped t h q → Mapped q map bounds → Put o 0 (bodies (zeroth q ∷ later q)) o′ r
-  pub places : (q : Program Plain) → Shaped t h q → Mapped q map bounds → r < 65537 → Right q (0 + length (block (zeroth q .body))) offsets
+  pub places : (q : Program Plain) → Shaped t h q → Mapped q map bounds → r < tooLong → Right q (0 + length (block (zeroth q .body))) offsets
 
 -- the counts of a trailer
 pub record Counts (P M : ℕ) (o : List ℕ) (p : ℕ) (o′ : List ℕ) (r : ℕ) : Type 0 where
@@ -63,7 +64,15 @@ pub record Lengths (back whole : ℕ) (o : List ℕ) (p : ℕ) (o′ : List ℕ)
 
 -- the trailer
 pub record Trails (P M whole : ℕ) (o : List ℕ) (p : ℕ) (o′ : List ℕ) (r : ℕ) : Type 0 where
-  pub gives : Put o p (trailer (record { kind = 0x53; mark = 0x50; procs = P; places = M; threads = 0; back = distance P M 0; whole = whole })) o′ r
+  pub gives : Put o p (trailer (record {
+    kind = kindMark sequential;
+    mark = formMark;
+    procs = P;
+    places = M;
+    threads = 0;
+    back = distance P M 0;
+    whole = whole;
+  })) o′ r
 
 -- the whole table
 pub record TableOf (t : List ℕ) (h : Shape) (map bounds : List ℕ) (o o′ : List ℕ) (r : ℕ) : Type 0 where

@@ -6,13 +6,14 @@ use lib.ListN.{length}
 use lib.Seq.{sets}
 use Rattle.format.specs.Syntax.{Expr, Instr, Block, Plain}
 use Rattle.format.specs.Encode.{expr, instr, block}
+use Rattle.basics.specs.Sizes.{tooLong}
 
 -- The buffer o becomes o′, with the bytes bs from p on as far as they fit, and the next place is r. Counting stops at 65,537, the first
 -- length that is refused: from there on only that is known.
 pub record Put (o : List ℕ) (p : ℕ) (bs : List ℕ) (o′ : List ℕ) (r : ℕ) : Type 0 where
-  pub wrote : p + length bs ≤ 65537 → o′ ≡ sets o p bs
-  pub next : p + length bs ≤ 65537 → r ≡ p + length bs
-  pub far : 65537 ≤ p + length bs → 65537 ≤ r
+  pub wrote : p + length bs ≤ tooLong → o′ ≡ sets o p bs
+  pub next : p + length bs ≤ tooLong → r ≡ p + length bs
+  pub far : tooLong ≤ p + length bs → tooLong ≤ r
   pub kept : length o′ ≡ length o
 
 -- an expression
