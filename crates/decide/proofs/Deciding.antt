@@ -18,6 +18,7 @@ use Rattle.value.specs.declared.Answer.the-variants.{Is, Nothing}
 use Rattle.value.specs.Laws.Maybes.{is-inj, missing}
 use Rattle.format.specs.Syntax.{Expr}
 use Rattle.format.specs.Laws.Grammar.{ExprAt, expr-inside}
+use Rattle.format.specs.Decode.{maxDepth}
 use Rattle.engine.specs.declared.evaluate.Valued.{Valued}
 use Rattle.decide.specs.declared.step.Passed.{Passed}
 use Rattle.decide.specs.declared.step.Passed.the-variants.{All, Missing}
@@ -124,18 +125,19 @@ module _ (t : List ℕ) (i n : ℕ) where
   see-inside returns j h = h .inside
 
 -- an expression of an instruction, over the instruction's frame
-abbrev ready : {t ls : List ℕ} {fb i j : ℕ} {ρ : Env} {e : Expr} → Framed ls fb ρ → ExprAt t i 16 e j → Below (length ρ) e → Ready t ls fb i 16
+abbrev ready : {t ls : List ℕ} {fb i j : ℕ} {ρ : Env} {e : Expr} → Framed ls fb ρ → ExprAt t i maxDepth e j → Below (length ρ) e
+    → Ready t ls fb i maxDepth
 ready {j = j} {ρ} {e} f h b = record { env = ρ; framed = f; e = e; j = j; here = h; below = b }
 
 module _ {t ls : List ℕ} {fb i : ℕ} where
   -- ---- "x := e"
 
   -- its expression
-  pub assign-ready : Poised t ls fb i → getD t i 0 ≡ 0x20 → Ready t ls fb (i + 2) 16
+  pub assign-ready : Poised t ls fb i → getD t i 0 ≡ 0x20 → Ready t ls fb (i + 2) maxDepth
   assign-ready h q = let s = see-assign (h .act) (h .here) q in ready (h .framed) (s .3 .source) (s .3 .below .1)
 
   -- what its value decides
-  pub assign-decides : {M : Memory → Type 0} {r : Valued} {s : Step} → getD t i 0 ≡ 0x20 → Evaluates t ls fb (i + 2) 16 r → AssignOf t i r s
+  pub assign-decides : {M : Memory → Type 0} {r : Valued} {s : Step} → getD t i 0 ≡ 0x20 → Evaluates t ls fb (i + 2) maxDepth r → AssignOf t i r s
       → Decides t ls fb i M s
   assign-decides {r = r} q E A = record {
     step = λ h η m.
@@ -150,11 +152,12 @@ module _ {t ls : List ℕ} {fb i : ℕ} where
   -- ---- the test of a while or an if
 
   -- its expression
-  pub test-ready : Poised t ls fb i → Tests t i → Ready t ls fb (i + 1) 16
+  pub test-ready : Poised t ls fb i → Tests t i → Ready t ls fb (i + 1) maxDepth
   test-ready h q = let s = see-test (h .act) (h .here) q in ready (h .framed) (s .2 .test) (s .2 .below)
 
   -- what its value decides
-  pub test-decides : {M : Memory → Type 0} {r : Valued} {s : Step} → Tests t i → Evaluates t ls fb (i + 1) 16 r → TestOf r s → Decides t ls fb i M s
+  pub test-decides : {M : Memory → Type 0} {r : Valued} {s : Step} → Tests t i → Evaluates t ls fb (i + 1) maxDepth r → TestOf r s
+      → Decides t ls fb i M s
   test-decides {r = r} q E A = record {
     step = λ h η m.
         let w = see-test (h .act) (h .here) q in
@@ -227,18 +230,18 @@ module _ {t ls : List ℕ} {fb i : ℕ} where
   -- ---- "y[o] := e"
 
   -- its index
-  pub offset-ready : Poised t ls fb i → getD t i 0 ≡ 0x21 → Ready t ls fb (i + 2) 16
+  pub offset-ready : Poised t ls fb i → getD t i 0 ≡ 0x21 → Ready t ls fb (i + 2) maxDepth
   offset-ready h q = let w = see-write (h .act) (h .here) q in ready (h .framed) (w .4 .offset) (w .4 .below .1)
 
   -- its value, after the index
-  source-at : {x : Valued} (h : Poised t ls fb i) (q : getD t i 0 ≡ 0x21) → Evaluates t ls fb (i + 2) 16 x
-      → let w = see-write (h .act) (h .here) q in ExprAt t (x .next) 16 (w .2) (h .j)
+  source-at : {x : Valued} (h : Poised t ls fb i) (q : getD t i 0 ≡ 0x21) → Evaluates t ls fb (i + 2) maxDepth x
+      → let w = see-write (h .act) (h .here) q in ExprAt t (x .next) maxDepth (w .2) (h .j)
   source-at {x} h q X =
       let w = see-write (h .act) (h .here) q in
       let k : x .next ≡ w .4 .k = X .next (ready (h .framed) (w .4 .offset) (w .4 .below .1)) in
       rw k (w .4 .source)
 
-  pub source-ready : {x : Valued} → Poised t ls fb i → getD t i 0 ≡ 0x21 → Evaluates t ls fb (i + 2) 16 x → Ready t ls fb (x .next) 16
+  pub source-ready : {x : Valued} → Poised t ls fb i → getD t i 0 ≡ 0x21 → Evaluates t ls fb (i + 2) maxDepth x → Ready t ls fb (x .next) maxDepth
   source-ready h q X = let w = see-write (h .act) (h .here) q in ready (h .framed) (source-at h q X) (w .4 .below .2)
 
   -- its pointer
@@ -246,8 +249,8 @@ module _ {t ls : List ℕ} {fb i : ℕ} where
   write-word h q e = let w = see-write (h .act) (h .here) q in word h (w .4 .below .0) (e ∙ w .4 .pointer)
 
   -- what they decide
-  write-step : {x y : Valued} (m : Maybe Value) (h : Poised t ls fb i) (η : Memory) (q : getD t i 0 ≡ 0x21) → Evaluates t ls fb (i + 2) 16 x
-      → Evaluates t ls fb (x .next) 16 y → m ≡ lookup (h .env) (see-write (h .act) (h .here) q .0)
+  write-step : {x y : Valued} (m : Maybe Value) (h : Poised t ls fb i) (η : Memory) (q : getD t i 0 ≡ 0x21) → Evaluates t ls fb (i + 2) maxDepth x
+      → Evaluates t ls fb (x .next) maxDepth y → m ≡ lookup (h .env) (see-write (h .act) (h .here) q .0)
       → write-of η (y .next) (given (y .answer)) (given (x .answer)) m ≡ decided (h .env) η (h .act) (h .j)
   write-step {x} {y} m h η q X Y g =
       let w = see-write (h .act) (h .here) q in
@@ -262,7 +265,8 @@ module _ {t ls : List ℕ} {fb i : ℕ} where
       → a ≡ lookup (h .env) (see-write (h .act) (h .here) q .0)
   write-pointer h q e g = let w = see-write (h .act) (h .here) q in holds h (w .4 .below .0) (e ∙ w .4 .pointer) g
 
-  module _ {bs : List ℕ} {x y : Valued} (q : getD t i 0 ≡ 0x21) (X : Evaluates t ls fb (i + 2) 16 x) (Y : Evaluates t ls fb (x .next) 16 y) where
+  module _ {bs : List ℕ} {x y : Valued} (q : getD t i 0 ≡ 0x21) (X : Evaluates t ls fb (i + 2) maxDepth x)
+      (Y : Evaluates t ls fb (x .next) maxDepth y) where
     -- there is no value
     pub write-none : y .answer ≡ Nothing → Decides t ls fb i (Laid bs) Blocked
     write-none e = record { step = λ h η b. rw (ap given e) at (write-step (lookup (h .env) (see-write (h .act) (h .here) q .0)) h η q X Y refl) }
@@ -292,7 +296,7 @@ module _ {t ls : List ℕ} {fb i : ℕ} where
   -- ---- "x := y[o]"
 
   -- its index
-  pub read-ready : Poised t ls fb i → getD t i 0 ≡ 0x22 → Ready t ls fb (i + 3) 16
+  pub read-ready : Poised t ls fb i → getD t i 0 ≡ 0x22 → Ready t ls fb (i + 3) maxDepth
   read-ready h q = let w = see-read (h .act) (h .here) q in ready (h .framed) (w .4 .offset) (w .4 .below .2)
 
   -- its pointer
@@ -300,7 +304,7 @@ module _ {t ls : List ℕ} {fb i : ℕ} where
   read-word h q e = let w = see-read (h .act) (h .here) q in word h (w .4 .below .1) (e ∙ w .4 .pointer)
 
   -- what they decide
-  read-step : {x : Valued} {m : Maybe Value} {k z : ℕ} (h : Poised t ls fb i) (η : Memory) → getD t i 0 ≡ 0x22 → Evaluates t ls fb (i + 3) 16 x
+  read-step : {x : Valued} {m : Maybe Value} {k z : ℕ} (h : Poised t ls fb i) (η : Memory) → getD t i 0 ≡ 0x22 → Evaluates t ls fb (i + 3) maxDepth x
       → k ≡ getD t (i + 2) 0 → m ≡ held (getD ls (fb + k) 0) → z ≡ getD t (i + 1) 0
       → read-of η z (x .next) (given (x .answer)) m ≡ decided (h .env) η (h .act) (h .j)
   read-step {x} {m} {k} {z} h η q X e g a =
@@ -310,7 +314,7 @@ module _ {t ls : List ℕ} {fb i : ℕ} where
       ∙ ap₂ (λ z p. read-of η z (h .j) (eval (h .env) (w .2)) p) (a ∙ w .4 .target) (holds h (w .4 .below .1) (e ∙ w .4 .pointer) g)
       ∙ sym (ap (λ a. decided (h .env) η a (h .j)) (w .3))
 
-  module _ {bs cs : List ℕ} {x : Valued} (p : Answer) {k : ℕ} {s : Spot} (q : getD t i 0 ≡ 0x22) (X : Evaluates t ls fb (i + 3) 16 x)
+  module _ {bs cs : List ℕ} {x : Valued} (p : Answer) {k : ℕ} {s : Spot} (q : getD t i 0 ≡ 0x22) (X : Evaluates t ls fb (i + 3) maxDepth x)
       (e : k ≡ getD t (i + 2) 0) (g : given p ≡ held (getD ls (fb + k) 0)) (P : Places bs (given p) (given (x .answer)) s) where
     -- there is no such cell
     pub read-nowhere : s ≡ Nowhere → Decides t ls fb i (Lies bs cs) Blocked
@@ -446,7 +450,8 @@ module _ {t ls : List ℕ} {fb i : ℕ} where
 
   module _ {bs cs : List ℕ} {s : Step} where
     -- the step of each instruction but a call
-    pub decides-assign : {e : Valued} → getD t i 0 ≡ 0x20 → Evaluates t ls fb (i + 2) 16 e → AssignOf t i e s → DecidesAll t ls ls fb i (Lies bs cs) s
+    pub decides-assign : {e : Valued} → getD t i 0 ≡ 0x20 → Evaluates t ls fb (i + 2) maxDepth e → AssignOf t i e s
+        → DecidesAll t ls ls fb i (Lies bs cs) s
     decides-assign q E A = record { decides = assign-decides q E A; passes = no-args (λ n. omega arith) }
 
     pub decides-write : getD t i 0 ≡ 0x21 → Decides t ls fb i (Laid bs) s → DecidesAll t ls ls fb i (Lies bs cs) s
@@ -455,7 +460,7 @@ module _ {t ls : List ℕ} {fb i : ℕ} where
     pub decides-read : getD t i 0 ≡ 0x22 → Decides t ls fb i (Lies bs cs) s → DecidesAll t ls ls fb i (Lies bs cs) s
     decides-read q D = record { decides = D; passes = no-args (λ n. omega arith) }
 
-    pub decides-test : {e : Valued} → Tests t i → Evaluates t ls fb (i + 1) 16 e → TestOf e s → DecidesAll t ls ls fb i (Lies bs cs) s
+    pub decides-test : {e : Valued} → Tests t i → Evaluates t ls fb (i + 1) maxDepth e → TestOf e s → DecidesAll t ls ls fb i (Lies bs cs) s
     decides-test q E T = record { decides = test-decides q E T; passes = no-args (λ n. ⊎-elim (λ m. omega arith) (λ m. omega arith) q) }
 
     -- a call's

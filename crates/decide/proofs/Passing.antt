@@ -12,6 +12,7 @@ use Rattle.value.specs.declared.Answer.the-variants.{Is, Nothing}
 use Rattle.value.specs.Laws.Lists.{Each}
 use Rattle.format.specs.Syntax.{Expr}
 use Rattle.format.specs.Laws.Grammar.{ExprsAt, MoreAt, exprs-none, exprs-more}
+use Rattle.format.specs.Decode.{maxDepth}
 use Rattle.engine.specs.declared.evaluate.Valued.{Valued}
 use Rattle.decide.specs.declared.step.Passed.the-variants.{All, Missing}
 use Rattle.semantics.specs.Memory.{evals}
@@ -81,19 +82,19 @@ module _ {t ls : List ℕ} {fb i n : ℕ} where
     next-below h P l = subst (Each (Below (length (h .env)))) (next h P l .is) (P .on h .below)
 
     -- it is ready
-    abbrev ready : Passable t ls fb i n → Passing t ls ls′ fb i n a k → k < n → Ready t ls′ fb a 16
+    abbrev ready : Passable t ls fb i n → Passing t ls ls′ fb i n a k → k < n → Ready t ls′ fb a maxDepth
     ready h P l =
         let w = next h P l in
         record { env = h .env; framed = P .on h .framed; e = w .e; j = w .k; here = w .here; below = next-below h P l .0 }
 
-    pub passing-ready : Passable t ls fb i n → Passing t ls ls′ fb i n a k → k < n → Ready t ls′ fb a 16
+    pub passing-ready : Passable t ls fb i n → Passing t ls ls′ fb i n a k → k < n → Ready t ls′ fb a maxDepth
     passing-ready h P l = ready h P l
 
     -- its word is there
     pub passing-word : Passable t ls fb i n → Passing t ls ls′ fb i n a k → k < n → fb + frameWords + k < localWords
     passing-word h P l = omega (arith, h .room, h .few)
 
-    module _ {r : Valued} (P : Passing t ls ls′ fb i n a k) (l : k < n) (E : Evaluates t ls′ fb a 16 r) where
+    module _ {r : Valued} (P : Passing t ls ls′ fb i n a k) (l : k < n) (E : Evaluates t ls′ fb a maxDepth r) where
       -- what is left to evaluate
       left : (h : Passable t ls fb i n) → let w = next h P l in
           evals (h .env) (h .es) ≡ (given (r .answer) >>= λ v. evals (h .env) (w .rest) >>= λ us. is (v ∷ us)) >>= λ us. is (P .on h .vs ++ us)

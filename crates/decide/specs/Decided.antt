@@ -15,6 +15,7 @@ use Rattle.value.specs.Laws.Lists.{Each}
 use Rattle.format.specs.Syntax.{Expr, Instr, assign, write, read, while, if, call, atomic, select, Block, step, _⊕_, Proc}
 use Rattle.format.specs.Encode.{expr, instr}
 use Rattle.format.specs.Laws.Grammar.{ExprAt, ExprsAt}
+use Rattle.format.specs.Decode.{maxDepth}
 use Rattle.engine.specs.declared.evaluate.Valued.{Valued}
 use Rattle.decide.specs.declared.step.Passed.{Passed}
 use Rattle.decide.specs.declared.step.Passed.the-variants.{All, Missing}
@@ -193,7 +194,7 @@ chosen η a b t j = orBlocked (cell η b t >>= λ v. when (running v) (is (Selec
 pub record AssignHere (t : List ℕ) (i n x : ℕ) (e : Expr) (j : ℕ) : Type 0 where
   pub mark : getD t i 0 ≡ 0x20
   pub target : getD t (i + 1) 0 ≡ x
-  pub source : ExprAt t (i + 2) 16 e j
+  pub source : ExprAt t (i + 2) maxDepth e j
   pub below : (x < n) × Below n e
 
 -- "21 y o e"
@@ -201,8 +202,8 @@ pub record WriteHere (t : List ℕ) (i n y : ℕ) (o e : Expr) (j : ℕ) : Type 
   pub mark : getD t i 0 ≡ 0x21
   pub pointer : getD t (i + 1) 0 ≡ y
   pub k : ℕ
-  pub offset : ExprAt t (i + 2) 16 o k
-  pub source : ExprAt t k 16 e j
+  pub offset : ExprAt t (i + 2) maxDepth o k
+  pub source : ExprAt t k maxDepth e j
   pub below : (y < n) × Below n o × Below n e
 
 -- "22 x y o"
@@ -210,7 +211,7 @@ pub record ReadHere (t : List ℕ) (i n x y : ℕ) (o : Expr) (j : ℕ) : Type 0
   pub mark : getD t i 0 ≡ 0x22
   pub target : getD t (i + 1) 0 ≡ x
   pub pointer : getD t (i + 2) 0 ≡ y
-  pub offset : ExprAt t (i + 3) 16 o j
+  pub offset : ExprAt t (i + 3) maxDepth o j
   pub below : (x < n) × (y < n) × Below n o
 
 -- "23 e block", "24 e block block"
@@ -220,7 +221,7 @@ Tests t i = (getD t i 0 ≡ 0x23) ⊎ (getD t i 0 ≡ 0x24)
 -- their expression
 pub record TestHere (t : List ℕ) (i n : ℕ) (e : Expr) (j : ℕ) : Type 0 where
   pub mark : Tests t i
-  pub test : ExprAt t (i + 1) 16 e j
+  pub test : ExprAt t (i + 1) maxDepth e j
   pub below : Below n e
 
 -- "25 m(2) n(1) n expressions"
@@ -272,14 +273,14 @@ pub record Passable (t ls : List ℕ) (fb i n : ℕ) : Type 0 where
 pub record Writable (t ls : List ℕ) (fb i : ℕ) (o e : Valued) : Type 0 where
   pub poised : Poised t ls fb i
   pub mark : getD t i 0 ≡ 0x21
-  pub offset : Evaluates t ls fb (i + 2) 16 o
-  pub source : Evaluates t ls fb (o .next) 16 e
+  pub offset : Evaluates t ls fb (i + 2) maxDepth o
+  pub source : Evaluates t ls fb (o .next) maxDepth e
 
 -- "x := y[o]" stands at i, and its index is evaluated
 pub record Readable (t ls : List ℕ) (fb i : ℕ) (o : Valued) : Type 0 where
   pub poised : Poised t ls fb i
   pub mark : getD t i 0 ≡ 0x22
-  pub offset : Evaluates t ls fb (i + 3) 16 o
+  pub offset : Evaluates t ls fb (i + 3) maxDepth o
 
 -- a memory of these first cells
 pub record Laid (bs : List ℕ) (η : Memory) : Type 0 where

@@ -1,10 +1,17 @@
 // The deciding half of a step: reads the instruction that stands at a place, and answers what is to be done.
+use basics::numbers::ASSIGN;
+use basics::numbers::CALL;
+use basics::numbers::CELL_WORDS;
+use basics::numbers::END;
+use basics::numbers::FRAME;
+use basics::numbers::LOCAL_WORDS;
+use basics::numbers::READ;
+use basics::numbers::STARTS;
+use basics::numbers::WRITE;
 use engine::evaluate;
 use engine::evaluate::Valued;
 use engine::locals;
-use engine::locals::FRAME;
 use engine::memory;
-use engine::memory::STARTS;
 use engine::memory::Spot;
 use engine::table;
 use value::Answer;
@@ -91,7 +98,7 @@ pub fn decide_test(e: Valued) -> Step
 // "y[o] := e".
 pub fn decide_write(
     t: &[u8],
-    words: &[u64; locals::WORDS],
+    words: &[u64; LOCAL_WORDS],
     base: usize,
     starts: &[u32; STARTS],
     at: usize,
@@ -127,10 +134,10 @@ pub fn decide_write(
 // "x := y[o]".
 pub fn decide_read(
     t: &[u8],
-    words: &[u64; locals::WORDS],
+    words: &[u64; LOCAL_WORDS],
     base: usize,
     starts: &[u32; STARTS],
-    cells: &[u64; memory::WORDS],
+    cells: &[u64; CELL_WORDS],
     at: usize,
     o: Valued,
 ) -> Step
@@ -166,13 +173,7 @@ pub enum Passed {
 }
 
 // The values of `count` expressions go to the frame above, which is no part of the state before the call.
-fn pass(
-    t: &[u8],
-    words: &mut [u64; locals::WORDS],
-    base: usize,
-    from: usize,
-    count: usize,
-) -> Passed
+fn pass(t: &[u8], words: &mut [u64; LOCAL_WORDS], base: usize, from: usize, count: usize) -> Passed
     requires { ⌜ Passable (now t) (now words) base from count ⌝ }
     ensures { λ r. ⌜ PassesAll (now (t .entry)) (now (words .entry)) (now (words .exit)) base from count r ⌝ }
 {
@@ -193,7 +194,7 @@ fn pass(
 }
 
 // "call procedure m".
-pub fn decide_call(t: &[u8], words: &mut [u64; locals::WORDS], base: usize, at: usize) -> Step
+pub fn decide_call(t: &[u8], words: &mut [u64; LOCAL_WORDS], base: usize, at: usize) -> Step
     requires { ⌜ Poised (now t) (now words) base at × (getD (now t) at 0 ≡ 0x25) × (at + 4 ≤ length (now t)) ⌝ }
     ensures { λ r. ⌜ DecidesAll (now (t .entry)) (now (words .entry)) (now (words .exit)) base at Any r ⌝ }
 {
@@ -211,10 +212,10 @@ pub fn decide_call(t: &[u8], words: &mut [u64; locals::WORDS], base: usize, at: 
 // The sequential machine matches on the mark itself (`sequential::due`).
 pub fn decide(
     t: &[u8],
-    words: &mut [u64; locals::WORDS],
+    words: &mut [u64; LOCAL_WORDS],
     base: usize,
     starts: &[u32; STARTS],
-    cells: &[u64; memory::WORDS],
+    cells: &[u64; CELL_WORDS],
     at: usize,
 ) -> Step
     requires { ⌜ Poised (now t) (now words) base at × Kept (now starts) (now cells) ⌝ }
@@ -223,18 +224,18 @@ pub fn decide(
 {
     let mark = t[at];
     match mark {
-        0x00 => Step::Return,
-        0x20 => decide_assign(t, at, evaluate::evaluate(t, words, base, at + 2)),
-        0x21 => {
+        END => Step::Return,
+        ASSIGN => decide_assign(t, at, evaluate::evaluate(t, words, base, at + 2)),
+        WRITE => {
             let o = evaluate::evaluate(t, words, base, at + 2);
             let e = evaluate::evaluate(t, words, base, o.next);
             decide_write(t, words, base, starts, at, o, e)
         }
-        0x22 => {
+        READ => {
             let o = evaluate::evaluate(t, words, base, at + 3);
             decide_read(t, words, base, starts, cells, at, o)
         }
-        0x25 => decide_call(t, words, base, at),
+        CALL => decide_call(t, words, base, at),
         _ => decide_test(evaluate::evaluate(t, words, base, at + 1)),
     }
 }
@@ -243,7 +244,7 @@ pub fn decide(
 pub fn decide_select(
     t: &[u8],
     starts: &[u32; STARTS],
-    cells: &[u64; memory::WORDS],
+    cells: &[u64; CELL_WORDS],
     at: usize,
     thread: u8,
 ) -> Step

@@ -11,6 +11,7 @@ use Rattle.engine.specs.declared.memory.Spot.{Spot}
 use Rattle.engine.specs.declared.memory.Spot.the-variants.{At, Nowhere}
 use Rattle.semantics.specs.Memory.{Env, lookup, index, place, Memory, cell}
 use Rattle.semantics.specs.Buffers.{cells}
+pub use Rattle.basics.specs.Sizes.{frameWords, localWords, mostLocations, startWords, cellWords}
 use Rattle.engine.specs.Words.{held}
 use Rattle.semantics.specs.Laws.Cells.{shape}
 
@@ -35,14 +36,6 @@ pub record Clears (ws ws′ : List ℕ) (a b : ℕ) : Type 0 where
 
 -- ---- locals
 
--- "locals over 16 (sequential 32)": a frame has so many words
-abbrev pub frameWords : ℕ
-frameWords = 32
-
--- "P not 1..512": no procedure runs twice in a stack, so there are at most 512 frames, and room above them for the arguments of a call
-abbrev pub localWords : ℕ
-localWords = 16416
-
 -- the words from fb on hold the locals ρ
 pub record Framed (ls : List ℕ) (fb : ℕ) (ρ : Env) : Type 0 where
   pub long : length ls ≡ localWords
@@ -56,19 +49,11 @@ abbrev pub flat : Memory → List Value
 flat [] = []
 flat (row ∷ η) = row ++ flat η
 
--- "all sizes together over .. (sequential 8,192)": so many words hold them
-abbrev pub cellWords : ℕ
-cellWords = 8192
-
 -- the words hold the cells of η
 pub record Holds (η : Memory) (cs : List ℕ) : Type 0 where
   pub long : length cs ≡ cellWords
   pub few : length (flat η) ≤ cellWords
   pub each : (k : ℕ) → k < length (flat η) → held (getD cs k 0) ≡ at (flat η) k
-
--- "M over 512": at most so many locations
-abbrev pub mostLocations : ℕ
-mostLocations = 512
 
 -- the number of the first cell of each location of these sizes; past the last of them, the number of all cells
 pub record Bases (sizes bs : List ℕ) : Type 0 where
@@ -82,7 +67,7 @@ sizesAt t i (suc n) = numberAt 2 t i ∷ sizesAt t (i + 2) n
 
 -- the first cells of locations of these sizes, and the number of all cells
 pub record Starts (sizes bs : List ℕ) (n : ℕ) : Type 0 where
-  pub long : length bs ≡ 513
+  pub long : length bs ≡ startWords
   pub bases : Bases sizes bs
   pub all : n ≡ sum sizes
 

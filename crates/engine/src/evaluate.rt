@@ -1,9 +1,10 @@
 // The value of an expression that stands in a table.
 use super::locals;
-use super::locals::WORDS;
 use super::table;
 use basics::bytes;
 use basics::marks;
+use basics::numbers;
+use basics::numbers::LOCAL_WORDS as WORDS;
 use basics::operators;
 use value::Answer;
 use value::Value;
@@ -11,13 +12,14 @@ ghost use mathlib.Core.Path.{_≡_};
 ghost use Prim.Native.Nat.{_≤_};
 ghost use lib.ListN.{getD};
 ghost use Rattle.value.specs.Values.{given};
+ghost use Rattle.format.specs.Decode.{maxDepth};
 ghost use Rattle.engine.specs.Evaluated.{operated₁, operated₂, Ready, Evaluates};
 
 // "An expression nests at most 16 deep".
-const DEPTH: usize = 16;
+const DEPTH: usize = numbers::DEPTH as usize;
 
 // The marks below this one begin leaves, "01" to "05".
-const LEAVES: u8 = 6;
+const LEAVES: u8 = numbers::LOCAL + 1;
 
 // An expression's value, and where the expression ends.
 pub struct Valued {
@@ -185,8 +187,8 @@ fn operation(t: &[u8], locals: &[u64; WORDS], base: usize, at: usize, depth: usi
 
 // The value of an expression, and where it ends.
 pub fn evaluate(t: &[u8], locals: &[u64; WORDS], base: usize, at: usize) -> Valued
-    requires { ⌜ Ready (now t) (now locals) base at 16 ⌝ }
-    ensures { λ r. ⌜ Evaluates (now (t .entry)) (now (locals .entry)) base at 16 r ⌝ }
+    requires { ⌜ Ready (now t) (now locals) base at maxDepth ⌝ }
+    ensures { λ r. ⌜ Evaluates (now (t .entry)) (now (locals .entry)) base at maxDepth r ⌝ }
 {
     if t[at] < LEAVES {
         leaf(t, locals, base, at)

@@ -1,5 +1,6 @@
 // Events in a lent buffer: "Events that fit whole are written, later ones only counted".
 use basics::bytes;
+use basics::numbers::EVENT;
 use value::Value;
 ghost use mathlib.Core.Path.{_≡_};
 ghost use Prim.Native.Nat.{_+_, _≤_};
@@ -8,9 +9,6 @@ ghost use lib.Seq.{sets};
 ghost use Rattle.value.specs.Values.{bytes};
 ghost use Rattle.semantics.specs.Buffers.{wayByte};
 ghost use Rattle.engine.specs.Events.{wayOf, eventOf, withEvent};
-
-// "An event is 11 bytes".
-const SIZE: usize = 11;
 
 // The thread that reads or writes, the cell, and the value.
 pub struct Event {
@@ -42,8 +40,8 @@ fn way(writes: bool) -> u8
 pub fn write_event(out: &mut [u8], count: usize, e: Event)
     ensures { λ _. ⌜ now (out .exit) ≡ withEvent (now (out .entry)) count (eventOf e) ⌝ }
 {
-    if count < out.len() / SIZE {
-        let at = count * SIZE;
+    if count < out.len() / EVENT {
+        let at = count * EVENT;
         let value = e.value;
         out[at] = e.thread;
         out[at + 1] = way(e.writes);

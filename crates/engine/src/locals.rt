@@ -1,5 +1,6 @@
 // The locals of frames: a row of words, of which each frame has FRAME.
 use super::word;
+use basics::numbers::LOCAL_WORDS;
 use value::Answer;
 use value::Value;
 ghost use mathlib.Core.Path.{_≡_};
@@ -9,14 +10,8 @@ ghost use Rattle.value.specs.Values.{given};
 ghost use Rattle.engine.specs.Words.{held};
 ghost use Rattle.engine.specs.Work.{localWords, Puts, Clears};
 
-// "locals over 16 (sequential 32)": the words of a frame.
-pub const FRAME: usize = 32;
-
-// 512 frames, and one above them for the arguments of a call that is not made.
-pub const WORDS: usize = 16416;
-
 // What local `x` of the frame at `base` holds.
-pub fn get(locals: &[u64; WORDS], base: usize, x: usize) -> Answer
+pub fn get(locals: &[u64; LOCAL_WORDS], base: usize, x: usize) -> Answer
     requires { ⌜ base + x < localWords ⌝ }
     ensures { λ r. ⌜ given r ≡ held (getD (now (locals .entry)) (base + x) 0) ⌝ }
 {
@@ -24,7 +19,7 @@ pub fn get(locals: &[u64; WORDS], base: usize, x: usize) -> Answer
 }
 
 // Sets local `x` of the frame at `base`.
-pub fn put(locals: &mut [u64; WORDS], base: usize, x: usize, v: Value)
+pub fn put(locals: &mut [u64; LOCAL_WORDS], base: usize, x: usize, v: Value)
     requires { ⌜ base + x < localWords ⌝ }
     ensures { λ _. ⌜ Puts (now (locals .entry)) (now (locals .exit)) (base + x) v ⌝ }
 {
@@ -32,7 +27,7 @@ pub fn put(locals: &mut [u64; WORDS], base: usize, x: usize, v: Value)
 }
 
 // The words from `from` up to `to` are not set.
-pub fn clear(locals: &mut [u64; WORDS], from: usize, to: usize)
+pub fn clear(locals: &mut [u64; LOCAL_WORDS], from: usize, to: usize)
     requires { ⌜ (from ≤ to) × (to ≤ localWords) ⌝ }
     ensures { λ _. ⌜ Clears (now (locals .entry)) (now (locals .exit)) from to ⌝ }
 {

@@ -2,6 +2,11 @@
 use super::table;
 use super::word;
 use basics::bytes;
+use basics::numbers::CELL;
+use basics::numbers::CELL_WORDS;
+use basics::numbers::LOCATIONS;
+use basics::numbers::SIZE;
+use basics::numbers::STARTS;
 use value::Answer;
 use value::Value;
 ghost use mathlib.Core.Path.{_≡_};
@@ -9,19 +14,7 @@ ghost use Prim.Native.Nat.{_+_, _*_, _^_, _≤_, _<_};
 ghost use lib.ListN.{length, getD};
 ghost use Rattle.value.specs.Values.{given};
 ghost use Rattle.engine.specs.Words.{held};
-ghost use Rattle.engine.specs.Work.{mostLocations, cellWords, Puts, sizesAt, Starts, Finds, Places, WritesOne, Writes};
-
-// "M over 512": the most locations.
-pub const LOCATIONS: usize = 512;
-
-// A first cell for each of them, and the number of all cells.
-pub const STARTS: usize = 513;
-
-// "all sizes together over .. (sequential 8,192)": the words of the cells.
-pub const WORDS: usize = 8192;
-
-// The bytes of a cell.
-const SIZE: usize = 5;
+ghost use Rattle.engine.specs.Work.{mostLocations, startWords, cellWords, Puts, sizesAt, Starts, Finds, Places, WritesOne, Writes};
 
 // A cell's location, its index there and its number among all cells; or there is none.
 pub enum Spot {
@@ -42,14 +35,14 @@ fn wide(n: u32) -> usize
 
 // The first cell of each of `count` locations, whose sizes stand in the table from `at` on; answers the number of all cells.
 pub fn set_starts(t: &[u8], at: usize, count: usize, starts: &mut [u32; STARTS]) -> usize
-    requires { ⌜ (at + 2 * count ≤ length (now t)) × (count ≤ mostLocations) × (length (now starts) ≡ 513) ⌝ }
+    requires { ⌜ (at + 2 * count ≤ length (now t)) × (count ≤ mostLocations) × (length (now starts) ≡ startWords) ⌝ }
     ensures { λ r. ⌜ Starts (sizesAt (now (t .entry)) at count) (now (starts .exit)) r ⌝ }
 {
     let mut total = 0u32;
     let mut i = 0;
     while i < count {
         starts[i] = total;
-        total += table::two(t, at + 2 * i) as u32;
+        total += table::two(t, at + SIZE * i) as u32;
         i += 1;
     }
     while i < STARTS {
@@ -109,7 +102,7 @@ pub fn place(starts: &[u32; STARTS], pointer: Answer, offset: Answer) -> Spot
 }
 
 // What a cell holds.
-pub fn get(cells: &[u64; WORDS], cell: usize) -> Answer
+pub fn get(cells: &[u64; CELL_WORDS], cell: usize) -> Answer
     requires { ⌜ cell < cellWords ⌝ }
     ensures { λ r. ⌜ given r ≡ held (getD (now (cells .entry)) cell 0) ⌝ }
 {
@@ -117,7 +110,7 @@ pub fn get(cells: &[u64; WORDS], cell: usize) -> Answer
 }
 
 // A value is stored in a cell.
-pub fn put(cells: &mut [u64; WORDS], cell: usize, v: Value)
+pub fn put(cells: &mut [u64; CELL_WORDS], cell: usize, v: Value)
     requires { ⌜ cell < cellWords ⌝ }
     ensures { λ _. ⌜ Puts (now (cells .entry)) (now (cells .exit)) cell v ⌝ }
 {
@@ -134,13 +127,13 @@ fn write_cell(w: u64, out: &mut [u8], at: usize)
 }
 
 // The first `count` cells: "Final cells are written as such values, in location order".
-pub fn write_cells(cells: &[u64; WORDS], count: usize, out: &mut [u8])
+pub fn write_cells(cells: &[u64; CELL_WORDS], count: usize, out: &mut [u8])
     requires { ⌜ count ≤ cellWords ⌝ }
     ensures { λ _. ⌜ Writes (now (cells .entry)) count (now (out .entry)) (now (out .exit)) ⌝ }
 {
     let mut i = 0;
     while i < count {
-        write_cell(cells[i], out, i * SIZE);
+        write_cell(cells[i], out, i * CELL);
         i += 1;
     }
 }

@@ -18,6 +18,7 @@ use Rattle.labels.specs.Walks.{BlockIn, CountsBlock, BodiesAt, BodiesIn}
 use Rattle.format.specs.Laws.Grammar
 use Rattle.format.specs.Laws.Fits.{BlockFits}
 use Rattle.format.specs.Laws.Procs.{body-at}
+use Rattle.format.specs.Decode.{maxNesting}
 use Rattle.labels.specs.Laws.Spots.{itself, spot-inside, block-some, body-stands}
 use Rattle.labels.specs.declared.count.Counted.{Counted}
 use Rattle.labels.proofs.Counting.{block-in}
@@ -44,7 +45,7 @@ body-next (p ∷ ps) i (suc m) e = body-next ps (i + length (block (p .body))) m
 record BodyOf (t : List ℕ) (ps : List (Proc Plain)) (i m : ℕ) : Type 0 where
   pub proc : Proc Plain
   pub found : at ps m ≡ is proc
-  pub there : Grammar.BlockAt t i 16 (proc .body) (i + length (block (proc .body)))
+  pub there : Grammar.BlockAt t i maxNesting (proc .body) (i + length (block (proc .body)))
   pub next : bodyAt 0 ps (m + 1) ≡ i + length (block (proc .body))
 
 body-of : {t : List ℕ} {c m i j : ℕ} {ps : List (Proc Plain)} → BodiesAt t 0 c ps j → m < c → i ≡ bodyAt 0 ps m → BodyOf t ps i m
@@ -58,7 +59,7 @@ body-of {t} {m = m} {i} {ps = ps} A h e =
       found = there;
       there = rw e (record {
         stands = body-stands ps m (A .stands) there;
-        fits = each-at (BlockFits 16) (bodiesOf ps) m (A .fits) (body-at ps m there);
+        fits = each-at (BlockFits maxNesting) (bodiesOf ps) m (A .fits) (body-at ps m there);
       });
       next = rw (one, e) (body-next ps 0 m there);
     }
@@ -79,11 +80,11 @@ module _ {t : List ℕ} {c : ℕ} {js : List ℕ} where
       first-place (p ∷ ps) = refl
 
   -- the next body
-  pub bodies-in : {m i : ℕ} {js′ : List ℕ} → Filled t c js m i js′ → m < c → BlockIn t i 16
+  pub bodies-in : {m i : ℕ} {js′ : List ℕ} → Filled t c js m i js′ → m < c → BlockIn t i maxNesting
   bodies-in F h = block-in (body-of (F .bodies .there) h (F .place (F .bodies .procs) (F .bodies .next) (F .bodies .there)) .there)
 
-  pub bodies-next : {m i : ℕ} {x : Counted} {js′ js″ : List ℕ} → Filled t c js m i js′ → m < c → CountsBlock t i 16 x
-      → FillsBlock t i 16 (x .next - 1) js′ js″ → Filled t c js (m + 1) (x .next) js″
+  pub bodies-next : {m i : ℕ} {x : Counted} {js′ js″ : List ℕ} → Filled t c js m i js′ → m < c → CountsBlock t i maxNesting x
+      → FillsBlock t i maxNesting (x .next - 1) js′ js″ → Filled t c js (m + 1) (x .next) js″
   bodies-next {m} {i} {x} {js′} {js″} F h X B = record {
     bodies = F .bodies;
     low = omega arith;

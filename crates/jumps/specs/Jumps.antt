@@ -6,14 +6,11 @@ use mathlib.Core.Bool.{Bool, true, false}
 use lib.ListN.{length, getD}
 use Rattle.value.specs.Maybe.{Maybe, is, nothing}
 use Rattle.format.specs.Syntax.{Instr, assign, write, read, while, if, call, atomic, select, Block, end, step, _⊕_, Proc, Plain}
+pub use Rattle.basics.specs.Sizes.{positions}
 use Rattle.labels.specs.Spots.{Spot, Inner, CodeAt}
 use Rattle.labels.specs.Walks.{BodiesAt}
 use Rattle.format.specs.Laws.Grammar.{InstrAt, BlockAt}
 use Rattle.engine.specs.Work.{Beside}
-
--- "over 65,536 bytes" is refused: the table has an entry for each position
-abbrev pub positions : ℕ
-positions = 65536
 
 -- in procedure m the code x goes on at k, where its first instruction stands; of no code, k is the end of the body
 pub data Settled (ps : List (Proc Plain)) (m k : ℕ) (x : Block Plain) : Type 0 where

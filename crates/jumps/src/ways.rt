@@ -1,8 +1,9 @@
 // The jump table of a sequential table that was accepted: an entry for each position. It says where a run goes on after a block that
 // ends there, and where it goes on if the test there fails.
-use basics::numbers::DEPTH;
 use basics::numbers::END;
 use basics::numbers::IF;
+use basics::numbers::LONGEST;
+use basics::numbers::NESTING;
 use basics::numbers::WHILE;
 use labels::count::after_expr;
 use labels::count::count_block;
@@ -13,9 +14,6 @@ ghost use lib.ListN.{length};
 ghost use Rattle.labels.specs.Walks.{BlockIn, InstrIn, BodiesIn};
 ghost use Rattle.jumps.specs.Jumps.{positions, Onward, FillsBlock, FillsInstr, FillsJumps, Settles, Branches};
 
-// "over 65,536 bytes" is refused.
-pub const POSITIONS: usize = 65536;
-
 // Where code goes on whose next block, or the rest of one, stands at `at`: there, or at `after` if nothing of it is left.
 fn onward(t: &[u8], at: usize, after: usize) -> usize
     requires { ⌜ at < length (now t) ⌝ }
@@ -25,7 +23,7 @@ fn onward(t: &[u8], at: usize, after: usize) -> usize
 }
 
 // The entries of a block. What follows the block goes on at `after`.
-fn fill_block(t: &[u8], at: usize, depth: u8, after: usize, jumps: &mut [u16; POSITIONS])
+fn fill_block(t: &[u8], at: usize, depth: u8, after: usize, jumps: &mut [u16; LONGEST])
     requires { ⌜ BlockIn (now t) at depth ⌝ }
     requires { ⌜ (after < positions) × (length (now t) ≤ positions) ⌝ }
     ensures { λ _. ⌜ FillsBlock (now (t .entry)) at depth after (now (jumps .entry)) (now (jumps .exit)) ⌝ }
@@ -43,7 +41,7 @@ fn fill_block(t: &[u8], at: usize, depth: u8, after: usize, jumps: &mut [u16; PO
 
 // Those of an instruction: "After the last instruction of a while body comes the while; after the last of a branch, what follows the
 // if", which goes on at `after`.
-fn fill_instr(t: &[u8], at: usize, depth: u8, after: usize, jumps: &mut [u16; POSITIONS])
+fn fill_instr(t: &[u8], at: usize, depth: u8, after: usize, jumps: &mut [u16; LONGEST])
     requires { ⌜ InstrIn (now t) at depth ⌝ }
     requires { ⌜ (after < positions) × (length (now t) ≤ positions) ⌝ }
     ensures { λ _. ⌜ FillsInstr (now (t .entry)) at depth after (now (jumps .entry)) (now (jumps .exit)) ⌝ }
@@ -67,16 +65,16 @@ fn fill_instr(t: &[u8], at: usize, depth: u8, after: usize, jumps: &mut [u16; PO
 }
 
 // The entries of all bodies. A body's end leads to itself.
-pub fn fill(t: &[u8], procedures: usize, jumps: &mut [u16; POSITIONS])
+pub fn fill(t: &[u8], procedures: usize, jumps: &mut [u16; LONGEST])
     requires { ⌜ BodiesIn (now t) 0 procedures × (length (now t) ≤ positions) ⌝ }
     ensures { λ _. ⌜ FillsJumps (now (t .entry)) procedures (now (jumps .entry)) (now (jumps .exit)) ⌝ }
 {
     let mut m = 0;
     let mut at = 0;
     while m < procedures {
-        let body = count_block(t, at, DEPTH);
+        let body = count_block(t, at, NESTING);
         let next = body.next;
-        fill_block(t, at, DEPTH, next - 1, jumps);
+        fill_block(t, at, NESTING, next - 1, jumps);
         at = next;
         m += 1;
     }
@@ -90,7 +88,7 @@ fn wide(entry: u16) -> usize
 }
 
 // Where a run goes on whose next block, or the rest of one, stands at `at`.
-pub fn settle(t: &[u8], jumps: &[u16; POSITIONS], at: usize) -> usize
+pub fn settle(t: &[u8], jumps: &[u16; LONGEST], at: usize) -> usize
     requires { ⌜ (at < length (now t)) × (length (now t) ≤ positions) ⌝ }
     ensures { λ r. ⌜ Settles (now (t .entry)) (now (jumps .entry)) at r ⌝ }
 {
@@ -98,7 +96,7 @@ pub fn settle(t: &[u8], jumps: &[u16; POSITIONS], at: usize) -> usize
 }
 
 // Where a run goes on after a test at `at`: `next` is where the expression ends.
-pub fn branch(t: &[u8], jumps: &[u16; POSITIONS], at: usize, truth: bool, next: usize) -> usize
+pub fn branch(t: &[u8], jumps: &[u16; LONGEST], at: usize, truth: bool, next: usize) -> usize
     requires { ⌜ (at < positions) × (next < length (now t)) × (length (now t) ≤ positions) ⌝ }
     ensures { λ r. ⌜ Branches (now (t .entry)) (now (jumps .entry)) at truth next r ⌝ }
 {

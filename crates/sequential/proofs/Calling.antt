@@ -13,7 +13,7 @@ use Rattle.value.specs.Laws.Tests.{by-test}
 use Rattle.value.specs.Laws.Lists.{Each, each-so}
 use Rattle.value.specs.Laws.Bytes.{Bytes}
 use Rattle.format.specs.Syntax.{Block, Proc, Program, Plain, sequential}
-use Rattle.format.specs.Encode.{each, block, bodiesOf, head, heads, middleOf, middle, trailer, trailerOf, table}
+use Rattle.format.specs.Encode.{each, block, bodiesOf, head, heads, middleOf, middle, trailer, trailerOf, table, recordSize, trailerSize}
 use Rattle.format.specs.Encode as E
 use Rattle.format.specs.declared.ReadAnswer.{ReadAnswer}
 use Rattle.format.specs.Calls.{readAs, readCall}
@@ -35,12 +35,17 @@ use Rattle.semantics.specs.Calls.{Outcome, refusal, untouched, maxEntries, sche
 use Rattle.semantics.specs.Calls.{runAs, sequentialRun, sequentialOutcome, sequentialCall, result}
 use Rattle.engine.specs.Work.{localWords, cellWords, flat, Bases, sizesAt, Starts, Writes}
 use Rattle.jumps.specs.Jumps.{positions, Jumps, FillsJumps}
-use Rattle.sequential.specs.Sequential.{mostFrames, Loaded, Starting, RanAs, Runs, Accepted, Outcomes}
+use Rattle.sequential.specs.Sequential.{Loaded, Starting, RanAs, Runs, Accepted, Outcomes}
 use Rattle.semantics.specs.Laws.Cells.{shape}
+use Rattle.basics.specs.Sizes.{stackFrames}
 use Rattle.engine.specs.Laws.Holding.{length-flat, holds-fresh}
 use Rattle.engine.specs.Laws.Starting.{sizes-stand}
 
 -- ---- an accepted table
+
+-- where its records begin, as the code computes it
+abbrev pub recordsFrom : List ℕ → ℕ → ℕ → ℕ
+recordsFrom t P M = length t - trailerSize - recordSize * P - 2 * M
 
 module _ {t : List ℕ} {P M c : ℕ} (a : Accepted t P M c) where
   -- it fits the jump table
@@ -67,12 +72,12 @@ module _ {t : List ℕ} {P M c : ℕ} (a : Accepted t P M c) where
   no-mains = omega (arith, a .sound .threads .high)
 
   -- where its records begin
-  records-at : length t - 16 - 6 * P - 2 * M ≡ recordsAt (a .program)
+  records-at : recordsFrom t P M ≡ recordsAt (a .program)
   records-at =
       omega (arith, trailer-at sequential (a .program) (a .same), length-table sequential (a .program) (a .same), a .procs, a .places, no-mains)
 
   -- its sizes stand behind the records
-  sizes-at : sizesAt t (length t - 16 - 6 * P - 2 * M + 6 * P) M ≡ a .program .sizes
+  sizes-at : sizesAt t (recordsFrom t P M + recordSize * P) M ≡ a .program .sizes
   sizes-at =
       let p : Program Plain = a .program in
       let bodies : List ℕ = each block (bodiesOf (p .procs)) in
@@ -83,8 +88,8 @@ module _ {t : List ℕ} {P M c : ℕ} (a : Accepted t P M c) where
       let numbers : Stands t (0 + length bodies + length records) (sizes ++ mains) _ =
       back records (sizes ++ mains) (back bodies (records ++ (sizes ++ mains)) all)
       in
-      let long : length records ≡ 6 * length (heads 0 (p .procs)) = length-each head 6 (λ h. refl) (heads 0 (p .procs)) in
-      let place : length t - 16 - 6 * P - 2 * M + 6 * P ≡ 0 + length bodies + length records =
+      let long : length records ≡ recordSize * length (heads 0 (p .procs)) = length-each head recordSize (λ h. refl) (heads 0 (p .procs)) in
+      let place : recordsFrom t P M + recordSize * P ≡ 0 + length bodies + length records =
       omega (arith, records-at, length-heads 0 (p .procs), a .procs)
       in
       let low : Each (λ n. n < 2 ^ 16) (p .sizes) = each-so (λ n w. omega (arith, w .high)) (p .sizes) (a .sound .sizes) in
@@ -98,8 +103,8 @@ zeros n k = by-test (ltb k n)
 
 -- the arrays before the first step
 pub accepted-starting : {t : List ℕ} {P M c n : ℕ} {js js′ ss : List ℕ} → Accepted t P M c → length js ≡ positions → FillsJumps t P js js′
-    → Starts (sizesAt t (length t - 16 - 6 * P - 2 * M + 6 * P) M) ss n
-    → Starting t (length t - 16 - 6 * P - 2 * M) js′ ss (replicate localWords 0) (replicate (mostFrames + 1) 0) (replicate cellWords (2 ^ 32))
+    → Starts (sizesAt t (recordsFrom t P M + recordSize * P) M) ss n
+    → Starting t (recordsFrom t P M) js′ ss (replicate localWords 0) (replicate stackFrames 0) (replicate cellWords (2 ^ 32))
 accepted-starting {js′ = js′} {ss} a e F S = record {
   loaded = record {
     program = a .program;
@@ -112,7 +117,7 @@ accepted-starting {js′ = js′} {ss} a e F S = record {
   inside = omega (arith, a .room, a .procs, a .sound .procs .low);
   zero = zeros localWords;
   long = length-replicate {A = ℕ} localWords 0;
-  backs = length-replicate {A = ℕ} (mostFrames + 1) 0;
+  backs = length-replicate {A = ℕ} stackFrames 0;
   cells = holds-fresh (a .program .sizes) (a .sound .cells);
 }
 
@@ -143,8 +148,8 @@ outcome-of {c = c} {ts = ts} {h = h} {n} {cs} {es} {os = os} {es′} {r} a room 
 
 -- of the whole call
 pub run-outcome : {t : List ℕ} {P M c : ℕ} {ts js js′ ss : List ℕ} {h n k : ℕ} {cs es ms os es′ : List ℕ} {r : Ran} → length js ≡ positions
-    → FillsJumps t P js js′ → Starts (sizesAt t (length t - 16 - 6 * P - 2 * M + 6 * P) M) ss k
-    → Runs t (length t - 16 - 6 * P - 2 * M) ts js′ ss (replicate localWords 0) (replicate (mostFrames + 1) 0) (replicate cellWords (2 ^ 32))
+    → FillsJumps t P js js′ → Starts (sizesAt t (recordsFrom t P M + recordSize * P) M) ss k
+    → Runs t (recordsFrom t P M) ts js′ ss (replicate localWords 0) (replicate stackFrames 0) (replicate cellWords (2 ^ 32))
     h n es ms es′ r
     → Writes ms c cs os
     → Outcomes t P M c ts n h cs es (record { number = 0; end = r .end; steps = r .steps; unused = length ts - r .taken; events = r .events }) os es′

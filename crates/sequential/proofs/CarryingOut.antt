@@ -17,6 +17,7 @@ use Rattle.format.specs.Syntax.{while, Block, step, _⊕_, Proc, Plain}
 use Rattle.format.specs.Laws.Sound.{LocalsRight}
 use Rattle.format.specs.Laws.Calls.{Calls}
 use Rattle.format.specs.Laws.Procs.{takes-at}
+use Rattle.format.specs.Encode.{recordSize}
 use Rattle.decide.specs.declared.step.Step.{Step}
 use Rattle.decide.specs.declared.step.Step.the-variants.{Return, Assign, Read, Write, Test, Call, Select, Blocked}
 use Rattle.sequential.specs.declared.machine.State.{State}
@@ -322,8 +323,8 @@ pub ruleset event-ways = (event-kept, event-passed)
 
 -- ---- a procedure begins
 
-pub did-enter : {t : List ℕ} {records d m k a b v w : ℕ} {ls bs ls′ : List ℕ} → a ≡ getD t (records + 6 * m) 0 → b ≡ getD t (records + 6 * m + 1) 0
-    → Clears ls ls′ (frameWords * d + a) (frameWords * d + b) → v ≡ w → w ≡ numberAt 4 t (records + 6 * m + 2)
+pub did-enter : {t : List ℕ} {records d m k a b v w : ℕ} {ls bs ls′ : List ℕ} → a ≡ getD t (records + recordSize * m) 0
+    → b ≡ getD t (records + recordSize * m + 1) 0 → Clears ls ls′ (frameWords * d + a) (frameWords * d + b) → v ≡ w → w ≡ numberAt 4 t (records + recordSize * m + 2)
     → Enters t records d m k ls bs ls′ (set bs d k) v
 did-enter {d = d} {ls = ls} {ls′ = ls′} e f C g h = record { back = refl; clears = rw (← e, ← f) C; start = g ∙ h }
 

@@ -18,6 +18,7 @@ use Rattle.format.specs.Encode.{expr, instr}
 use Rattle.labels.specs.Spots.{CodeAt, inner, later, body, thens}
 use Rattle.format.specs.Laws.Sound.{Within, LocalsRight, Sound}
 use Rattle.format.specs.Laws.Procs.{takes-at}
+use Rattle.format.specs.Rules.{maxSize}
 use Rattle.labels.specs.Laws.Spots.{itself}
 use Rattle.decide.specs.declared.step.Step.{Step}
 use Rattle.decide.specs.declared.step.Step.the-variants.{Return, Assign, Read, Write, Test, Call, Select, Blocked}
@@ -264,7 +265,7 @@ cell-is η l i e f = record {
 }
 
 -- "size not 1..256"
-pub some-size : (ns : List ℕ) (l : ℕ) → Each (Within 1 256) ns → l < length ns → 0 < getD ns l 0
+pub some-size : (ns : List ℕ) (l : ℕ) → Each (Within 1 maxSize) ns → l < length ns → 0 < getD ns l 0
 some-size [] l h m = absurd (omega arith)
 some-size (n ∷ ns) zero h m = omega (arith, h .0 .low)
 some-size (n ∷ ns) (suc l) h m = some-size ns l (h .1) (omega arith)

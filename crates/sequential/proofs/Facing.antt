@@ -29,6 +29,7 @@ use Rattle.format.specs.Laws.Procs.{bodyIn, takes-at}
 use Rattle.format.specs.Laws.Sound.{LocalsRight, Sound}
 use Rattle.labels.specs.Laws.Spots.{step-byte}
 use Rattle.format.specs.Laws.Stands as Stands
+use Rattle.format.specs.Decode.{maxNesting}
 use Rattle.decide.specs.declared.step.Step.{Step}
 use Rattle.sequential.specs.declared.machine.State.{State}
 use Rattle.semantics.specs.Memory.{evals}
@@ -39,7 +40,7 @@ use Rattle.decide.specs.Decided.{Act, assigns, writes, reads, tests, calls, ret
 use Rattle.decide.specs.Decided.{Kept, DecidesAll, SelectHere, Selects, Selectable}
 use Rattle.jumps.specs.Jumps.{Settled, last, first}
 use Rattle.sequential.specs.Frames.{FrameAt, Stacked}
-use Rattle.sequential.specs.Sequential.{mostFrames, Present, Decision, leaves, acts, selects, Facing, Faced, Faces, UsedUp}
+use Rattle.sequential.specs.Sequential.{Present, Decision, leaves, acts, selects, Facing, Faced, Faces, UsedUp}
 use Rattle.semantics.specs.Laws.Cells.{shape}
 use Rattle.decide.specs.Laws.Deciding.{act-at}
 use Rattle.sequential.proofs.Standing.{Here, stands-here, settled-here, code-inside}
@@ -73,14 +74,14 @@ module _ {t : List ℕ} {p : Program Plain} (same : t ≡ table sequential p) (s
   module _ {f : Frame Plain} {k j X : ℕ} (d r : Block Plain) (long : length (f .env) ≡ X) where
     -- an instruction that asks something
     acted : (i : Instr Plain) (a : Act) → CodeAt (p .procs) (f .proc) k (step tt i d) r
-        → f .code ≡ step tt i (d ⊕ r) → actOf i ≡ is a → InstrAt t k 15 i j
+        → f .code ≡ step tt i (d ⊕ r) → actOf i ≡ is a → InstrAt t k (maxNesting - 1) i j
         → NamesI p X i → length (argsOf a) ≤ frameWords → (getD t k 0 ≡ 0x27 → ⊥) → View t p f k
     acted i a c e q h n few other =
         acting i d r a c e q (rw long (act-at t k X p i a q (h .stands) (h .fits .1) (names-pass X i n) few)) other
 
     -- by the instruction
-    view-instr : (i : Instr Plain) → CodeAt (p .procs) (f .proc) k (step tt i d) r → f .code ≡ step tt i (d ⊕ r) → InstrAt t k 15 i j → NamesI p X i
-        → allowedI (bodyIn sequential (f .proc)) i ≡ true → View t p f k
+    view-instr : (i : Instr Plain) → CodeAt (p .procs) (f .proc) k (step tt i d) r → f .code ≡ step tt i (d ⊕ r) → InstrAt t k (maxNesting - 1) i j
+        → NamesI p X i → allowedI (bodyIn sequential (f .proc)) i ≡ true → View t p f k
     view-instr (assign x e) c q h n w = acted (assign x e) (assigns x e) c q refl h n (omega arith) (λ z. omega (arith, Stands.first (h .stands)))
     view-instr (write y o e) c q h n w = acted (write y o e) (writes y o e) c q refl h n (omega arith) (λ z. omega (arith, Stands.first (h .stands)))
     view-instr (read x y o) c q h n w = acted (read x y o) (reads x y o) c q refl h n (omega arith) (λ z. omega (arith, Stands.first (h .stands)))
@@ -90,7 +91,7 @@ module _ {t : List ℕ} {p : Program Plain} (same : t ≡ table sequential p) (s
     view-instr (atomic b) c q h n w = absurd (never w)
     view-instr (select a b) c q h n w =
         let byte : getD t k 0 ≡ 0x27 = Stands.first (h .stands) in
-        let s : SelectAt {A = Plain} t k 15 (select a b) j = select-here h byte in
+        let s : SelectAt {A = Plain} t k (maxNesting - 1) (select a b) j = select-here h byte in
         choosing a b d r c q byte (s .room) (number-at 2 t (k + 1) ∙ sym (first-is (s .is))) (number-at 2 t (k + 3) ∙ sym (second-is (s .is))) (n .0)
       where
         first-is : {x y u v : ℕ} → _≡_ {A = Instr Plain} (select x y) (select u v) → x ≡ u

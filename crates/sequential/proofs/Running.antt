@@ -17,6 +17,7 @@ use Rattle.value.specs.Values.{numberAt}
 use Rattle.format.specs.Laws.Procs.{takes-at}
 use Rattle.format.specs.Laws.Sound.{LocalsRight}
 use Rattle.format.specs.Syntax.{Block, Proc, Program, Plain}
+use Rattle.format.specs.Encode.{recordSize}
 use Rattle.semantics.specs.Step.{Frame, Stack, entered}
 use Rattle.semantics.specs.Threads.{End, finished, used, blocked, spent}
 use Rattle.semantics.specs.Copy as C
@@ -145,7 +146,7 @@ module _ {t : List ℕ} {records : ℕ} {js ss ls bs cs : List ℕ} (q : Startin
       let first = takes-at (p .procs) 0 0 (q .loaded .sound .mains .0) in
       let one : C.start p ts .stack ≡ entered 0 (first .0) [] ∷ [] = start-stack p ts (first .1) in
       let H : HeadAt t records (p .procs) 0 (first .0) = head-at (q .loaded .same) (q .loaded .sound) (q .loaded .place) (first .1) in
-      let here : records + 6 * 0 + 2 ≡ records + 2 = omega arith in
+      let here : records + recordSize * 0 + 2 ≡ records + 2 = omega arith in
       let few : LocalsRight frameWords (first .0) = each-at (LocalsRight frameWords) (p .procs) 0 (q .loaded .sound .locals) (first .1) in
       let frame : FrameAt (p .procs) ls 0 v (entered 0 (first .0) []) = record {
         proc = first .0;

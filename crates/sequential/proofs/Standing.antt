@@ -1,5 +1,5 @@
 -- What stands where a run goes on: an instruction that keeps the rules, or the end of a body.
-use Prim.Native.Nat.{ℕ, zero, suc, _+_, _*_, _^_, _≤_, _<_}
+use Prim.Native.Nat.{ℕ, zero, suc, _+_, _*_, _-_, _^_, _≤_, _<_}
 use native.Mathlib.Omega.{arith}
 use mathlib.Core.Path.{_≡_, refl, sym, ap, subst, _∙_}
 use mathlib.Core.List.{List, [], _∷_}
@@ -12,7 +12,7 @@ use Rattle.value.specs.Values.{bytes, numberAt}
 use Rattle.value.specs.Laws.Lists.{each-at}
 use Rattle.value.specs.Laws.Bytes.{number-at}
 use Rattle.format.specs.Syntax.{Expr, Instr, while, if, Block, end, step, _⊕_, Proc, Program, Plain, sequential}
-use Rattle.format.specs.Encode.{table, bodiesOf}
+use Rattle.format.specs.Encode.{table, bodiesOf, recordSize}
 use Rattle.format.specs.Encode as E
 use Rattle.format.specs.Rules.{allowedI}
 use Rattle.labels.specs.Spots.{Spot, inner, body, thens, elses, later, bodyAt, CodeAt}
@@ -26,6 +26,7 @@ use Rattle.format.specs.Laws.Procs.{ProcSound, proc-sound, bodyIn, body-at}
 use Rattle.format.specs.Laws.Sound.{Sound}
 use Rattle.format.specs.Laws.TablePlaces as T
 use Rattle.format.specs.Laws.Accepted.{bodies-fit}
+use Rattle.format.specs.Decode.{maxNesting}
 use Rattle.labels.specs.Laws.Spots.{itself, join-end, Inherited, spot-has, deep-inherited}
 use Rattle.labels.specs.Laws.Spots.{names-inherited, allowed-inherited, code-stands, step-byte, block-some}
 use Rattle.jumps.specs.Jumps.{Settled, last, first, beyond, Entry, Jumps, Settles}
@@ -48,7 +49,7 @@ pub record Here (t : List ℕ) (p : Program Plain) (m X k : ℕ) (x : Block Plai
   pub after : Block Plain
   pub same : x ≡ step tt instr (left ⊕ after)
   pub code : CodeAt (p .procs) m k (step tt instr left) after
-  pub there : InstrAt t k 15 instr (k + length (E.instr instr))
+  pub there : InstrAt t k (maxNesting - 1) instr (k + length (E.instr instr))
   pub named : NamesI p X instr
   pub allowed : allowedI (bodyIn sequential m) instr ≡ true
 
@@ -74,10 +75,10 @@ module _ {t : List ℕ} {p : Program Plain} (same : t ≡ table sequential p) (s
       → x ≡ step tt i (d ⊕ r) → Here t p m (q .locals) k x
   instr-here {m} {k} {q} {i} {d} {r} e c f =
       let rules : ProcSound sequential p m (c .proc) = proc-sound sound m (c .proc) (c .found) in
-      let fits : BlockFits 16 (c .proc .body) =
-      each-at (BlockFits 16) (bodiesOf (p .procs)) m (bodies-fit sequential p sound) (body-at (p .procs) m (c .found))
+      let fits : BlockFits maxNesting (c .proc .body) =
+      each-at (BlockFits maxNesting) (bodiesOf (p .procs)) m (bodies-fit sequential p sound) (body-at (p .procs) m (c .found))
       in
-      let deep : nesting (step tt i d) ≤ 16 = spot-has (deep-inherited 16) (c .spot) (fits .0) in
+      let deep : nesting (step tt i d) ≤ maxNesting = spot-has (deep-inherited maxNesting) (c .spot) (fits .0) in
       record {
         instr = i;
         left = d;
@@ -122,23 +123,24 @@ bodyAt-far (p ∷ ps) i (suc m) = bodyAt-far ps (i + length (E.block (p .body)))
 
 -- parameters, locals and the beginning of procedure m, whose record stands behind those of the procedures before it
 pub record HeadAt (t : List ℕ) (records : ℕ) (ps : List (Proc Plain)) (m : ℕ) (q : Proc Plain) : Type 0 where
-  pub inside : records + 6 * m + 6 ≤ length t
-  pub params : getD t (records + 6 * m) 0 ≡ q .params
-  pub locals : getD t (records + 6 * m + 1) 0 ≡ q .locals
-  pub start : numberAt 4 t (records + 6 * m + 2) ≡ bodyAt 0 ps m
+  pub inside : records + recordSize * m + recordSize ≤ length t
+  pub params : getD t (records + recordSize * m) 0 ≡ q .params
+  pub locals : getD t (records + recordSize * m + 1) 0 ≡ q .locals
+  pub start : numberAt 4 t (records + recordSize * m + 2) ≡ bodyAt 0 ps m
 
 module _ {t : List ℕ} {p : Program Plain} (same : t ≡ table sequential p) (sound : Sound sequential p) where
   pub head-at : {records m : ℕ} {q : Proc Plain} → records ≡ T.recordsAt p → at (p .procs) m ≡ is q → HeadAt t records (p .procs) m q
   head-at {records} {m} {q} e o =
-      let s : Stands t (T.recordsAt p + 6 * m) (q .params ∷ q .locals ∷ bytes 4 (T.bodyAt (p .procs) m)) (T.recordsAt p + 6 * m + 6) =
+      let s : Stands t (T.recordsAt p + recordSize * m) (q .params ∷ q .locals ∷ bytes 4 (T.bodyAt (p .procs) m))
+      (T.recordsAt p + recordSize * m + recordSize) =
       T.record-stands sequential p same m o
       in
-      let two : T.recordsAt p + 6 * m + 1 + 1 ≡ T.recordsAt p + 6 * m + 2 = omega arith in
+      let two : T.recordsAt p + recordSize * m + 1 + 1 ≡ T.recordsAt p + recordSize * m + 2 = omega arith in
       let b : Stands t (T.bodyAt (p .procs) m) (E.block (q .body)) (T.bodyAt (p .procs) m + length (E.block (q .body))) =
       T.body-stands sequential p same m o
       in
       let far : T.bodyAt (p .procs) m < 256 ^ 4 = omega (arith, b .fits, ap length same, sound .size) in
-      let number : Stands t (T.recordsAt p + 6 * m + 2) (bytes 4 (T.bodyAt (p .procs) m)) (T.recordsAt p + 6 * m + 6) =
+      let number : Stands t (T.recordsAt p + recordSize * m + 2) (bytes 4 (T.bodyAt (p .procs) m)) (T.recordsAt p + recordSize * m + recordSize) =
       rw two at (Stands.others (Stands.others s))
       in
       rw e (record {
@@ -146,7 +148,7 @@ module _ {t : List ℕ} {p : Program Plain} (same : t ≡ table sequential p) (s
         params = Stands.first s;
         locals = Stands.first (Stands.others s);
         start =
-            number-at 4 t (T.recordsAt p + 6 * m + 2) ∙ Stands.number-at 4 (T.bodyAt (p .procs) m) number far
+            number-at 4 t (T.recordsAt p + recordSize * m + 2) ∙ Stands.number-at 4 (T.bodyAt (p .procs) m) number far
             ∙ sym (bodyAt-far (p .procs) 0 m ∙ omega arith);
       })
 

@@ -10,8 +10,8 @@ use Rattle.value.specs.Lists.{sum}
 use Rattle.value.specs.Values.{numberAt, cellSize}
 use Rattle.value.specs.declared.Value.{Value}
 use Rattle.format.specs.Syntax.{Expr, Instr, call, select, Block, end, step, _⊕_, Program, Plain, sequential}
-use Rattle.format.specs.Encode.{table}
-use Rattle.format.specs.Rules.{verdict, accepted}
+use Rattle.format.specs.Encode.{table, recordSize, trailerSize}
+use Rattle.format.specs.Rules.{verdict, accepted, limits}
 use Rattle.labels.specs.Spots.{CodeAt}
 use Rattle.format.specs.Laws.Sound.{Sound}
 use Rattle.format.specs.Laws.TablePlaces.{recordsAt}
@@ -31,12 +31,13 @@ use Rattle.decide.specs.Decided.{Act, actOf, actEnd, decided, chosen}
 use Rattle.jumps.specs.Jumps.{positions, Jumps}
 use Rattle.sequential.specs.Frames.{Stacked}
 use Rattle.semantics.specs.Laws.Cells.{shape}
+use Rattle.basics.specs.Sizes.{stackFrames}
 
 -- ---- what a run keeps
 
--- "P not 1..512": so many frames, and none of number 0
+-- "P not 1..512": no procedure runs twice in a stack, so there are at most so many frames
 abbrev pub mostFrames : ℕ
-mostFrames = 512
+mostFrames = limits sequential .procs
 
 -- the table of a program that keeps the rules, where its records begin, its jump table and its first cells
 pub record Loaded (t : List ℕ) (records : ℕ) (js ss : List ℕ) : Type 0 where
@@ -52,7 +53,7 @@ pub record Loaded (t : List ℕ) (records : ℕ) (js ss : List ℕ) : Type 0 whe
 pub record Present (p : Program Plain) (lent ts ls bs cs es : List ℕ) (s : State) (c : C.Config) : Type 0 where
   pub depth : s .depth ≡ length (c .stack)
   pub frames : Stacked (p .procs) ls bs (s .at) (c .stack)
-  pub backs : length bs ≡ mostFrames + 1
+  pub backs : length bs ≡ stackFrames
   pub memory : Holds (c .memory) cs
   pub sizes : shape (c .memory) ≡ p .sizes
   pub todo : c .todo ≡ drop (s .taken) ts
@@ -107,16 +108,16 @@ pub record Recorded (h : ℕ) (es : List ℕ) (n : ℕ) (e : Event) (es′ : Lis
 
 -- there is room for the frame of procedure m above d others, and its record is right
 pub record Enterable (t : List ℕ) (records d m : ℕ) : Type 0 where
-  pub inside : records + 6 * m + 6 ≤ length t
-  pub params : getD t (records + 6 * m) 0 ≤ getD t (records + 6 * m + 1) 0
-  pub locals : getD t (records + 6 * m + 1) 0 ≤ frameWords
+  pub inside : records + recordSize * m + recordSize ≤ length t
+  pub params : getD t (records + recordSize * m) 0 ≤ getD t (records + recordSize * m + 1) 0
+  pub locals : getD t (records + recordSize * m + 1) 0 ≤ frameWords
   pub few : d ≤ mostFrames
 
 -- procedure m began above d frames, the topmost of which goes on at k; its body begins at v
 pub record Enters (t : List ℕ) (records d m k : ℕ) (ls bs ls′ bs′ : List ℕ) (v : ℕ) : Type 0 where
   pub back : bs′ ≡ set bs d k
-  pub clears : Clears ls ls′ (frameWords * d + getD t (records + 6 * m) 0) (frameWords * d + getD t (records + 6 * m + 1) 0)
-  pub start : v ≡ numberAt 4 t (records + 6 * m + 2)
+  pub clears : Clears ls ls′ (frameWords * d + getD t (records + recordSize * m) 0) (frameWords * d + getD t (records + recordSize * m + 1) 0)
+  pub start : v ≡ numberAt 4 t (records + recordSize * m + 2)
 
 -- the state in which the run goes on at k, with d frames and n events
 abbrev pub movedTo : State → ℕ → ℕ → ℕ → State
@@ -180,10 +181,10 @@ ranWith how steps s = record { end = how; steps = steps; taken = s .taken; event
 -- the words of the locals and of the cells, and the positions of the callers, before the first step
 pub record Starting (t : List ℕ) (records : ℕ) (js ss ls bs cs : List ℕ) : Type 0 where
   pub loaded : Loaded t records js ss
-  pub inside : records + 6 ≤ length t
+  pub inside : records + recordSize ≤ length t
   pub zero : (k : ℕ) → getD ls k 0 ≡ 0
   pub long : length ls ≡ localWords
-  pub backs : length bs ≡ mostFrames + 1
+  pub backs : length bs ≡ stackFrames
   pub cells : Holds (fresh (loaded .program .sizes)) cs
 
 -- the run of the definition, with budget n
@@ -218,7 +219,7 @@ pub record Accepted (t : List ℕ) (P M n : ℕ) : Type 0 where
   pub procs : P ≡ length (program .procs)
   pub places : M ≡ length (program .sizes)
   pub cells : n ≡ sum (program .sizes)
-  pub room : 16 + 6 * P + 2 * M ≤ length t
+  pub room : trailerSize + recordSize * P + 2 * M ≤ length t
 
 -- the answer and the lent buffers after the run of it
 pub record Outcomes (t : List ℕ) (P M c : ℕ) (ts : List ℕ) (n h : ℕ) (cs es : List ℕ) (r : RunAnswer) (cs′ es′ : List ℕ) : Type 0 where

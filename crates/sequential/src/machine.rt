@@ -1,25 +1,33 @@
 // The sequential machine: report RR-2017-03, figure 1, with select by a schedule, under a budget.
+use basics::numbers::ASSIGN;
+use basics::numbers::BLOCKED;
+use basics::numbers::CALL;
+use basics::numbers::CELL_WORDS;
+use basics::numbers::END;
+use basics::numbers::FINISHED;
+use basics::numbers::FRAME;
+use basics::numbers::FRAMES;
+use basics::numbers::LOCAL_WORDS;
+use basics::numbers::LONGEST;
+use basics::numbers::READ;
 use basics::numbers::RECORD;
 use basics::numbers::SELECT;
 use basics::numbers::SIZE;
+use basics::numbers::SPENT;
+use basics::numbers::STARTS;
 use basics::numbers::TRAILER;
+use basics::numbers::USED;
+use basics::numbers::WRITE;
 use decide::step;
 use decide::step::Step;
-use engine::ends::BLOCKED;
-use engine::ends::FINISHED;
-use engine::ends::SPENT;
-use engine::ends::USED;
 use engine::evaluate;
 use engine::event;
 use engine::event::Event;
 use engine::locals;
-use engine::locals::FRAME;
 use engine::memory;
-use engine::memory::STARTS;
 use engine::table;
 use engine::word::ZERO;
 use jumps::ways;
-use jumps::ways::POSITIONS;
 use semantics::RunAnswer;
 use value::Value;
 ghost use mathlib.Core.Path.{_≡_};
@@ -30,9 +38,6 @@ ghost use Rattle.value.specs.declared.Value.the-variants.{Whole};
 ghost use Rattle.jumps.specs.Jumps.{positions};
 ghost use Rattle.sequential.specs.Sequential.{mostFrames, eventIn, Recorded, movedTo, selectedTo, Enterable, Enters, Due, CarriesOut};
 ghost use Rattle.sequential.specs.Sequential.{Facing, Faces, UsedUp, ranWith, Starting, Runs, Accepted, Outcomes};
-
-// "P not 1..512": a position for each frame, by the number of frames up to it.
-pub const FRAMES: usize = 513;
 
 // The state of a run beside its arrays: where it goes on, how many frames there are, the thread last selected, the entries taken and
 // the events recorded.
@@ -126,7 +131,7 @@ fn selected(state: State, at: usize, thread: u8) -> State
 fn enter(
     t: &[u8],
     records: usize,
-    words: &mut [u64; locals::WORDS],
+    words: &mut [u64; LOCAL_WORDS],
     back: &mut [u32; FRAMES],
     depth: usize,
     m: usize,
@@ -152,9 +157,9 @@ fn enter(
 fn carry_out(
     t: &[u8],
     records: usize,
-    jumps: &[u16; POSITIONS],
-    words: &mut [u64; locals::WORDS],
-    cells: &mut [u64; memory::WORDS],
+    jumps: &[u16; LONGEST],
+    words: &mut [u64; LOCAL_WORDS],
+    cells: &mut [u64; CELL_WORDS],
     back: &mut [u32; FRAMES],
     events: &mut [u8],
     h: usize,
@@ -221,8 +226,8 @@ fn due(
     t: &[u8],
     schedule: &[u8],
     starts: &[u32; STARTS],
-    words: &mut [u64; locals::WORDS],
-    cells: &[u64; memory::WORDS],
+    words: &mut [u64; LOCAL_WORDS],
+    cells: &[u64; CELL_WORDS],
     state: State,
 ) -> Step
     requires { ⌜ Facing (now t) (now schedule) (now starts) (now words) (now cells) state × (state .at < length (now t))
@@ -238,18 +243,18 @@ fn due(
             let taken = state.taken;
             step::decide_select(t, starts, cells, at, schedule[taken])
         }
-        0x00 => Step::Return,
-        0x20 => step::decide_assign(t, at, evaluate::evaluate(t, words, base, at + 2)),
-        0x21 => {
+        END => Step::Return,
+        ASSIGN => step::decide_assign(t, at, evaluate::evaluate(t, words, base, at + 2)),
+        WRITE => {
             let o = evaluate::evaluate(t, words, base, at + 2);
             let e = evaluate::evaluate(t, words, base, o.next);
             step::decide_write(t, words, base, starts, at, o, e)
         }
-        0x22 => {
+        READ => {
             let o = evaluate::evaluate(t, words, base, at + 3);
             step::decide_read(t, words, base, starts, cells, at, o)
         }
-        0x25 => step::decide_call(t, words, base, at),
+        CALL => step::decide_call(t, words, base, at),
         _ => step::decide_test(evaluate::evaluate(t, words, base, at + 1)),
     }
 }
@@ -284,10 +289,10 @@ fn go(
     t: &[u8],
     records: usize,
     schedule: &[u8],
-    jumps: &[u16; POSITIONS],
+    jumps: &[u16; LONGEST],
     starts: &[u32; STARTS],
-    words: &mut [u64; locals::WORDS],
-    cells: &mut [u64; memory::WORDS],
+    words: &mut [u64; LOCAL_WORDS],
+    cells: &mut [u64; CELL_WORDS],
     back: &mut [u32; FRAMES],
     events: &mut [u8],
     h: usize,
@@ -353,10 +358,10 @@ pub fn run(
         (now (events .entry)) r (now (cells .exit)) (now (events .exit)) ⌝ }
 {
     let records = t.len() - TRAILER - RECORD * procedures - SIZE * locations;
-    let mut positions = [0u16; POSITIONS];
+    let mut positions = [0u16; LONGEST];
     let mut starts = [0u32; STARTS];
-    let mut words = [0u64; locals::WORDS];
-    let mut memory = [ZERO; memory::WORDS];
+    let mut words = [0u64; LOCAL_WORDS];
+    let mut memory = [ZERO; CELL_WORDS];
     let mut back = [0u32; FRAMES];
     ways::fill(t, procedures, &mut positions);
     memory::set_starts(t, records + RECORD * procedures, locations, &mut starts);

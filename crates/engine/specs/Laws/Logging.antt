@@ -8,13 +8,13 @@ use lib.ListN.{length, take, set, length-append, length-set}
 use lib.Seq.{sets, length-sets, take-all, take-append-le, take-nil}
 use lib.Dec.{ltb}
 use borrow.Author.Tests.{ltb-true, ltb-false, lt-ltb, le-ltb, le-leb}
-use Rattle.value.specs.Values.{bytes, withValue}
+use Rattle.value.specs.Values.{bytes, cellSize, withValue}
 use Rattle.value.specs.Laws.Tests.{by-test}
 use Rattle.value.specs.Laws.Lists.{length-over}
 use Rattle.format.specs.Encode.{each}
 use Rattle.format.specs.Laws.Sections.{length-each}
 use Rattle.semantics.specs.Memory.{Event}
-use Rattle.semantics.specs.Buffers.{wayByte, eventBytes, log}
+use Rattle.semantics.specs.Buffers.{wayByte, eventSize, eventBytes, log}
 use Rattle.engine.specs.Events.{withEvent, Logged}
 use Rattle.semantics.specs.Laws.Called.{length-event, length-log}
 use Rattle.engine.specs.Laws.Writing.{each-append, over-more}
@@ -32,22 +32,22 @@ pub logged-more : {es : List ℕ} {evs : List Event} {o o′ : List ℕ} {n : �
     → Logged es (evs ++ (e ∷ [])) o′ (n + 1)
 unfolding withEvent
 logged-more {es} {evs} {o} {o′} {n} e h q = record {
-  bytes = q ∙ by-test (ltb n (length o / 11))
+  bytes = q ∙ by-test (ltb n (length o / eventSize))
       (λ t.
-      let below : n < length es / 11 = rw (logged-long h) at (ltb-true n (length o / 11) t) in
-      let all : take (length es / 11) evs ≡ evs = take-all (length es / 11) evs (omega (arith, h .count)) in
-      let more : take (length es / 11) (evs ++ (e ∷ [])) ≡ evs ++ (e ∷ []) =
-      take-all (length es / 11) (evs ++ (e ∷ [])) (omega (arith, h .count, length-append evs (e ∷ [])))
+      let below : n < length es / eventSize = rw (logged-long h) at (ltb-true n (length o / eventSize) t) in
+      let all : take (length es / eventSize) evs ≡ evs = take-all (length es / eventSize) evs (omega (arith, h .count)) in
+      let more : take (length es / eventSize) (evs ++ (e ∷ [])) ≡ evs ++ (e ∷ []) =
+      take-all (length es / eventSize) (evs ++ (e ∷ [])) (omega (arith, h .count, length-append evs (e ∷ [])))
       in
-      let size : length (each eventBytes evs) ≡ n * 11 = length-each eventBytes 11 length-event evs ∙ omega (arith, h .count) in
+      let size : length (each eventBytes evs) ≡ n * eventSize = length-each eventBytes eventSize length-event evs ∙ omega (arith, h .count) in
       let bytes : each eventBytes (evs ++ (e ∷ [])) ≡ each eventBytes evs ++ eventBytes e =
       each-append eventBytes evs (e ∷ []) ∙ ap (each eventBytes evs ++_) (append-nil (eventBytes e))
       in
       let room : length (each eventBytes evs) + length (eventBytes e) ≤ length es = omega (arith, length-event e) in
       rw (t, more, bytes, ← size, h .bytes, all) (over-more (each eventBytes evs) (eventBytes e) es room))
       (λ t.
-      let above : length es / 11 ≤ length evs = omega (arith, h .count, rw (logged-long h) at (ltb-false n (length o / 11) t)) in
-      rw (t, take-append-le (length es / 11) evs (e ∷ []) above) (h .bytes));
+      let above : length es / eventSize ≤ length evs = omega (arith, h .count, rw (logged-long h) at (ltb-false n (length o / eventSize) t)) in
+      rw (t, take-append-le (length es / eventSize) evs (e ∷ []) above) (h .bytes));
   count = omega (arith, h .count, length-append evs (e ∷ []));
 }
 
@@ -58,20 +58,20 @@ pub two-stored : (o : List ℕ) (i a b : ℕ) → set (set o i a) (i + 1) b ≡ 
 two-stored o i a b = rw add-one
 
 -- an event that fits
-pub event-stored : (o : List ℕ) (n : ℕ) (e : Event) {w : ℕ} {p q r : List ℕ} → n < length o / 11 → w ≡ wayByte (e .way)
-    → p ≡ sets (set (set o (n * 11) (e .thread)) (n * 11 + 1) w) (n * 11 + 2) (bytes 2 (e .place)) → q ≡ sets p (n * 11 + 4) (bytes 2 (e .index))
-    → r ≡ withValue q (n * 11 + 6) (e .value) → r ≡ withEvent o n e
+pub event-stored : (o : List ℕ) (n : ℕ) (e : Event) {w : ℕ} {p q r : List ℕ} → n < length o / eventSize → w ≡ wayByte (e .way)
+    → p ≡ sets (set (set o (n * eventSize) (e .thread)) (n * eventSize + 1) w) (n * eventSize + 2) (bytes 2 (e .place)) → q ≡ sets p (n * eventSize + 4) (bytes 2 (e .index))
+    → r ≡ withValue q (n * eventSize + 6) (e .value) → r ≡ withEvent o n e
 unfolding withEvent
 event-stored o n e {w} {p} {q} {r} h we pe qe re =
-    let i : ℕ = n * 11 in
+    let i : ℕ = n * eventSize in
     let two : i + 2 ≡ suc (suc i) = omega arith in
     let four : i + 4 ≡ suc (suc (suc (suc i))) = omega arith in
     let six : i + 6 ≡ suc (suc (suc (suc (suc (suc i))))) = omega arith in
     let long : length q ≡ length o = ap length qe ∙ rw (length-sets, pe, length-sets, length-set, length-set) in
     re
-    ∙ rw (le-leb (i + 6 + 5) (length q) (omega arith), lt-ltb n (length o / 11) h, qe, pe, we, six, four, two, add-one i)
+    ∙ rw (le-leb (i + 6 + cellSize) (length q) (omega arith), lt-ltb n (length o / eventSize) h, qe, pe, we, six, four, two, add-one i)
 
 -- one that does not
-pub event-past : (o : List ℕ) (n : ℕ) (e : Event) → length o / 11 ≤ n → o ≡ withEvent o n e
+pub event-past : (o : List ℕ) (n : ℕ) (e : Event) → length o / eventSize ≤ n → o ≡ withEvent o n e
 unfolding withEvent
-event-past o n e h = rw (le-ltb n (length o / 11) h)
+event-past o n e h = rw (le-ltb n (length o / eventSize) h)

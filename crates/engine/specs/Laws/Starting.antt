@@ -15,7 +15,7 @@ use Rattle.value.specs.Laws.Bytes.{number-at}
 use Rattle.format.specs.Encode.{each}
 use Rattle.format.specs.Laws.Stands as S
 use Rattle.format.specs.Laws.Stands.{Stands}
-use Rattle.engine.specs.Work.{mostLocations, sizesAt, Starts}
+use Rattle.engine.specs.Work.{mostLocations, startWords, sizesAt, Starts}
 
 -- ---- sizes in a table
 
@@ -54,17 +54,17 @@ next-start ns l = let one : l + 1 ≡ suc l = omega arith in rw one (go ns l)
 
 -- those of the first i locations are set, and so many cells come before the next
 pub record Starting (ns bs : List ℕ) (i n : ℕ) : Type 0 where
-  pub long : length bs ≡ 513
+  pub long : length bs ≡ startWords
   pub right : (k : ℕ) → k < i → getD bs k 0 ≡ sum (take k ns)
   pub next : n ≡ sum (take i ns)
   pub small : n ≤ 2 ^ 16 * i
 
 -- none
-pub starting-none : {ns bs : List ℕ} → length bs ≡ 513 → Starting ns bs 0 0
+pub starting-none : {ns bs : List ℕ} → length bs ≡ startWords → Starting ns bs 0 0
 starting-none e = record { long = e; right = λ k l. absurd (omega arith); next = refl; small = omega arith }
 
 -- the next is set
-set-next : {ns bs : List ℕ} {i n : ℕ} → Starting ns bs i n → i < 513 → (k : ℕ) → k < i + 1 → getD (set bs i n) k 0 ≡ sum (take k ns)
+set-next : {ns bs : List ℕ} {i n : ℕ} → Starting ns bs i n → i < startWords → (k : ℕ) → k < i + 1 → getD (set bs i n) k 0 ≡ sum (take k ns)
 set-next {ns} {bs} {i} {n} s l k m = by-test (eqb k i)
     (λ e. let here : k ≡ i = eqb-true k i e in rw (here, getD-set-same bs i n 0 (omega (arith, s .long))) (s .next))
     (λ e. let other = eqb-false k i e in getD-set-other bs i k n 0 other ∙ s .right k (omega arith))
@@ -83,7 +83,7 @@ starting-more t at m {bs} {i} {n} {w} s l h q f =
     }
 
 -- past the last location
-pub starting-past : (t : List ℕ) (at m : ℕ) {bs : List ℕ} {i n : ℕ} → Starting (sizesAt t at m) bs i n → m ≤ i → i < 513
+pub starting-past : (t : List ℕ) (at m : ℕ) {bs : List ℕ} {i n : ℕ} → Starting (sizesAt t at m) bs i n → m ≤ i → i < startWords
     → Starting (sizesAt t at m) (set bs i n) (i + 1) n
 starting-past t at m {bs} {i} {n} s h l =
     let ns : List ℕ = sizesAt t at m in
@@ -96,7 +96,7 @@ starting-past t at m {bs} {i} {n} s h l =
     }
 
 -- all
-pub starting-all : (t : List ℕ) (at m : ℕ) {bs : List ℕ} {i n r : ℕ} → Starting (sizesAt t at m) bs i n → m ≤ mostLocations → 513 ≤ i → r ≡ n
+pub starting-all : (t : List ℕ) (at m : ℕ) {bs : List ℕ} {i n r : ℕ} → Starting (sizesAt t at m) bs i n → m ≤ mostLocations → startWords ≤ i → r ≡ n
     → Starts (sizesAt t at m) bs r
 starting-all t at m {i = i} s h l e =
     let ns : List ℕ = sizesAt t at m in

@@ -72,7 +72,7 @@ module _ {cs : List ℕ} {n : ℕ} {o : List ℕ} where
   writing-none = record { within = omega arith; long = refl; written = λ η h e l. refl }
 
   -- one more
-  pub writing-more : {o′ o″ : List ℕ} {i w : ℕ} → Writing cs n o o′ i → i < n → w ≡ getD cs i 0 → WritesOne w o′ (i * 5) o″ → length o″ ≡ length o′
+  pub writing-more : {o′ o″ : List ℕ} {i w : ℕ} → Writing cs n o o′ i → i < n → w ≡ getD cs i 0 → WritesOne w o′ (i * cellSize) o″ → length o″ ≡ length o′
       → Writing cs n o o″ (i + 1)
   writing-more {o′} {o″} {i} {w} W l q O s = record {
     within = omega arith;
@@ -84,16 +84,16 @@ module _ {cs : List ℕ} {n : ℕ} {o : List ℕ} where
         let below : i < length vs = omega arith in
         let front : List ℕ = each cellBytes (take i vs) in
         let value : held w ≡ is v = rw q (h .each i below ∙ at-getD vs i d below) in
-        let size : length front ≡ i * 5 =
+        let size : length front ≡ i * cellSize =
         length-each cellBytes cellSize length-cell (take i vs) ∙ rw (length-take-le i vs (omega arith)) (omega arith)
         in
-        let fits : i * 5 + 5 ≤ length o′ = omega (arith, W .long) in
+        let fits : i * cellSize + cellSize ≤ length o′ = omega (arith, W .long) in
         let next : take (i + 1) vs ≡ take i vs ++ (v ∷ []) = let one : i + 1 ≡ suc i = omega arith in rw one (take-suc vs i d below) in
         let all : each cellBytes (take (i + 1) vs) ≡ front ++ cellBytes v =
         rw (next, each-append cellBytes (take i vs) (v ∷ []), append-nil (cellBytes v))
         in
         O .written v value
-        ∙ rw (le-leb (i * 5 + 5) (length o′) fits, all, ← size, W .written η h e r)
+        ∙ rw (le-leb (i * cellSize + cellSize) (length o′) fits, all, ← size, W .written η h e r)
         (over-more front (cellBytes v) o (omega (arith, length-cell v)));
   }
 

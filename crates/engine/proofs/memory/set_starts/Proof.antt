@@ -1,7 +1,7 @@
 -- `engine::memory::set_starts` meets its contract.
 use borrow.Author.Needs.{needs}
 use Prim.Native.Nat.{_-_, _≤_}
-use Rattle.engine.specs.Work.{sizesAt}
+use Rattle.engine.specs.Work.{startWords, sizesAt}
 use Rattle.engine.specs.Laws.Starting.{Starting, starting-ways}
 use Rattle.engine.proofs.memory.set_starts.Statement.{statement}
 use Rattle.engine.proofs.memory.set_starts.Tie as tie
@@ -13,10 +13,10 @@ abbrev μ-loop : tie.MeasureT-loop
 μ-loop t at count starts₀ total₀ i₀ starts total i = count - i
 
 abbrev Inv-loop2 : tie.InvT-loop2
-Inv-loop2 t at count starts₀ total i₀ starts i = Starting (sizesAt t at count) starts i total × (count ≤ i) × (i ≤ 513)
+Inv-loop2 t at count starts₀ total i₀ starts i = Starting (sizesAt t at count) starts i total × (count ≤ i) × (i ≤ startWords)
 
 abbrev μ-loop2 : tie.MeasureT-loop2
-μ-loop2 t at count starts₀ total i₀ starts i = 513 - i
+μ-loop2 t at count starts₀ total i₀ starts i = startWords - i
 
 pub set-starts-spec : {M : Type 1} → statement M
 set-starts-spec =
