@@ -15,7 +15,7 @@ use Rattle.decide.specs.declared.step.Step.the-variants as S
 use Rattle.atomic.specs.declared.block.Done.the-variants.{To, Blocked}
 use Rattle.engine.specs.declared.event.Event as E
 use Rattle.semantics.specs.Memory.{bound}
-use Rattle.engine.specs.Work.{frameWords, localWords, cellWords, Puts}
+use Rattle.engine.specs.Work.{localWords, cellWords, Puts}
 use Rattle.engine.specs.Events.{eventOf, withEvent}
 use Rattle.atomic.specs.Doing.{Works, stops, goes, carried, StepFits, endOf, Carrying, Carries}
 use Rattle.semantics.specs.Laws.Cells.{shape-stored}

@@ -6,24 +6,17 @@ use lib.ListN.{length, getD}
 use Rattle.value.specs.Maybe.{is}
 use Rattle.value.specs.Lists.{at}
 use Rattle.value.specs.Laws.Lists.{In}
-use Rattle.format.specs.Syntax.{Proc, Program, Plain}
+use Rattle.format.specs.Syntax.{Proc, Program, Plain, concurrent}
 use Rattle.format.specs.Labels.{labelled, first, endsOf}
-use Rattle.format.specs.Rules.{calleesOf}
+use Rattle.format.specs.Rules.{limits, calleesOf}
+pub use Rattle.basics.specs.Sizes.{threadFrames, mostThreads, allFrames}
 use Rattle.labels.specs.Laws.Spots.{Remains}
 use Rattle.semantics.specs.Step.{Frame, Stack}
 use Rattle.engine.specs.Work.{frameWords, Framed}
 
 -- "P not 1..16": no procedure runs twice in a thread, so a thread has at most so many frames
 abbrev pub mostFrames : ℕ
-mostFrames = 16
-
--- there is room for one more, for the arguments of a call
-abbrev pub threadFrames : ℕ
-threadFrames = 17
-
--- "T not 1..8"
-abbrev pub mostThreads : ℕ
-mostThreads = 8
+mostFrames = limits concurrent .procs
 
 module _ (p : Program Plain) where
   -- a frame goes on at label l, and its locals are the words of frame k
@@ -57,6 +50,6 @@ module _ (p : Program Plain) where
   -- each thread has its stack
   pub record Threaded (labels depths ls : List ℕ) (ts : List (Stack ℕ)) : Type 0 where
     pub count : length ts ≡ length (p .mains)
-    pub labels-long : length labels ≡ mostThreads * threadFrames
+    pub labels-long : length labels ≡ allFrames
     pub depths-long : length depths ≡ mostThreads
     pub each : (t : ℕ) (s : Stack ℕ) → at ts t ≡ is s → ThreadAt labels depths ls t s

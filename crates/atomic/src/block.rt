@@ -1,17 +1,19 @@
 // Atomic blocks: a whole one is a step. Block and instruction functions call each other, the allowed depth falling.
+use basics::numbers::CELL_WORDS;
+use basics::numbers::END;
+use basics::numbers::LOCAL_WORDS;
+use basics::numbers::NESTING;
+use basics::numbers::STARTS;
 use decide::step::Step;
 use decide::step::decide;
 use engine::event;
 use engine::event::Event;
 use engine::locals;
 use engine::memory;
-use engine::memory::STARTS;
 use labels::count::count_block;
 ghost use mathlib.Core.Path.{_≡_};
+ghost use Rattle.format.specs.Decode.{maxNesting};
 ghost use Rattle.atomic.specs.Doing.{Carrying, Carries, Doing, Does, DoingI, DoesI, DoesWhole};
-
-// "depth at most 16".
-const DEPTH: u8 = 16;
 
 // How a block or an instruction goes: where it ends and how many events there are then, or it blocks.
 pub enum Done {
@@ -24,8 +26,8 @@ pub fn carry_out(
     step: Step,
     thread: u8,
     base: usize,
-    words: &mut [u64; locals::WORDS],
-    cells: &mut [u64; memory::WORDS],
+    words: &mut [u64; LOCAL_WORDS],
+    cells: &mut [u64; CELL_WORDS],
     events: &mut [u8],
     count: usize,
 ) -> Done
@@ -101,8 +103,8 @@ fn do_block(
     thread: u8,
     base: usize,
     starts: &[u32; STARTS],
-    words: &mut [u64; locals::WORDS],
-    cells: &mut [u64; memory::WORDS],
+    words: &mut [u64; LOCAL_WORDS],
+    cells: &mut [u64; CELL_WORDS],
     events: &mut [u8],
     count: usize,
 ) -> Done
@@ -113,7 +115,7 @@ fn do_block(
 {
     let mut i = at;
     let mut n = count;
-    while t[i] != 0 {
+    while t[i] != END {
         let Done::To { next, events: k } = do_instr(
             t,
             i,
@@ -145,8 +147,8 @@ fn do_instr(
     thread: u8,
     base: usize,
     starts: &[u32; STARTS],
-    words: &mut [u64; locals::WORDS],
-    cells: &mut [u64; memory::WORDS],
+    words: &mut [u64; LOCAL_WORDS],
+    cells: &mut [u64; CELL_WORDS],
     events: &mut [u8],
     count: usize,
 ) -> Done
@@ -206,13 +208,13 @@ pub fn do_atomic(
     thread: u8,
     base: usize,
     starts: &[u32; STARTS],
-    words: &mut [u64; locals::WORDS],
-    cells: &mut [u64; memory::WORDS],
+    words: &mut [u64; LOCAL_WORDS],
+    cells: &mut [u64; CELL_WORDS],
     events: &mut [u8],
     count: usize,
 ) -> Done
-    requires { ⌜ Doing (now t) thread base (now starts) at 16 (now words) (now cells) (now events) count ⌝ }
-    ensures { λ r. ⌜ DoesWhole (now (t .entry)) thread base (now (starts .entry)) at 16
+    requires { ⌜ Doing (now t) thread base (now starts) at maxNesting (now words) (now cells) (now events) count ⌝ }
+    ensures { λ r. ⌜ DoesWhole (now (t .entry)) thread base (now (starts .entry)) at maxNesting
         (now (words .entry)) (now (cells .entry)) (now (events .entry)) count
         (now (words .exit)) (now (cells .exit)) (now (events .exit)) r ⌝ }
 {
@@ -222,7 +224,7 @@ pub fn do_atomic(
     let tried = do_block(
         t,
         at,
-        DEPTH,
+        NESTING,
         thread,
         base,
         starts,
@@ -237,7 +239,7 @@ pub fn do_atomic(
     do_block(
         t,
         at,
-        DEPTH,
+        NESTING,
         thread,
         base,
         starts,

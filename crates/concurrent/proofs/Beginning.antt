@@ -22,8 +22,9 @@ use Rattle.format.specs.Laws.Sound.{Sound}
 use Rattle.labels.specs.Laws.Spots.{remains-body}
 use Rattle.semantics.specs.Step.{Stack, entered}
 use Rattle.semantics.specs.Threads as P
+use Rattle.basics.specs.Sizes.{boundWords}
 use Rattle.engine.specs.Work.{frameWords, localWords}
-use Rattle.atomic.specs.Threaded.{threadFrames, mostThreads, FrameAt, Threaded}
+use Rattle.atomic.specs.Threaded.{threadFrames, mostThreads, FrameAt, Threaded, allFrames}
 use Rattle.concurrent.specs.Concurrent.{AllDone, MainsAt, Begins}
 use Rattle.atomic.specs.Laws.Threading.{few-locals}
 use Rattle.engine.specs.Laws.Work.{beside-same, framed-none, framed-entered}
@@ -88,7 +89,7 @@ done-of {ts = ts} false h e d =
 
 module _ {t : List ℕ} {i : ℕ} {bounds : List ℕ} where
   -- the loop begins
-  pub begins-none : {labels depths : List ℕ} → length labels ≡ mostThreads * threadFrames → length depths ≡ mostThreads
+  pub begins-none : {labels depths : List ℕ} → length labels ≡ allFrames → length depths ≡ mostThreads
       → Begins t i 0 bounds labels depths
   begins-none e f = record { labels-long = e; depths-long = f; label = λ k l. absurd (omega arith); depth = λ k l. absurd (omega arith) }
 
@@ -113,7 +114,7 @@ module _ {t : List ℕ} {i : ℕ} {bounds : List ℕ} where
     }
 
     -- its main is a procedure
-    pub begins-main : {N m : ℕ} → MainsAt t i N → n < N → m ≡ numberAt 2 t (i + 2 * n) → 2 * m < 32
+    pub begins-main : {N m : ℕ} → MainsAt t i N → n < N → m ≡ numberAt 2 t (i + 2 * n) → 2 * m < boundWords
     begins-main M l e = omega (arith, M .below n l)
 
     -- all

@@ -15,7 +15,7 @@ use Rattle.value.specs.Laws.Tests.{by-test, both-passed, never}
 use Rattle.value.specs.Laws.Lists.{Each, each-so, each-at, at-below, at-getD, all-passed}
 use Rattle.value.specs.Laws.Bytes.{Bytes, number-at}
 use Rattle.format.specs.Syntax.{Program, Plain, concurrent}
-use Rattle.format.specs.Encode.{each, block, bodiesOf, head, heads, trailer, trailerOf, table}
+use Rattle.format.specs.Encode.{each, block, bodiesOf, head, heads, trailer, trailerOf, table, recordSize, trailerSize}
 use Rattle.format.specs.Encode as E
 use Rattle.labels.specs.LabelMap.{Mapped}
 use Rattle.format.specs.declared.ReadAnswer.{ReadAnswer}
@@ -69,19 +69,19 @@ module _ {t : List ℕ} {P M T c : ℕ} (a : Accepted t P M T c) where
       W .gives (a .program) formed (sym (a .procs)) (a .sound .labels) .0
 
   -- where its mains stand
-  mains-at : length t - 16 - 2 * T ≡ recordsAt (a .program) + 6 * length (a .program .procs) + 2 * length (a .program .sizes)
+  mains-at : length t - trailerSize - 2 * T ≡ recordsAt (a .program) + recordSize * length (a .program .procs) + 2 * length (a .program .sizes)
   mains-at = omega (arith, trailer-at concurrent (a .program) (a .same), length-table concurrent (a .program) (a .same), a .threads)
 
   -- the main of thread k
-  main-read : (k m : ℕ) → at (a .program .mains) k ≡ is m → numberAt 2 t (length t - 16 - 2 * T + 2 * k) ≡ m
+  main-read : (k m : ℕ) → at (a .program .mains) k ≡ is m → numberAt 2 t (length t - trailerSize - 2 * T + 2 * k) ≡ m
   main-read k m e =
       let found = main-at (a .sound) k m e in
       let low : m < 256 ^ 2 = omega (arith, at-below (a .program .procs) m (found .1), a .sound .procs .high) in
-      rw mains-at (number-at 2 t (recordsAt (a .program) + 6 * length (a .program .procs) + 2 * length (a .program .sizes) + 2 * k)
+      rw mains-at (number-at 2 t (recordsAt (a .program) + recordSize * length (a .program .procs) + 2 * length (a .program .sizes) + 2 * k)
       ∙ S.number-at 2 m (main-stands concurrent (a .program) (a .same) k e) low)
 
   -- each is a procedure's number
-  pub accepted-mains : MainsAt t (length t - 16 - 2 * T) T
+  pub accepted-mains : MainsAt t (length t - trailerSize - 2 * T) T
   accepted-mains = record {
     inside = omega (arith, a .room);
     few = omega (arith, a .threads, a .sound .threads .high);
@@ -95,7 +95,7 @@ module _ {t : List ℕ} {P M T c : ℕ} (a : Accepted t P M T c) where
   }
 
   -- its sizes stand before them
-  sizes-at : sizesAt t (length t - 16 - 2 * T - 2 * M) M ≡ a .program .sizes
+  sizes-at : sizesAt t (length t - trailerSize - 2 * T - 2 * M) M ≡ a .program .sizes
   sizes-at =
       let p : Program Plain = a .program in
       let bodies : List ℕ = each block (bodiesOf (p .procs)) in
@@ -106,8 +106,8 @@ module _ {t : List ℕ} {P M T c : ℕ} (a : Accepted t P M T c) where
       let numbers : Stands t (0 + length bodies + length records) (sizes ++ mains) _ =
       back records (sizes ++ mains) (back bodies (records ++ (sizes ++ mains)) all)
       in
-      let long : length records ≡ 6 * length (heads 0 (p .procs)) = length-each head 6 (λ h. refl) (heads 0 (p .procs)) in
-      let place : length t - 16 - 2 * T - 2 * M ≡ 0 + length bodies + length records =
+      let long : length records ≡ recordSize * length (heads 0 (p .procs)) = length-each head recordSize (λ h. refl) (heads 0 (p .procs)) in
+      let place : length t - trailerSize - 2 * T - 2 * M ≡ 0 + length bodies + length records =
       omega (arith, mains-at, length-heads 0 (p .procs), a .places)
       in
       let low : Each (λ n. n < 2 ^ 16) (p .sizes) = each-so (λ n w. omega (arith, w .high)) (p .sizes) (a .sound .sizes) in
@@ -121,8 +121,8 @@ zeros n k = by-test (ltb k n)
 
 -- the arrays before the first step
 pub accepted-starting : {t : List ℕ} {P M T c n l : ℕ} {ts map bounds ss labels depths : List ℕ} → Accepted t P M T c → Entries T ts
-    → MapsLabels t P map bounds l → Starts (sizesAt t (length t - 16 - 2 * T - 2 * M) M) ss n
-    → Begins t (length t - 16 - 2 * T) T bounds labels depths
+    → MapsLabels t P map bounds l → Starts (sizesAt t (length t - trailerSize - 2 * T - 2 * M) M) ss n
+    → Begins t (length t - trailerSize - 2 * T) T bounds labels depths
     → Starting t T ts map bounds ss labels depths (replicate localWords 0) (replicate cellWords (2 ^ 32))
 accepted-starting {t} {T = T} {bounds = bounds} {ss} {labels} {depths} a es W S B = record {
   loaded = record {
@@ -136,7 +136,7 @@ accepted-starting {t} {T = T} {bounds = bounds} {ss} {labels} {depths} a es W S 
   entries = es;
   threads =
       starts-threaded (a .sound) (accepted-map a W) (main-read a)
-      (subst (λ (n : ℕ). Begins t (length t - 16 - 2 * T) n bounds labels depths) (a .threads) B) (zeros localWords)
+      (subst (λ (n : ℕ). Begins t (length t - trailerSize - 2 * T) n bounds labels depths) (a .threads) B) (zeros localWords)
       (length-replicate {A = ℕ} localWords 0);
   long = length-replicate {A = ℕ} localWords 0;
   cells = holds-fresh (a .program .sizes) (omega (arith, a .sound .cells));
@@ -166,8 +166,8 @@ outcome-of {p} {c} {ts} {cs} {es} {os = os} {es′} {r} size room z W =
 
 -- of the whole call
 pub run-outcome : {t : List ℕ} {P M T c n l : ℕ} {ts map bounds ss labels depths cs es ms os es′ : List ℕ} {r : Ran}
-    → MapsLabels t P map bounds l → Starts (sizesAt t (length t - 16 - 2 * T - 2 * M) M) ss n
-    → Begins t (length t - 16 - 2 * T) T bounds labels depths
+    → MapsLabels t P map bounds l → Starts (sizesAt t (length t - trailerSize - 2 * T - 2 * M) M) ss n
+    → Begins t (length t - trailerSize - 2 * T) T bounds labels depths
     → Runs t T ts map bounds ss labels depths (replicate localWords 0) (replicate cellWords (2 ^ 32)) es ms es′ r → Writes ms c cs os
     → Outcomes t P M T c ts cs es (record { number = 0; end = r .end; steps = r .taken; unused = length ts - r .taken; events = r .events }) os es′
 unfolding accepted-starting

@@ -7,8 +7,9 @@ use mathlib.Core.Bool.{Bool, true, false}
 use lib.ListN.{length, getD, drop, length-drop}
 use lib.Seq.{drop-length, drop-cons}
 use Rattle.value.specs.Maybe.{is}
-use Rattle.format.specs.Syntax.{Program, Plain}
+use Rattle.format.specs.Syntax.{Program, Plain, concurrent}
 use Rattle.format.specs.Labels.{labelled}
+use Rattle.format.specs.Rules.{limits}
 use Rattle.semantics.specs.Memory.{Event}
 use Rattle.semantics.specs.Threads.{End, finished, used, blocked}
 use Rattle.semantics.specs.Threads as P
@@ -38,7 +39,7 @@ pub record Going (t : List ℕ) (T : ℕ) (ts map bounds ss labels₀ depths₀ 
   pub start : Starting t T ts map bounds ss labels₀ depths₀ ls₀ cs₀
   pub from : (q : Starting t T ts map bounds ss labels₀ depths₀ ls₀ cs₀) → GoingFrom (q .loaded .program) ts lent labels depths ls cs es k n
   pub low : k ≤ length ts
-  pub counted : n ≤ 16384 * k
+  pub counted : n ≤ limits concurrent .bytes * k
 
 -- the beginning
 pub going-start : {t : List ℕ} {T : ℕ} {ts map bounds ss labels depths ls cs es : List ℕ} → Starting t T ts map bounds ss labels depths ls cs

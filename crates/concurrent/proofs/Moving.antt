@@ -5,14 +5,17 @@ use mathlib.Core.Path.{_≡_, subst}
 use mathlib.Core.List.{List}
 use mathlib.Core.Bool.{Bool, true, false}
 use lib.ListN.{getD, set}
+use Rattle.format.specs.Rules.{limits}
+use Rattle.format.specs.Syntax.{concurrent}
+use Rattle.basics.specs.Sizes.{boundWords}
 use Rattle.concurrent.specs.declared.threads.Turn.{Turn}
 use Rattle.concurrent.specs.declared.threads.Turn.the-variants as T
 use Rattle.concurrent.specs.declared.threads.Stepped.the-variants.{To, Blocked}
 use Rattle.concurrent.specs.Stepping.{testLabel, Callee, Moving, Moves}
 
 module _ {turn : Turn} {i top : ℕ} {labels depths : List ℕ} {m : ℕ} (e : turn ≡ T.Call m) (h : Moving turn i top labels depths) where
-  -- the procedure that is called is one of 16
-  few-callees : m < 16
+  -- there can be such a procedure
+  few-callees : m < limits concurrent .procs
   few-callees = subst Callee e (h .callee)
 
   -- so its row is among the bounds
@@ -20,7 +23,7 @@ module _ {turn : Turn} {i top : ℕ} {labels depths : List ℕ} {m : ℕ} (e : t
   callee-row = omega (arith, few-callees)
 
   -- with both columns
-  pub callee-there : (c : ℕ) → c < 2 → 2 * m + c < 32
+  pub callee-there : (c : ℕ) → c < 2 → 2 * m + c < boundWords
   callee-there c k = omega (arith, few-callees)
 
   -- numbers on the way to it fit

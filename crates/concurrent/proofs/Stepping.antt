@@ -12,6 +12,7 @@ use Rattle.value.specs.Laws.Maybes.{is-inj, missing}
 use Rattle.value.specs.Laws.Lists.{at-below, at-getD}
 use Rattle.format.specs.Syntax.{Instr, Block, end, step, Proc, Program, Plain}
 use Rattle.format.specs.Labels.{labelled, first, endsOf, bodyOf}
+use Rattle.format.specs.Rules.{maxLabels}
 use Rattle.labels.specs.Laws.Spots.{Remains, remains-body, remains-after}
 use Rattle.concurrent.specs.declared.threads.Turn.{Turn}
 use Rattle.concurrent.specs.declared.threads.Turn.the-variants as T
@@ -21,14 +22,15 @@ use Rattle.semantics.specs.Memory.{Env, Event}
 use Rattle.semantics.specs.Step.{Frame, Stack, Moved, entered}
 use Rattle.semantics.specs.Threads as P
 use Rattle.semantics.specs.Threads.{Atomic}
-use Rattle.engine.specs.Work.{Beside}
+use Rattle.engine.specs.Work.{Beside, frameWords}
 use Rattle.engine.specs.Events.{Logged}
 use Rattle.decide.specs.Decided.{branch}
 use Rattle.atomic.specs.Doing.{Works}
-use Rattle.atomic.specs.Threaded.{threadFrames, FrameAt, Linked, Threaded}
+use Rattle.atomic.specs.Threaded.{threadFrames, FrameAt, Linked, Threaded, allFrames, mostFrames, mostThreads}
 use Rattle.concurrent.specs.Turning.{Turning, codeOf, Turns}
 use Rattle.concurrent.specs.Turning as U
-use Rattle.concurrent.specs.Stepping.{Stepping, Went, Stays, Answers, Steps, testLabel, labelsAfter, depthsAfter, answerOf, Callee, Moving, Moves}
+use Rattle.concurrent.specs.Stepping.{Stepping, Went, Stays, Answers, Steps, testLabel, labelsAfter, depthsAfter, answerOf, Callee}
+use Rattle.concurrent.specs.Stepping.{Moving, Moves}
 use Rattle.semantics.specs.Laws.Shapes.{thread-shape}
 use Rattle.atomic.specs.Laws.Standing.{LabelAt, label-at}
 use Rattle.concurrent.specs.Laws.Leading.{labelAfter, remains-branch}
@@ -70,13 +72,13 @@ entered-long q vs h e =
 
 -- its number
 abbrev topOf : ℕ → List ℕ → ℕ
-topOf thread depths = 17 * thread + getD depths thread 0 - 1
+topOf thread depths = threadFrames * thread + getD depths thread 0 - 1
 
--- it is one of all, and its label is one of 400
+-- it is one of all, and so is its label
 pub record Small (thread : ℕ) (labels depths : List ℕ) : Type 0 where
-  pub depth : getD depths thread 0 ≤ 16
-  pub top : 17 * thread + getD depths thread 0 - 1 < 136
-  pub label : getD labels (17 * thread + getD depths thread 0 - 1) 0 ≤ 400
+  pub depth : getD depths thread 0 ≤ mostFrames
+  pub top : threadFrames * thread + getD depths thread 0 - 1 < allFrames
+  pub label : getD labels (threadFrames * thread + getD depths thread 0 - 1) 0 ≤ maxLabels
 
 module _ {t map bounds ss : List ℕ} {thread : ℕ} {labels depths ls cs o : List ℕ} {n : ℕ} where
   -- a thread that is not finished has one
@@ -85,12 +87,12 @@ module _ {t map bounds ss : List ℕ} {thread : ℕ} {labels depths ls cs o : Li
     pub below : Stack ℕ
     pub found : at (h .state .threads) thread ≡ is (frame ∷ below)
     pub depth : getD depths thread 0 ≡ length below + 1
-    pub there : thread < 8
-    pub few : length below < 16
-    pub top : topOf thread depths ≡ 17 * thread + length below
-    pub here : FrameAt (h .loaded .program) ls (getD labels (17 * thread + length below) 0) (17 * thread + length below) frame
+    pub there : thread < mostThreads
+    pub few : length below < mostFrames
+    pub top : topOf thread depths ≡ threadFrames * thread + length below
+    pub here : FrameAt (h .loaded .program) ls (getD labels (threadFrames * thread + length below) 0) (threadFrames * thread + length below) frame
     pub linked : Linked (h .loaded .program) (frame ∷ below)
-    pub label : LabelAt t map (h .loaded .program) (frame .proc) (getD labels (17 * thread + length below) 0) (frame .code)
+    pub label : LabelAt t map (h .loaded .program) (frame .proc) (getD labels (threadFrames * thread + length below) 0) (frame .code)
 
   -- the stack of the thread
   stacked : (h : Stepping t map bounds ss thread labels depths ls cs o n) → (s : Stack ℕ) × (at (h .state .threads) thread ≡ is s)
@@ -128,8 +130,8 @@ module _ {t map bounds ss : List ℕ} {thread : ℕ} {labels depths ls cs o : Li
   handOf h u = record { env = u .frame .env; memory = h .state .memory; events = h .so-far }
 
   -- the frame of number k takes a turn
-  turn-at : (h : Stepping t map bounds ss thread labels depths ls cs o n) (u : Uppermost h) (k : ℕ) → k ≡ 17 * thread + length (u .below)
-      → Turning t thread (32 * k) ss (getD map (4 * getD labels k 0) 0) ls cs o n
+  turn-at : (h : Stepping t map bounds ss thread labels depths ls cs o n) (u : Uppermost h) (k : ℕ) → k ≡ threadFrames * thread + length (u .below)
+      → Turning t thread (frameWords * k) ss (getD map (4 * getD labels k 0) 0) ls cs o n
   turn-at h u k e = record {
     p = h .loaded .program;
     m = u .frame .proc;
@@ -152,7 +154,7 @@ module _ {t map bounds ss : List ℕ} {thread : ℕ} {labels depths ls cs o : Li
 
   -- the uppermost one does
   pub step-turning : Stepping t map bounds ss thread labels depths ls cs o n → (getD depths thread 0 ≡ 0 → ⊥)
-      → Turning t thread (32 * topOf thread depths) ss (getD map (4 * getD labels (topOf thread depths) 0) 0) ls cs o n
+      → Turning t thread (frameWords * topOf thread depths) ss (getD map (4 * getD labels (topOf thread depths) 0) 0) ls cs o n
   step-turning h z = turn-at h (uppermost h z) (topOf thread depths) (uppermost h z .top)
 
 -- ---- what each turn is worth
@@ -166,20 +168,21 @@ module _ {t map bounds ss : List ℕ} {thread : ℕ} {labels depths ls cs o : Li
 
   -- the frame's number
   abbrev top : ℕ
-  top = 17 * thread + length (u .below)
+  top = threadFrames * thread + length (u .below)
 
   -- what the frame's code does above the frames below
   abbrev does : Moved ℕ → Type 0
   does r = codeOf program thread (u .frame .proc) (u .frame .code) (handOf h u) (u .below) ≡ is r
 
   -- the words of its frame and of the one above
-  wide : {ls′ : List ℕ} → Beside ls ls′ (32 * top) (32 * top + 32 + 32) → Beside ls ls′ (32 * top) (32 * (top + 2))
+  wide : {ls′ : List ℕ} → Beside ls ls′ (frameWords * top) (frameWords * top + frameWords + frameWords)
+      → Beside ls ls′ (frameWords * top) (frameWords * (top + 2))
   wide W = beside-wide W (omega arith) (omega arith)
 
-  module _ {ls′ cs′ o′ : List ℕ} (W : Beside ls ls′ (32 * top) (32 * top + 32 + 32)) where
+  module _ {ls′ cs′ o′ : List ℕ} (W : Beside ls ls′ (frameWords * top) (frameWords * top + frameWords + frameWords)) where
     -- what is present after a step
     present-then : {labels′ depths′ : List ℕ} {k : ℕ} (r : Moved ℕ) (b : Atomic) → does r → r .memory ≡ b .memory → b .events ≡ h .so-far ++ r .events
-        → Works (32 * top) ss (h .lent) ls′ cs′ o′ k b → Threaded program labels′ depths′ ls′ (set (h .state .threads) thread (r .stack))
+        → Works (frameWords * top) ss (h .lent) ls′ cs′ o′ k b → Threaded program labels′ depths′ ls′ (set (h .state .threads) thread (r .stack))
         → k ≤ n + length t → Went h labels′ depths′ ls′ cs′ o′ k
     present-then {k = k} r b d m log w threads few = record {
       step = record { state = record { threads = set (h .state .threads) thread (r .stack); memory = r .memory }; events = r .events };
@@ -195,8 +198,8 @@ module _ {t map bounds ss : List ℕ} {thread : ℕ} {labels depths ls cs o : Li
     }
 
     -- the frame with other code and locals
-    frame-on : {l : ℕ} (b : Atomic) (rest : Block ℕ) {k : ℕ} → Works (32 * top) ss (h .lent) ls′ cs′ o′ k b → length (b .env) ≡ length (u .frame .env)
-        → Remains (labelled program .procs) (u .frame .proc) rest → l ≡ first (endsOf program (u .frame .proc)) rest
+    frame-on : {l : ℕ} (b : Atomic) (rest : Block ℕ) {k : ℕ} → Works (frameWords * top) ss (h .lent) ls′ cs′ o′ k b
+        → length (b .env) ≡ length (u .frame .env) → Remains (labelled program .procs) (u .frame .proc) rest → l ≡ first (endsOf program (u .frame .proc)) rest
         → FrameAt program ls′ l top (record { proc = u .frame .proc; env = b .env; code = rest })
     frame-on b rest w same r e = record {
       remains = r;
@@ -208,8 +211,8 @@ module _ {t map bounds ss : List ℕ} {thread : ℕ} {labels depths ls cs o : Li
     -- the code goes on
     goes-on : {labels′ : List ℕ} {k : ℕ} (l : ℕ) (b : Atomic) (new : List Event) (rest : Block ℕ)
         → does (record { stack = record { proc = u .frame .proc; env = b .env; code = rest } ∷ u .below; memory = b .memory; events = new })
-        → b .events ≡ h .so-far ++ new → Works (32 * top) ss (h .lent) ls′ cs′ o′ k b → length (b .env) ≡ length (u .frame .env)
-        → Remains (labelled program .procs) (u .frame .proc) rest → l ≡ first (endsOf program (u .frame .proc)) rest → labels′ ≡ set labels top l
+        → b .events ≡ h .so-far ++ new → Works (frameWords * top) ss (h .lent) ls′ cs′ o′ k b
+        → length (b .env) ≡ length (u .frame .env) → Remains (labelled program .procs) (u .frame .proc) rest → l ≡ first (endsOf program (u .frame .proc)) rest → labels′ ≡ set labels top l
         → k ≤ n + length t → Went h labels′ depths ls′ cs′ o′ k
     goes-on l b new rest d log w same r e L few =
         let f : Frame ℕ = record { proc = u .frame .proc; env = b .env; code = rest } in
@@ -219,13 +222,13 @@ module _ {t map bounds ss : List ℕ} {thread : ℕ} {labels depths ls cs o : Li
         few
 
     -- the threads, where the frame stays
-    threads-still : {k : ℕ} → Works (32 * top) ss (h .lent) ls′ cs′ o′ k (handOf h u) → Threaded program labels depths ls′ (h .state .threads)
+    threads-still : {k : ℕ} → Works (frameWords * top) ss (h .lent) ls′ cs′ o′ k (handOf h u) → Threaded program labels depths ls′ (h .state .threads)
     threads-still w =
         threaded-still (h .loaded .sound) thread (u .frame) (u .below) (h .present .threads) (u .found) (wide W)
         (record { remains = u .here .remains; label = u .here .label; framed = w .framed; full = u .here .full })
 
     -- the frame is left
-    comes-back : {depths′ : List ℕ} → u .frame .code ≡ end → Works (32 * top) ss (h .lent) ls′ cs′ o′ n (handOf h u)
+    comes-back : {depths′ : List ℕ} → u .frame .code ≡ end → Works (frameWords * top) ss (h .lent) ls′ cs′ o′ n (handOf h u)
         → depths′ ≡ set depths thread (length (u .below)) → Went h labels depths′ ls′ cs′ o′ n
     comes-back e w D =
         present-then (record { stack = u .below; memory = h .state .memory; events = [] }) (handOf h u)
@@ -235,7 +238,7 @@ module _ {t map bounds ss : List ℕ} {thread : ℕ} {labels depths ls cs o : Li
 
     -- nothing moves
     stays : codeOf program thread (u .frame .proc) (u .frame .code) (handOf h u) (u .below) ≡ nothing
-        → Works (32 * top) ss (h .lent) ls′ cs′ o′ n (handOf h u) → Stays h labels depths ls′ cs′ o′
+        → Works (frameWords * top) ss (h .lent) ls′ cs′ o′ n (handOf h u) → Stays h labels depths ls′ cs′ o′
     stays e w = record {
       blocks = step-blocks (labelled program) thread (h .state) (u .found) e;
       present = record {
@@ -248,13 +251,13 @@ module _ {t map bounds ss : List ℕ} {thread : ℕ} {labels depths ls cs o : Li
     }
 
     -- the frame of a call
-    frame-new : (q : ℕ) (T : U.Calls t program thread (u .frame .proc) (u .frame .code) (handOf h u) (32 * top) ss (h .lent) n ls′ cs′ o′ q)
+    frame-new : (q : ℕ) (T : U.Calls t program thread (u .frame .proc) (u .frame .code) (handOf h u) (frameWords * top) ss (h .lent) n ls′ cs′ o′ q)
         → FrameAt program ls′ (getD bounds (2 * q) 0) (top + 1) (entered q (T .called .proc) (T .called .values))
     frame-new q T =
         let below : q < length (labelled program .procs) = at-below (labelled program .procs) q (T .called .found) in
         let there : q < length (program .procs) = omega (arith, length-labels (program .procs) 1) in
         let few : T .called .proc .params ≤ T .called .proc .locals = few-locals (h .loaded .sound) q (T .called .found) .0 in
-        let place : 32 * top + 32 ≡ 32 * (top + 1) = omega arith in
+        let place : frameWords * top + frameWords ≡ frameWords * (top + 1) = omega arith in
         record {
           remains = remains-body (T .called .found);
           label = h .loaded .mapped .begins q there ∙ ap (first (endsOf program q)) (body-of (labelled program .procs) q (T .called .found));
@@ -266,7 +269,7 @@ module _ {t map bounds ss : List ℕ} {thread : ℕ} {labels depths ls cs o : Li
 
     -- a procedure is called
     calls : {labels′ depths′ : List ℕ} (q l : ℕ)
-        (T : U.Calls t program thread (u .frame .proc) (u .frame .code) (handOf h u) (32 * top) ss (h .lent) n ls′ cs′ o′ q)
+        (T : U.Calls t program thread (u .frame .proc) (u .frame .code) (handOf h u) (frameWords * top) ss (h .lent) n ls′ cs′ o′ q)
         → l ≡ first (endsOf program (u .frame .proc)) (T .rest) → labels′ ≡ set (set labels top l) (top + 1) (getD bounds (2 * q) 0)
         → depths′ ≡ set depths thread (length (u .below) + 2) → Went h labels′ depths′ ls′ cs′ o′ n
     calls q l T e L D =
@@ -284,7 +287,7 @@ module _ {t map bounds ss : List ℕ} {thread : ℕ} {labels depths ls cs o : Li
 
   -- a procedure that is called is one of 16
   callee-few : (ls′ cs′ o′ : List ℕ) (turn : Turn)
-      → U.Answers t program thread (u .frame .proc) (u .frame .code) (handOf h u) (32 * top) ss (h .lent) n ls′ cs′ o′ turn → Callee turn
+      → U.Answers t program thread (u .frame .proc) (u .frame .code) (handOf h u) (frameWords * top) ss (h .lent) n ls′ cs′ o′ turn → Callee turn
   callee-few ls′ cs′ o′ (T.Next k) A = tt
   callee-few ls′ cs′ o′ (T.Test q) A = tt
   callee-few ls′ cs′ o′ (T.Call q) A =
@@ -298,8 +301,9 @@ module _ {t map bounds ss : List ℕ} {thread : ℕ} {labels depths ls cs o : Li
   test-label false = u .label .other
 
   -- what a turn's answer is worth
-  answered : {labels′ depths′ ls′ : List ℕ} (cs′ o′ : List ℕ) {r : Stepped} (turn : Turn) → Beside ls ls′ (32 * top) (32 * top + 32 + 32)
-      → U.Answers t program thread (u .frame .proc) (u .frame .code) (handOf h u) (32 * top) ss (h .lent) n ls′ cs′ o′ turn
+  answered : {labels′ depths′ ls′ : List ℕ} (cs′ o′ : List ℕ) {r : Stepped} (turn : Turn)
+      → Beside ls ls′ (frameWords * top) (frameWords * top + frameWords + frameWords)
+      → U.Answers t program thread (u .frame .proc) (u .frame .code) (handOf h u) (frameWords * top) ss (h .lent) n ls′ cs′ o′ turn
       → Moves turn map bounds thread top labels depths n labels′ depths′ r → Answers h labels′ depths′ ls′ cs′ o′ r
   answered {labels′} {depths′} {ls′} cs′ o′ turn W A M =
       subst (Answers h labels′ depths′ ls′ cs′ o′) (sym (M .answer)) (by turn A (M .moved) (M .deep))
@@ -308,7 +312,7 @@ module _ {t map bounds ss : List ℕ} {thread : ℕ} {labels depths ls cs o : Li
           → Remains (labelled program .procs) (u .frame .proc) (step tag i rest)
       left e = subst (Remains (labelled program .procs) (u .frame .proc)) e (u .here .remains)
 
-      by : (turn : Turn) → U.Answers t program thread (u .frame .proc) (u .frame .code) (handOf h u) (32 * top) ss (h .lent) n ls′ cs′ o′ turn
+      by : (turn : Turn) → U.Answers t program thread (u .frame .proc) (u .frame .code) (handOf h u) (frameWords * top) ss (h .lent) n ls′ cs′ o′ turn
           → labels′ ≡ labelsAfter map bounds top labels turn → depths′ ≡ depthsAfter thread depths turn
           → Answers h labels′ depths′ ls′ cs′ o′ (answerOf n turn)
       by (T.Next k) A L D =
@@ -346,15 +350,16 @@ module _ {t map bounds ss : List ℕ} {thread : ℕ} {labels depths ls cs o : Li
       none h (f ∷ s) e = absurd (omega (arith, h .present .threads .each thread (f ∷ s) e .depth, z))
 
   module _ {ls′ cs′ o′ : List ℕ} {turn : Turn} (z : getD depths thread 0 ≡ 0 → ⊥)
-      (T : Turns t thread (32 * topOf thread depths) ss (getD map (4 * getD labels (topOf thread depths) 0) 0) ls cs o n ls′ cs′ o′ turn) where
+      (T : Turns t thread (frameWords * topOf thread depths) ss (getD map (4 * getD labels (topOf thread depths) 0) 0) ls cs o n
+      ls′ cs′ o′ turn) where
     -- the turn of the uppermost frame
     turned : (h : Stepping t map bounds ss thread labels depths ls cs o n) (u : Uppermost h)
-        → Turns t thread (32 * top h u) ss (getD map (4 * getD labels (top h u) 0) 0) ls cs o n ls′ cs′ o′ turn
-    turned h u = subst (λ k. Turns t thread (32 * k) ss (getD map (4 * getD labels k 0) 0) ls cs o n ls′ cs′ o′ turn) (u .top) T
+        → Turns t thread (frameWords * top h u) ss (getD map (4 * getD labels (top h u) 0) 0) ls cs o n ls′ cs′ o′ turn
+    turned h u = subst (λ k. Turns t thread (frameWords * k) ss (getD map (4 * getD labels k 0) 0) ls cs o n ls′ cs′ o′ turn) (u .top) T
 
     -- what it answers
     answers : (h : Stepping t map bounds ss thread labels depths ls cs o n) (u : Uppermost h)
-        → U.Answers t (h .loaded .program) thread (u .frame .proc) (u .frame .code) (handOf h u) (32 * top h u) ss (h .lent) n ls′ cs′ o′ turn
+        → U.Answers t (h .loaded .program) thread (u .frame .proc) (u .frame .code) (handOf h u) (frameWords * top h u) ss (h .lent) n ls′ cs′ o′ turn
     unfolding turn-at
     answers h u = turned h u .answers (turn-at h u (top h u) refl)
 

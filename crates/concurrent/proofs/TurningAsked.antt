@@ -14,7 +14,7 @@ use Rattle.value.specs.Laws.Tests.{by-test, never, both-passed}
 use Rattle.format.specs.Syntax.{local, Instr, assign, write, read, while, if, call, atomic}
 use Rattle.format.specs.Syntax.{select, Block, end, step, Proc, Program, Plain, concurrent}
 use Rattle.format.specs.Labels.{labelled}
-use Rattle.format.specs.Rules.{allowedI, namedI, takes}
+use Rattle.format.specs.Rules.{allowedI, namedI, takes, maxLocals}
 use Rattle.format.specs.Rules as Rules
 use Rattle.format.specs.Laws.Stands as S′
 use Rattle.format.specs.Laws.Grammar.{InstrAt, expr-inside}
@@ -60,7 +60,7 @@ plain-act m (atomic b) h z w = absurd (z (S′.first (h .stands)))
 plain-act m (select x y) h z w = absurd (never w)
 
 -- its arguments are those of the instruction, and few
-act-args : (p : Program Plain) (X : ℕ) → ((q : ℕ) (r : Proc ℕ) → at (labelled p .procs) q ≡ is r → (r .params ≤ r .locals) × (r .locals ≤ 16))
+act-args : (p : Program Plain) (X : ℕ) → ((q : ℕ) (r : Proc ℕ) → at (labelled p .procs) q ≡ is r → (r .params ≤ r .locals) × (r .locals ≤ maxLocals))
     → (s : Instr ℕ) (k : Act) → actOf s ≡ is k → namedI (labelled p) X s ≡ true → (argsOf k ≡ argsIn s) × (length (argsOf k) ≤ frameWords)
 act-args p X few (assign x e) k q n = rw (← is-inj q) (refl, omega arith)
 act-args p X few (write y o e) k q n = rw (← is-inj q) (refl, omega arith)
@@ -70,7 +70,7 @@ act-args p X few (if e b c) k q n = rw (← is-inj q) (refl, omega arith)
 act-args p X few (call r es) k q n =
     let names = both-passed (takes (labelled p .procs) r (length es)) (all (Rules.ex (labelled p) X) es) n in
     let callee = takes-at (labelled p .procs) r (length es) (takes? (labelled p .procs) r (length es) .so (names .0)) in
-    let small : length es ≤ 16 = omega (arith, few r (callee .0) (callee .1), callee .2) in
+    let small : length es ≤ maxLocals = omega (arith, few r (callee .0) (callee .1), callee .2) in
     rw (← is-inj q) (refl, omega arith)
 act-args p X few (atomic b) k q n = missing q
 act-args p X few (select x y) k q n = missing q

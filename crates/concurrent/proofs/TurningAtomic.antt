@@ -1,5 +1,5 @@
 -- One step of a frame's code that is an atomic block, way by way.
-use Prim.Native.Nat.{ℕ, _+_, _<_}
+use Prim.Native.Nat.{ℕ, _+_, _-_, _<_}
 use native.Mathlib.Omega.{arith}
 use mathlib.Core.Path.{_≡_, refl, sym, ap, subst, _∙_}
 use mathlib.Core.List.{List, [], _∷_}
@@ -13,6 +13,7 @@ use Rattle.labels.specs.LabelMap as Map
 use Rattle.format.specs.Rules.{allowed, allowedI, named, namedI}
 use Rattle.format.specs.Laws.Grammar.{BlockAt, AtomicAt, atomic-here, block-inside}
 use Rattle.format.specs.Laws.Procs.{bodyIn}
+use Rattle.format.specs.Decode.{maxNesting}
 use Rattle.atomic.specs.declared.block.Done.{Done}
 use Rattle.atomic.specs.declared.block.Done.the-variants.{To, Blocked}
 use Rattle.concurrent.specs.declared.threads.Turn.the-variants as T
@@ -33,7 +34,7 @@ abbrev leaves : ℕ → Block ℕ → Stack ℕ → Atomic → Maybe (Moved ℕ)
 leaves m c s r = is (record { stack = record { proc = m; env = r .env; code = c } ∷ s; memory = r .memory; events = r .events })
 
 -- a block that is a little less deep
-deeper : {t : List ℕ} {i : ℕ} {b : Block ℕ} {j : ℕ} → BlockAt t i 15 b j → BlockAt t i 16 b j
+deeper : {t : List ℕ} {i : ℕ} {b : Block ℕ} {j : ℕ} → BlockAt t i (maxNesting - 1) b j → BlockAt t i maxNesting b j
 deeper h = record { stands = h .stands; fits = (omega (arith, h .fits .0), h .fits .1) }
 
 module _ {t : List ℕ} {thread fb : ℕ} {bs : List ℕ} {i : ℕ} {ls cs o : List ℕ} {n : ℕ} where
@@ -48,14 +49,14 @@ module _ {t : List ℕ} {thread fb : ℕ} {bs : List ℕ} {i : ℕ} {ls cs o : L
     pub rest : Block ℕ
     pub code : h .c ≡ step tag (atomic block) rest
     pub next : ℕ
-    pub here : BlockAt t (i + 1) 16 block next
+    pub here : BlockAt t (i + 1) maxNesting block next
     pub named : named (labelled (h .p)) (length (h .a .env)) block ≡ true
     pub allowed : allowed (within (h .m)) block ≡ true
 
   atomic-block : (h : Turning t thread fb bs i ls cs o n) → getD t i 0 ≡ 0x26 → Block′ h
   atomic-block h e =
       let w : Running t (h .p) (h .m) i (h .c) = at-instr (h .stands) (λ z. omega arith) in
-      let v : AtomicAt t i 15 (w .instr) (w .next) = atomic-here (w .here) e in
+      let v : AtomicAt t i (maxNesting - 1) (w .instr) (w .next) = atomic-here (w .here) e in
       record {
         tag = w .tag;
         block = v .b;
@@ -72,7 +73,7 @@ module _ {t : List ℕ} {thread fb : ℕ} {bs : List ℕ} {i : ℕ} {ls cs o : L
       names b w k = rw (h .full (w .proc) (w .found)) k
 
   -- it can be done
-  pub doing-atomic : getD t i 0 ≡ 0x26 → Turning t thread fb bs i ls cs o n → Doing t thread fb bs (i + 1) 16 ls cs o n
+  pub doing-atomic : getD t i 0 ≡ 0x26 → Turning t thread fb bs i ls cs o n → Doing t thread fb bs (i + 1) maxNesting ls cs o n
   doing-atomic e h =
       let b = atomic-block h e in
       record {
@@ -99,7 +100,7 @@ module _ {t : List ℕ} {thread fb : ℕ} {bs : List ℕ} {i : ℕ} {ls cs o : L
         ∙ ap (_>>= leaves (h .m) (b .rest) s)
         (acts (labelled (h .p) .procs) thread (h .m) (size (b .block)) (b .block) (omega arith) (b .allowed) (h .a .env) (h .a .memory) [])
 
-  module _ {ls′ cs′ o′ : List ℕ} {r : Done} (e : getD t i 0 ≡ 0x26) (D : DoesWhole t thread fb bs (i + 1) 16 ls cs o n ls′ cs′ o′ r) where
+  module _ {ls′ cs′ o′ : List ℕ} {r : Done} (e : getD t i 0 ≡ 0x26) (D : DoesWhole t thread fb bs (i + 1) maxNesting ls cs o n ls′ cs′ o′ r) where
     -- it blocks
     pub turns-stopped : r ≡ Blocked → Turns t thread fb bs i ls cs o n ls′ cs′ o′ T.Blocked
     unfolding doing-atomic

@@ -9,7 +9,7 @@ use Rattle.value.specs.Maybe.{both}
 use Rattle.value.specs.Lists.{all, sum}
 use Rattle.value.specs.Values.{numberAt, cellSize}
 use Rattle.format.specs.Syntax.{Program, Plain, concurrent}
-use Rattle.format.specs.Encode.{table}
+use Rattle.format.specs.Encode.{table, recordSize, trailerSize}
 use Rattle.format.specs.Labels.{labelled}
 use Rattle.format.specs.Rules.{limits, verdict, accepted}
 use Rattle.format.specs.Laws.Sound.{Sound}
@@ -21,7 +21,7 @@ use Rattle.semantics.specs.Threads as P
 use Rattle.semantics.specs.Calls.{endNumber, maxEntries, Outcome, concurrentRun, concurrentOutcome}
 use Rattle.engine.specs.Work.{localWords, Holds}
 use Rattle.engine.specs.Events.{Logged}
-use Rattle.atomic.specs.Threaded.{threadFrames, mostThreads, Threaded}
+use Rattle.atomic.specs.Threaded.{threadFrames, mostThreads, Threaded, allFrames}
 use Rattle.concurrent.specs.Stepping.{Loaded}
 use Rattle.semantics.specs.Laws.Cells.{shape}
 
@@ -55,7 +55,7 @@ pub record MainsAt (t : List ℕ) (i n : ℕ) : Type 0 where
 
 -- each of n threads has one frame, at the label with which its main begins
 pub record Begins (t : List ℕ) (i n : ℕ) (bounds labels depths : List ℕ) : Type 0 where
-  pub labels-long : length labels ≡ mostThreads * threadFrames
+  pub labels-long : length labels ≡ allFrames
   pub depths-long : length depths ≡ mostThreads
   pub label : (k : ℕ) → k < n → getD labels (threadFrames * k) 0 ≡ getD bounds (2 * numberAt 2 t (i + 2 * k)) 0
   pub depth : (k : ℕ) → k < n → getD depths k 0 ≡ 1
@@ -103,7 +103,7 @@ pub record Accepted (t : List ℕ) (P M T n : ℕ) : Type 0 where
   pub places : M ≡ length (program .sizes)
   pub threads : T ≡ length (program .mains)
   pub cells : n ≡ sum (program .sizes)
-  pub room : 16 + 6 * P + 2 * M + 2 * T ≤ length t
+  pub room : trailerSize + recordSize * P + 2 * M + 2 * T ≤ length t
 
 -- the answer and the lent buffers after the run of it
 pub record Outcomes (t : List ℕ) (P M T n : ℕ) (ts cs es : List ℕ) (r : RunAnswer) (cs′ es′ : List ℕ) : Type 0 where

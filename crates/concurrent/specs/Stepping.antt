@@ -10,6 +10,7 @@ use Rattle.format.specs.Encode.{table}
 use Rattle.format.specs.Labels.{labelled}
 use Rattle.labels.specs.LabelMap.{Mapped}
 use Rattle.format.specs.Laws.Sound.{Sound}
+use Rattle.format.specs.Rules.{limits, maxLabels}
 use Rattle.concurrent.specs.declared.threads.Stepped.{Stepped}
 use Rattle.concurrent.specs.declared.threads.Stepped.the-variants.{To, Blocked}
 use Rattle.concurrent.specs.declared.threads.Turn.{Turn}
@@ -18,7 +19,7 @@ use Rattle.semantics.specs.Memory.{Event}
 use Rattle.semantics.specs.Threads as P
 use Rattle.engine.specs.Work.{localWords, Holds, Bases}
 use Rattle.engine.specs.Events.{Logged}
-use Rattle.atomic.specs.Threaded.{mostFrames, threadFrames, mostThreads, Threaded}
+use Rattle.atomic.specs.Threaded.{mostFrames, mostThreads, Threaded, allFrames}
 use Rattle.semantics.specs.Laws.Cells.{shape}
 
 -- ---- what a run keeps
@@ -118,19 +119,19 @@ answerOf n T.Blocked = Blocked
 abbrev pub Callee : Turn → Type 0
 Callee (T.Next k) = Unit {0}
 Callee (T.Test q) = Unit {0}
-Callee (T.Call m) = m < 16
+Callee (T.Call m) = m < limits concurrent .procs
 Callee T.Return = Unit {0}
 Callee T.Blocked = Unit {0}
 
 -- all that the turn leads to is there
 pub record Moving (turn : Turn) (thread top : ℕ) (labels depths : List ℕ) : Type 0 where
   pub callee : Callee turn
-  pub label : getD labels top 0 ≤ 400
+  pub label : getD labels top 0 ≤ maxLabels
   pub there : thread < mostThreads
-  pub room : top + 1 < mostThreads * threadFrames
+  pub room : top + 1 < allFrames
   pub some : 1 ≤ getD depths thread 0
   pub few : getD depths thread 0 ≤ mostFrames
-  pub labels-long : length labels ≡ mostThreads * threadFrames
+  pub labels-long : length labels ≡ allFrames
   pub depths-long : length depths ≡ mostThreads
 
 -- the thread goes on there

@@ -13,7 +13,7 @@ use Rattle.value.specs.Laws.Lists.{In}
 use Rattle.format.specs.Syntax.{Instr, Block, end, step, Proc, Program, Plain, concurrent}
 use Rattle.format.specs.Labels.{labelled, first, endsOf}
 use Rattle.labels.specs.LabelMap as Map
-use Rattle.format.specs.Rules.{calleesOf}
+use Rattle.format.specs.Rules.{calleesOf, maxLocals}
 use Rattle.concurrent.specs.declared.threads.Turn.{Turn}
 use Rattle.concurrent.specs.declared.threads.Turn.the-variants as T
 use Rattle.semantics.specs.Memory.{Event}
@@ -36,7 +36,7 @@ pub record Turning (t : List ℕ) (thread fb : ℕ) (bs : List ℕ) (i : ℕ) (l
   pub es : List ℕ
   pub works : Works fb bs es ls cs o n a
   pub full : (q : Proc ℕ) → at (labelled p .procs) m ≡ is q → length (a .env) ≡ q .locals
-  pub params : (q : ℕ) (r : Proc ℕ) → at (labelled p .procs) q ≡ is r → (r .params ≤ r .locals) × (r .locals ≤ 16)
+  pub params : (q : ℕ) (r : Proc ℕ) → at (labelled p .procs) q ≡ is r → (r .params ≤ r .locals) × (r .locals ≤ maxLocals)
   pub few : n + length t < 2 ^ 64
 
 -- what code c of procedure m does above the frames s

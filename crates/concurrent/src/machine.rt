@@ -1,28 +1,32 @@
 // The concurrent machine: report RR-2017-03, figure 2, under a schedule.
-use super::threads::FRAMES;
 use super::threads::Stepped;
-use super::threads::THREADS;
 use super::threads::step;
+use basics::numbers::ALL_FRAMES;
+use basics::numbers::BLOCKED;
+use basics::numbers::BOUNDS;
+use basics::numbers::CELL_WORDS;
+use basics::numbers::FINISHED;
+use basics::numbers::LOCAL_WORDS;
+use basics::numbers::MAIN;
+use basics::numbers::MAP;
+use basics::numbers::PAIR;
 use basics::numbers::SIZE;
+use basics::numbers::STARTS;
+use basics::numbers::THREAD_FRAMES;
+use basics::numbers::THREADS;
 use basics::numbers::TRAILER;
-use engine::ends::BLOCKED;
-use engine::ends::FINISHED;
-use engine::ends::USED;
+use basics::numbers::USED;
 use engine::locals;
 use engine::memory;
-use engine::memory::STARTS;
 use engine::table;
 use engine::word::ZERO;
 use labels::label_map::fill_labels;
 use semantics::RunAnswer;
 ghost use mathlib.Core.Path.{_≡_};
-ghost use Prim.Native.Nat.{_*_, _≤_};
+ghost use Prim.Native.Nat.{_≤_};
 ghost use lib.ListN.{length};
-ghost use Rattle.atomic.specs.Threaded.{mostThreads, threadFrames};
+ghost use Rattle.atomic.specs.Threaded.{mostThreads, allFrames};
 ghost use Rattle.concurrent.specs.Concurrent.{AllDone, MainsAt, Begins, ranWith, Starting, Runs, Entries, Accepted, Outcomes};
-
-// The bytes of a main's number.
-const MAIN: usize = 2;
 
 // What a run came to: its end, the entries taken, each for a step, and the events recorded.
 pub struct Ran {
@@ -51,17 +55,17 @@ fn begin(
     t: &[u8],
     at: usize,
     threads: usize,
-    bounds: &[usize; 32],
-    labels: &mut [usize; 136],
+    bounds: &[usize; BOUNDS],
+    labels: &mut [usize; ALL_FRAMES],
     depths: &mut [usize; THREADS],
 )
-    requires { ⌜ MainsAt (now t) at threads × (length (now labels) ≡ mostThreads * threadFrames) × (length (now depths) ≡ mostThreads) ⌝ }
+    requires { ⌜ MainsAt (now t) at threads × (length (now labels) ≡ allFrames) × (length (now depths) ≡ mostThreads) ⌝ }
     ensures { λ _. ⌜ Begins (now (t .entry)) at threads (now (bounds .entry)) (now (labels .exit)) (now (depths .exit)) ⌝ }
 {
     let mut i = 0;
     while i < threads {
         let main = table::two(t, at + MAIN * i) as usize;
-        labels[FRAMES * i] = bounds[2 * main];
+        labels[THREAD_FRAMES * i] = bounds[PAIR * main];
         depths[i] = 1;
         i += 1;
     }
@@ -79,13 +83,13 @@ fn go(
     t: &[u8],
     threads: usize,
     schedule: &[u8],
-    map: &[usize; 1604],
-    bounds: &[usize; 32],
+    map: &[usize; MAP],
+    bounds: &[usize; BOUNDS],
     starts: &[u32; STARTS],
-    labels: &mut [usize; 136],
+    labels: &mut [usize; ALL_FRAMES],
     depths: &mut [usize; THREADS],
-    words: &mut [u64; locals::WORDS],
-    cells: &mut [u64; memory::WORDS],
+    words: &mut [u64; LOCAL_WORDS],
+    cells: &mut [u64; CELL_WORDS],
     events: &mut [u8],
 ) -> Ran
     requires { ⌜ Starting (now t) threads (now schedule) (now map) (now bounds) (now starts) (now labels) (now depths) (now words) (now cells) ⌝ }
@@ -138,13 +142,13 @@ pub fn run(
         (now (cells .entry)) (now (events .entry)) r (now (cells .exit)) (now (events .exit)) ⌝ }
 {
     let mains = t.len() - TRAILER - MAIN * threads;
-    let mut map = [0usize; 1604];
-    let mut bounds = [0usize; 32];
+    let mut map = [0usize; MAP];
+    let mut bounds = [0usize; BOUNDS];
     let mut starts = [0u32; STARTS];
-    let mut labels = [0usize; 136];
+    let mut labels = [0usize; ALL_FRAMES];
     let mut depths = [0usize; THREADS];
-    let mut words = [0u64; locals::WORDS];
-    let mut memory = [ZERO; memory::WORDS];
+    let mut words = [0u64; LOCAL_WORDS];
+    let mut memory = [ZERO; CELL_WORDS];
     fill_labels(t, procedures, &mut map, &mut bounds);
     memory::set_starts(t, mains - SIZE * locations, locations, &mut starts);
     begin(t, mains, threads, &bounds, &mut labels, &mut depths);

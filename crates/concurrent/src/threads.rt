@@ -2,20 +2,31 @@
 use atomic::block::Done;
 use atomic::block::carry_out;
 use atomic::block::do_atomic;
+use basics::numbers::ALL_FRAMES;
+use basics::numbers::ATOMIC;
+use basics::numbers::BOUNDS;
+use basics::numbers::CELL_WORDS;
+use basics::numbers::FRAME;
+use basics::numbers::LOCAL_WORDS;
+use basics::numbers::MAP;
+use basics::numbers::NODE;
+use basics::numbers::PAIR;
+use basics::numbers::STARTS;
+use basics::numbers::THREAD_FRAMES;
+use basics::numbers::THREADS;
 use decide::step::Step;
 use decide::step::decide;
 use engine::locals;
-use engine::locals::FRAME;
 use engine::memory;
-use engine::memory::STARTS;
 use engine::table;
+use labels::label_map::FIRST;
+use labels::label_map::NEXT;
+use labels::label_map::OTHER;
 ghost use mathlib.Core.Path.{_≡_};
-ghost use Prim.Native.Nat.{_≤_};
+ghost use Prim.Native.Nat.{_*_, _≤_};
+ghost use Rattle.format.specs.Rules.{maxLabels};
 ghost use Rattle.concurrent.specs.Turning.{Turning, Turns};
 ghost use Rattle.concurrent.specs.Stepping.{testLabel, Moving, Moves, Stepping, Steps};
-
-// "26 block: atomic".
-const ATOMIC: u8 = 0x26;
 
 // What a step of a frame's code does: the code goes on, with so many events then; a test comes out; a procedure is called; it returns.
 pub enum Turn {
@@ -34,8 +45,8 @@ pub fn take_turn(
     thread: u8,
     base: usize,
     starts: &[u32; STARTS],
-    words: &mut [u64; locals::WORDS],
-    cells: &mut [u64; memory::WORDS],
+    words: &mut [u64; LOCAL_WORDS],
+    cells: &mut [u64; CELL_WORDS],
     events: &mut [u8],
     count: usize,
 ) -> Turn
@@ -85,21 +96,6 @@ pub fn take_turn(
     }
 }
 
-// "P not 1..16": no procedure runs twice in a thread, so it has at most 16 frames; one more for the arguments of a call.
-pub const FRAMES: usize = 17;
-
-// "T not 1..8".
-pub const THREADS: usize = 8;
-
-// A row of the label map has a label's place and procedure, and the label that comes next; of a test, where it holds.
-const NEXT: usize = 2;
-
-// Last, of a test, the label where it does not hold.
-const OTHER: usize = 3;
-
-// A row of the bounds has the first and the last label of a procedure.
-const FIRST: usize = 0;
-
 // Whether a thread took its step, and how many events there are then.
 pub enum Stepped {
     To(usize),
@@ -107,8 +103,8 @@ pub enum Stepped {
 }
 
 // The label that a test leads to, of those in a row of the map.
-fn after_test(map: &[usize; 1604], row: usize, truth: bool) -> usize
-    requires { ⌜ row ≤ 1600 ⌝ }
+fn after_test(map: &[usize; MAP], row: usize, truth: bool) -> usize
+    requires { ⌜ row ≤ 4 * maxLabels ⌝ }
     ensures { λ r. ⌜ r ≡ testLabel (now (map .entry)) row truth ⌝ }
 {
     if truth {
@@ -122,11 +118,11 @@ fn after_test(map: &[usize; 1604], row: usize, truth: bool) -> usize
 // many frames the thread has then.
 fn move_on(
     turn: Turn,
-    map: &[usize; 1604],
-    bounds: &[usize; 32],
+    map: &[usize; MAP],
+    bounds: &[usize; BOUNDS],
     thread: usize,
     top: usize,
-    labels: &mut [usize; 136],
+    labels: &mut [usize; ALL_FRAMES],
     depths: &mut [usize; THREADS],
     count: usize,
 ) -> Stepped
@@ -134,7 +130,7 @@ fn move_on(
     ensures { λ r. ⌜ Moves turn (now (map .entry)) (now (bounds .entry)) thread top (now (labels .entry)) (now (depths .entry)) count
         (now (labels .exit)) (now (depths .exit)) r ⌝ }
 {
-    let row = 4 * labels[top];
+    let row = NODE * labels[top];
     match turn {
         Turn::Next(n) => {
             labels[top] = map[row + NEXT];
@@ -146,7 +142,7 @@ fn move_on(
         }
         Turn::Call(procedure) => {
             labels[top] = map[row + NEXT];
-            labels[top + 1] = bounds[2 * procedure + FIRST];
+            labels[top + 1] = bounds[PAIR * procedure + FIRST];
             depths[thread] += 1;
             Stepped::To(count)
         }
@@ -158,17 +154,17 @@ fn move_on(
     }
 }
 
-// Thread `thread` takes a step, if it can. Frame d of thread i has the label labels[17 * i + d].
+// Thread `thread` takes a step, if it can. Frame d of thread i has the label labels[THREAD_FRAMES * i + d].
 pub fn step(
     t: &[u8],
-    map: &[usize; 1604],
-    bounds: &[usize; 32],
+    map: &[usize; MAP],
+    bounds: &[usize; BOUNDS],
     starts: &[u32; STARTS],
     thread: u8,
-    labels: &mut [usize; 136],
+    labels: &mut [usize; ALL_FRAMES],
     depths: &mut [usize; THREADS],
-    words: &mut [u64; locals::WORDS],
-    cells: &mut [u64; memory::WORDS],
+    words: &mut [u64; LOCAL_WORDS],
+    cells: &mut [u64; CELL_WORDS],
     events: &mut [u8],
     count: usize,
 ) -> Stepped
@@ -182,8 +178,8 @@ pub fn step(
     if depths[i] == 0 {
         return Stepped::Blocked;
     }
-    let top = FRAMES * i + depths[i] - 1;
-    let at = map[4 * labels[top]];
+    let top = THREAD_FRAMES * i + depths[i] - 1;
+    let at = map[NODE * labels[top]];
     let turn = take_turn(
         t,
         at,

@@ -1,5 +1,6 @@
 // Rule 4: the bodies stand from byte 0 up to the records, one after the other.
-use basics::numbers;
+use basics::numbers::NESTING;
+use basics::numbers::RECORD;
 use parse::Context;
 use parse::Ends;
 use parse::Kind;
@@ -18,7 +19,7 @@ fn read_body(code: &[u8], at: usize, procedure: usize, kind: Kind) -> Ends
     block::read_block(
         code,
         at,
-        numbers::NESTING,
+        NESTING,
         Context {
             kind,
             procedure,
@@ -45,7 +46,7 @@ pub fn right_bodies(code: &[u8], body: &[u8], records: usize, count: u16, kind: 
             return false;
         };
         position = next;
-        at += numbers::RECORD;
+        at += RECORD;
         procedure += 1;
         left -= 1;
     }

@@ -1,6 +1,6 @@
 -- The code that remains in a frame stands in the table: what is at the place of its label, by the byte there, and what the rules
 -- say of it.
-use Prim.Native.Nat.{ℕ, zero, suc, _+_, _*_, _≤_}
+use Prim.Native.Nat.{ℕ, zero, suc, _+_, _*_, _-_, _≤_}
 use native.Mathlib.Omega.{arith}
 use mathlib.Core.Path.{_≡_, refl, sym, ap, ap₂, subst, _∙_}
 use mathlib.Core.List.{List, [], _∷_, _++_}
@@ -15,7 +15,7 @@ use Rattle.format.specs.Syntax.{Expr, Instr, assign, write, read, while, if, ca
 use Rattle.format.specs.Syntax.{select, Block, end, step, _⊕_, Proc, Program, Plain, concurrent}
 use Rattle.format.specs.Encode.{instr, block, each, bodiesOf, table}
 use Rattle.format.specs.Labels.{count, countI, tag, tagI, label, labelI, labels, labelled, first, endsOf}
-use Rattle.format.specs.Rules.{Here, plainly, allowed, allowedI, named, namedI, callees, calleesI, calleesOf}
+use Rattle.format.specs.Rules.{Here, plainly, allowed, allowedI, named, namedI, callees, calleesI, calleesOf, maxLabels}
 use Rattle.format.specs.Rules as Rules
 use Rattle.labels.specs.Spots.{CodeAt}
 use Rattle.labels.specs.LabelMap.{Node, nodeOf, Mapped}
@@ -30,6 +30,7 @@ use Rattle.format.specs.Laws.Sound.{Sound}
 use Rattle.format.specs.Laws.Stands.{Stands}
 use Rattle.format.specs.Laws.Accepted.{bodies-fit}
 use Rattle.format.specs.Laws.TablePlaces.{recordsAt, all-bodies}
+use Rattle.format.specs.Decode.{maxNesting}
 use Rattle.labels.specs.Laws.Spots.{Inherited, spot-has, allowed-inherited, bodies-labels, code-stands, Remains}
 use Rattle.labels.specs.Laws.LabelMap.{NodeOf, node-of, node-range, remains-node}
 
@@ -205,7 +206,7 @@ pub record Standing (t : List ℕ) (p : Program Plain) (m k : ℕ) (c : Block �
   pub after : Block ℕ
   pub code : c ≡ left ⊕ after
   pub ends : left ≡ end → after ≡ end
-  pub here : BlockAt t k 16 left (k + length (block left))
+  pub here : BlockAt t k maxNesting left (k + length (block left))
   pub named : named (labelled p) (proc .locals) left ≡ true
   pub allowed : allowed (bodyIn concurrent m) left ≡ true
   pub calls : (q : ℕ) → In q (callees left) → In q (calleesOf (labelled p .procs) m)
@@ -219,7 +220,7 @@ pub record Running (t : List ℕ) (p : Program Plain) (m k : ℕ) (c : Block ℕ
   pub rest : Block ℕ
   pub code : c ≡ step tag instr rest
   pub next : ℕ
-  pub here : InstrAt t k 15 instr next
+  pub here : InstrAt t k (maxNesting - 1) instr next
   pub named : namedI (labelled p) (proc .locals) instr ≡ true
   pub allowed : allowedI (bodyIn concurrent m) instr ≡ true
   pub calls : (q : ℕ) → In q (calleesI instr) → In q (calleesOf (labelled p .procs) m)
@@ -234,7 +235,7 @@ module _ {t : List ℕ} {p : Program Plain} {m k : ℕ} {c : Block ℕ} (s : Sta
   -- any other byte begins an instruction
   pub at-instr : (getD t k 0 ≡ 0 → ⊥) → Running t p m k c
   at-instr e =
-      let w : StepAt t k 16 (s .left) (k + length (block (s .left))) = step-here (s .here) e in
+      let w : StepAt t k maxNesting (s .left) (k + length (block (s .left))) = step-here (s .here) e in
       let is : s .left ≡ step (w .tag) (w .s) (w .rest) = w .is in
       record {
         proc = s .proc;
@@ -262,8 +263,8 @@ module _ {t : List ℕ} {p : Program Plain} (sound : Sound concurrent p) (same :
       let v : CodeAt (labelled p .procs) (n .proc) (n .place) (w .left) (w .after) = w .spot in
       let q : Labelled (p .procs) (n .proc) (v .proc) = labelled-at (p .procs) 1 (n .proc) (v .found) in
       let r : ProcSound concurrent p (n .proc) (q .plain) = proc-sound sound (n .proc) (q .plain) (q .found) in
-      let fits : BlockFits 16 (q .plain .body) =
-      each-at (BlockFits 16) (bodiesOf (p .procs)) (n .proc) (bodies-fit concurrent p sound) (body-at (p .procs) (n .proc) (q .found))
+      let fits : BlockFits maxNesting (q .plain .body) =
+      each-at (BlockFits maxNesting) (bodiesOf (p .procs)) (n .proc) (bodies-fit concurrent p sound) (body-at (p .procs) (n .proc) (q .found))
       in
       let bodies : Stands t 0 (each block (bodiesOf (labelled p .procs))) (recordsAt p) =
       subst (λ (bs : List ℕ). Stands t 0 bs (recordsAt p)) (sym (bodies-labels (p .procs) 1)) (all-bodies concurrent p same)
@@ -277,7 +278,7 @@ module _ {t : List ℕ} {p : Program Plain} (sound : Sound concurrent p) (same :
         ends = w .ends;
         here = record {
           stands = code-stands bodies v;
-          fits = spot-has (fits-inherited 16) (v .spot) (rw (q .body) (fits-label (q .from) 16 (q .plain .body) fits));
+          fits = spot-has (fits-inherited maxNesting) (v .spot) (rw (q .body) (fits-label (q .from) maxNesting (q .plain .body) fits));
         };
         named =
             spot-has (named-inherited (labelled p) (v .proc .locals)) (v .spot)
@@ -295,7 +296,7 @@ module _ {t : List ℕ} {p : Program Plain} (sound : Sound concurrent p) (same :
 
 -- label l, where code c of procedure m goes on: its numbers in the map
 pub record LabelAt (t map : List ℕ) (p : Program Plain) (m l : ℕ) (c : Block ℕ) : Type 0 where
-  pub few : l ≤ 400
+  pub few : l ≤ maxLabels
   pub stands : Standing t p m (getD map (4 * l) 0) c
   pub next : getD map (4 * l + 2) 0 ≡ Map.next (endsOf p m) c
   pub other : getD map (4 * l + 3) 0 ≡ Map.other (endsOf p m) c

@@ -16,14 +16,14 @@ use Rattle.value.specs.Laws.Tests.{by-test}
 use Rattle.value.specs.Laws.Lists.{In, at-set-same, at-set-other, at-below}
 use Rattle.format.specs.Syntax.{Block, Proc, Program, Plain, concurrent}
 use Rattle.format.specs.Labels.{count, labels, labelled, first, endsOf, bodyOf, begins}
-use Rattle.format.specs.Rules.{calleesOf}
+use Rattle.format.specs.Rules.{calleesOf, maxLocals}
 use Rattle.format.specs.Laws.Procs.{ProcSound, proc-sound}
 use Rattle.format.specs.Laws.Sound.{Sound}
 use Rattle.labels.specs.Laws.Spots.{Remains, remains-body}
 use Rattle.semantics.specs.Memory.{Env}
 use Rattle.semantics.specs.Step.{Frame, Stack, entered}
 use Rattle.engine.specs.Work.{frameWords, localWords, Beside, Framed}
-use Rattle.atomic.specs.Threaded.{mostFrames, threadFrames, mostThreads, FrameAt, FramesAt, Link, Linked, ThreadAt, Threaded}
+use Rattle.atomic.specs.Threaded.{mostFrames, threadFrames, mostThreads, FrameAt, FramesAt, Link, Linked, ThreadAt, Threaded, allFrames}
 use Rattle.engine.specs.Laws.Work.{beside-same, beside-set}
 use Rattle.atomic.specs.Laws.Standing.{Labelled, labelled-at}
 use Rattle.atomic.specs.Laws.Linked.{remains-proc, few-frames}
@@ -50,14 +50,14 @@ set-same (y ∷ xs) (suc i) e = ap (y ∷_) (set-same xs i e)
 
 module _ {p : Program Plain} (sound : Sound concurrent p) where
   -- a procedure of a labelled program has at most 16 locals
-  pub few-locals : (m : ℕ) {q : Proc ℕ} → at (labelled p .procs) m ≡ is q → (q .params ≤ q .locals) × (q .locals ≤ 16)
+  pub few-locals : (m : ℕ) {q : Proc ℕ} → at (labelled p .procs) m ≡ is q → (q .params ≤ q .locals) × (q .locals ≤ maxLocals)
   few-locals m {q} e =
       let w : Labelled (p .procs) m q = labelled-at (p .procs) 1 m e in
       let r : ProcSound concurrent p m (w .plain) = proc-sound sound m (w .plain) (w .found) in
       omega (arith, w .params, w .locals, r .params, r .locals)
 
   -- a frame's locals fit its words
-  pub frame-small : {ls : List ℕ} {l k : ℕ} {f : Frame ℕ} → FrameAt p ls l k f → length (f .env) ≤ 16
+  pub frame-small : {ls : List ℕ} {l k : ℕ} {f : Frame ℕ} → FrameAt p ls l k f → length (f .env) ≤ maxLocals
   frame-small {f = f} h =
       let q = remains-proc (h .remains) in
       omega (arith, h .full (q .0) (q .1), few-locals (f .proc) (q .1))
@@ -156,7 +156,7 @@ module _ {p : Program Plain} (sound : Sound concurrent p) where
     thread-there = omega (arith, at-below ts t e, h .count, sound .threads .high)
 
     -- the frame is one of all frames
-    pub top-there : top < mostThreads * threadFrames
+    pub top-there : top < allFrames
     top-there = omega (arith, thread-there, few)
 
     -- it goes on at label l
