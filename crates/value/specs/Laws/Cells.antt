@@ -9,7 +9,7 @@ use lib.ListN.{length, getD, take, drop, length-drop}
 use lib.Seq.{drop-cons, length-take-le, take-all, sets-eq, take-at, drop-at}
 use lib.Signed.{mag}
 use lib.Dec.{eqb, ltb}
-use borrow.Author.Tests.{eqb-true, ne-eqb, ltb-true, lt-ltb, le-leb}
+use borrow.Author.Tests.{eqb-true, ne-eqb, ltb-true, lt-ltb, le-leb, lt-leb}
 use Rattle.value.specs.Maybe.{is, nothing, pick}
 use Rattle.value.specs.Values.{bytes, unbytes, cellBytes, cellKind, cellNumber, valueOf, unCell, numberAt, withValue, cellSize}
 use Rattle.value.specs.Laws.Maybes.{is-inj, missing, when-is}
@@ -128,3 +128,7 @@ read-written o i v h fits =
       take-at (cellBytes v) rest cellSize (length-cell v),
     )
     (unCell-cell v h)
+
+-- a value that does not fit whole is not written
+pub not-written : (o : List ℕ) (i : ℕ) (v : Value) → length o < i + 5 → withValue o i v ≡ o
+not-written o i v h = rw (lt-leb (i + 5) (length o) h)

@@ -1,20 +1,21 @@
 -- The table of marks: each byte is the mark that the table says, and what each row says of an operator is so.
 use Prim.Native.Nat.{ℕ, zero, suc, _≤_, _<_}
 use native.Mathlib.Nat.{le-of-suc-le-suc, not-suc-le-zero}
+use native.Mathlib.Omega.{arith}
 use mathlib.Core.Path.{_≡_, refl, sym, ap}
 use mathlib.Core.Logic.{_≢_}
 use mathlib.Core.List.{List, [], _∷_, map}
 use mathlib.Core.Bool.{Bool, true, false}
 use lib.ListN.{length, getD, List·getD-eq-default}
 use lib.IntN.{ℤ, negℤ, _+ℤ_, _-ℤ_, _*ℤ_}
-use lib.Signed.{mag}
-use lib.Dec.{eqb, ltb}
+use lib.Dec.{eqb}
 use borrow.Author.Tests.{eqb-true}
-use Rattle.value.specs.Maybe.{Maybe, is, nothing, both}
+use Rattle.value.specs.Maybe.{Maybe, is, nothing, there, both}
 use Rattle.value.specs.Values.{One, not, neg, Two, add, sub, mul, less, equal, and, whole, wholes, same, truths, apply₁, apply₂}
 use Rattle.value.specs.Marks.{mark₁, mark₂, Mark, wholeMark, locationMark, noMark, yesMark, localMark, oneMark, twoMark, noExpr, marks, markOf}
 use Rattle.value.specs.Marks.{applied₁, applied₂, kindOf, ofKind, Row, rowOf}
-use Rattle.value.specs.Laws.Maybes.{is-inj, missing, when-is}
+use Rattle.value.specs.Laws.Arithmetic.{whole-exactly}
+use Rattle.value.specs.Laws.Maybes.{is-inj, missing}
 use Rattle.value.specs.Laws.Tests.{never}
 use Rattle.value.specs.Laws.Tables.{looked-up}
 use Rattle.value.specs.declared.Value.{Value}
@@ -102,32 +103,35 @@ module _ (f : Row → ℕ) (m : ℕ) where
   pub past-table : 24 ≤ m → f (rowOf noExpr) ≡ f (rowOf (markOf m))
   past-table h = ap (λ (k : Mark). f (rowOf k)) (sym (List·getD-eq-default marks noExpr h))
 
--- what a row says of an operator on one value: one operand; "of the wrong kind, has none itself"; and the kind of a result
+-- what a row says of an operator on one value: one operand, which follows at once; "of the wrong kind, has none itself"; and the kind of a result
 pub record Says₁ (o : One) (r : Row) : Type 0 where
   pub count : r .operands ≡ 1
+  pub next : r .payload ≡ 0
   pub wrong : (v : Value) → ofKind (r .takes) v ≡ false → apply₁ o v ≡ nothing
   pub result : (v : Value) {u : Value} → apply₁ o v ≡ is u → kindOf u ≡ r .gives
 
--- and on two
+-- and on two; one that takes any kind takes two of each
 pub record Says₂ (o : Two) (r : Row) : Type 0 where
   pub count : r .operands ≡ 2
+  pub next : r .payload ≡ 0
   pub wrong : (v w : Value) → both (ofKind (r .takes) v) (ofKind (r .takes) w) ≡ false → apply₂ o v w ≡ nothing
+  pub any : r .takes ≡ 0 → (v : Value) → there (apply₂ o v v) ≡ true
   pub result : (v w : Value) {u : Value} → apply₂ o v w ≡ is u → kindOf u ≡ r .gives
 
 -- what a row says of a mark
 abbrev pub Says : Mark → Row → Type 0
 Says (oneMark o) r = Says₁ o r
 Says (twoMark o) r = Says₂ o r
-Says wholeMark r = (r .operands ≡ 0) × (r .payload ≡ 4)
-Says locationMark r = (r .operands ≡ 0) × (r .payload ≡ 2)
-Says noMark r = (r .operands ≡ 0) × (r .payload ≡ 0)
-Says yesMark r = (r .operands ≡ 0) × (r .payload ≡ 0)
-Says localMark r = (r .operands ≡ 0) × (r .payload ≡ 1)
+Says wholeMark r = (r .operands ≡ 0) × (r .payload ≡ 4) × (r .gives ≡ 1)
+Says locationMark r = (r .operands ≡ 0) × (r .payload ≡ 2) × (r .gives ≡ 2)
+Says noMark r = (r .operands ≡ 0) × (r .payload ≡ 0) × (r .gives ≡ 3)
+Says yesMark r = (r .operands ≡ 0) × (r .payload ≡ 0) × (r .gives ≡ 3)
+Says localMark r = (r .operands ≡ 0) × (r .payload ≡ 1) × (r .gives ≡ 0)
 Says noExpr r = r .operands ≡ 9
 
 -- a whole number is one
 whole-kind : (z : ℤ) {u : Value} → whole z ≡ is u → kindOf u ≡ 1
-whole-kind z e = ap kindOf (sym (is-inj (when-is (ltb (mag z) 2147483648) (is (Whole z)) e .1)))
+whole-kind z e = ap kindOf (whole-exactly z _ .0 e .1)
 
 -- a truth value is one
 truth-kind : {b : Bool} {u : Value} → is (Truth b) ≡ is u → kindOf u ≡ 3
@@ -174,6 +178,12 @@ same-result (Truth a) (Truth b) e = truth-kind e
 same-result (Truth a) (Whole z) e = missing e
 same-result (Truth a) (Location l) e = missing e
 
+-- of two of each kind
+same-there : (v : Value) → there (same v v) ≡ true
+same-there (Whole z) = refl
+same-there (Location l) = refl
+same-there (Truth b) = refl
+
 -- "and" gives nothing of other values than truth values
 truths-wrong : (v w : Value) → both (ofKind 3 v) (ofKind 3 w) ≡ false → truths v w ≡ nothing
 truths-wrong (Truth a) (Truth b) e = absurd (never (sym e))
@@ -192,7 +202,7 @@ truths-result (Location l) w e = missing e
 
 -- the operators on one value
 one-says : (o : One) → Says₁ o (rowOf (oneMark o))
-one-says not = record { count = refl; wrong = wrong; result = result }
+one-says not = record { count = refl; next = refl; wrong = wrong; result = result }
   where
     wrong : (v : Value) → ofKind 3 v ≡ false → apply₁ not v ≡ nothing
     wrong (Truth b) e = absurd (never (sym e))
@@ -203,7 +213,7 @@ one-says not = record { count = refl; wrong = wrong; result = result }
     result (Truth b) e = truth-kind e
     result (Whole z) e = missing e
     result (Location l) e = missing e
-one-says neg = record { count = refl; wrong = wrong; result = result }
+one-says neg = record { count = refl; next = refl; wrong = wrong; result = result }
   where
     wrong : (v : Value) → ofKind 1 v ≡ false → apply₁ neg v ≡ nothing
     wrong (Whole z) e = absurd (never (sym e))
@@ -217,12 +227,30 @@ one-says neg = record { count = refl; wrong = wrong; result = result }
 
 -- those on two
 two-says : (o : Two) → Says₂ o (rowOf (twoMark o))
-two-says add = record { count = refl; wrong = wholes-wrong _; result = wholes-result _ 1 (λ a b u e. whole-kind (a +ℤ b) e) }
-two-says sub = record { count = refl; wrong = wholes-wrong _; result = wholes-result _ 1 (λ a b u e. whole-kind (a -ℤ b) e) }
-two-says mul = record { count = refl; wrong = wholes-wrong _; result = wholes-result _ 1 (λ a b u e. whole-kind (a *ℤ b) e) }
-two-says less = record { count = refl; wrong = wholes-wrong _; result = wholes-result _ 3 (λ a b u e. truth-kind e) }
-two-says equal = record { count = refl; wrong = λ v w e. absurd (never (sym e)); result = same-result }
-two-says and = record { count = refl; wrong = truths-wrong; result = truths-result }
+two-says add = record {
+  count = refl;
+  next = refl;
+  wrong = wholes-wrong _;
+  any = λ e. absurd (omega arith);
+  result = wholes-result _ 1 (λ a b u e. whole-kind (a +ℤ b) e);
+}
+two-says sub = record {
+  count = refl;
+  next = refl;
+  wrong = wholes-wrong _;
+  any = λ e. absurd (omega arith);
+  result = wholes-result _ 1 (λ a b u e. whole-kind (a -ℤ b) e);
+}
+two-says mul = record {
+  count = refl;
+  next = refl;
+  wrong = wholes-wrong _;
+  any = λ e. absurd (omega arith);
+  result = wholes-result _ 1 (λ a b u e. whole-kind (a *ℤ b) e);
+}
+two-says less = record { count = refl; next = refl; wrong = wholes-wrong _; any = λ e. absurd (omega arith); result = wholes-result _ 3 (λ a b u e. truth-kind e) }
+two-says equal = record { count = refl; next = refl; wrong = λ v w e. absurd (never (sym e)); any = λ e. same-there; result = same-result }
+two-says and = record { count = refl; next = refl; wrong = truths-wrong; any = λ e. absurd (omega arith); result = truths-result }
 
 -- the row of every byte says what is so
 pub row-says : (m : ℕ) → Says (markOf m) (rowOf (markOf m))
@@ -231,9 +259,9 @@ row-says m = go (markOf m)
     go : (k : Mark) → Says k (rowOf k)
     go (oneMark o) = one-says o
     go (twoMark o) = two-says o
-    go wholeMark = (refl, refl)
-    go locationMark = (refl, refl)
-    go noMark = (refl, refl)
-    go yesMark = (refl, refl)
-    go localMark = (refl, refl)
+    go wholeMark = (refl, refl, refl)
+    go locationMark = (refl, refl, refl)
+    go noMark = (refl, refl, refl)
+    go yesMark = (refl, refl, refl)
+    go localMark = (refl, refl, refl)
     go noExpr = refl
