@@ -19,6 +19,8 @@ pub mod Exprs
 pub mod Blocks
 -- and those of a table's sections
 pub mod Sections
+-- the procedures that a block calls
+pub mod Callees
 -- rule 7 without a bound on the calls
 pub mod Calls
 -- rule 4 as a statement: where an instruction may stand
@@ -53,6 +55,8 @@ pub mod Sets
 pub mod Joined
 -- the variables of expressions as a row of flags
 pub mod Variables
+-- labels count from 1, in textual order
+pub mod LabelOrder
 -- labels do not matter to the rules
 pub mod Labelled
 -- bytes that stand in a table, by positions

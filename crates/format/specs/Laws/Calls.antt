@@ -1,4 +1,4 @@
--- No procedure can reach itself by calls: the test with a bound on the onward decides it without one.
+-- No procedure can reach itself by calls: the test with a bound on the calls decides it without one.
 use Prim.Native.Nat.{ℕ, zero, suc, _≤_, _<_}
 use native.Mathlib.Omega.{arith}
 use mathlib.Core.Path.{_≡_, refl, sym, _∙_}
@@ -75,14 +75,14 @@ distinct-below zero (x ∷ xs) d h = absurd (omega (arith, h .0))
 distinct-below (suc n) xs d h =
     omega (arith, length-without n xs d, distinct-below n (without n xs) (distinct-without n xs d) (below-without n xs h))
 
--- ---- walks along onward
+-- ---- walks along calls
 
 module _ {A : Type 0} (ps : List (Proc A)) where
-  -- procedure m holds a direct of n
+  -- procedure m holds a call of n: Laws.Callees says where such a call may stand
   abbrev pub Calls : ℕ → ℕ → Type 0
   Calls m n = In n (calleesOf ps m)
 
-  -- m can reach n by onward
+  -- m can reach n by calls
   pub data Reaches : ℕ → ℕ → Type 0 where
     direct : {m n : ℕ} → Calls m n → Reaches m n
     onward : {m c n : ℕ} → Calls m c → Reaches c n → Reaches m n
@@ -97,7 +97,7 @@ module _ {A : Type 0} (ps : List (Proc A)) where
   walk (direct h) = (_, [], h, refl)
   walk (onward h r) = let next : (c : ℕ) × (cs : List ℕ) × Calls _ c × Walk c cs _ = walk r in (_, next .0 ∷ next .1, h, (next .2, next .3))
 
-  -- only procedures that are there direct
+  -- only procedures that are there call
   pub calls-below : (m n : ℕ) → Calls m n → m < length ps
   calls-below m n h = below ps m h
     where
@@ -132,7 +132,7 @@ module _ {A : Type 0} (ps : List (Proc A)) where
       (λ e. shortcut m c (rest .0) n e (rest .1) (rest .2))
       (λ e. (c ∷ rest .0, (w .0, rest .1), (e, rest .2)))
 
-  -- the test finds a walk of at most k onward
+  -- the test finds a walk of at most k calls
   finds : (k m c : ℕ) (cs : List ℕ) (n : ℕ) → Calls m c → Walk c cs n → length cs < k → reaches ps k m n ≡ true
   finds zero m c cs n h w room = absurd (omega arith)
   finds (suc k) m c [] n h w room = some-pass _ (calleesOf ps m) h (either-left (reaches ps k c n) (eq-eqb c n w))
