@@ -16,7 +16,6 @@ use denote.Enum.Declared.{tagOf}
 use Rattle.value.proofs.Value.{the-type}
 use Rattle.value.specs.Maybe.{Maybe, is, nothing, both}
 use Rattle.value.specs.Values.{whole, wholes, truths, same, sameZ, sameB, apply₁, not, neg}
-use Rattle.value.specs.Marks.{kindOf, ofKind}
 use Rattle.value.specs.Laws.Tests.{by-test, never}
 use Rattle.basics.proofs.Wide.{read, Large, large-gives}
 use Rattle.value.specs.declared.Value.{Value}
@@ -144,13 +143,3 @@ same-flags true true = refl
 same-flags true false = refl
 same-flags false true = refl
 same-flags false false = refl
-
--- ---- kinds
-
--- any kind suits
-pub any-suits : {k : ℕ} (x : ℕ) (v : Value) → k ≡ x → k ≡ 0 → true ≡ ofKind x v
-any-suits x v e z = rw (eq-eqb x 0 (sym e ∙ z))
-
--- one kind suits
-pub one-suits : {k j : ℕ} (x : ℕ) (v : Value) → k ≡ x → (k ≡ 0 → ⊥) → j ≡ kindOf v → eqb j k ≡ ofKind x v
-one-suits x v e n f = rw (e, f, ne-eqb x 0 (λ z. n (e ∙ z)))

@@ -1,4 +1,5 @@
 // The operators on values. A result outside the range is no value, and so is that of an operand of the wrong kind.
+use super::marks;
 use value::Answer;
 use value::Value;
 ghost use mathlib.Core.Path.{_≡_};
@@ -131,8 +132,8 @@ pub fn apply_one(mark: u8, operand: Value) -> Answer
     ensures { λ r. ⌜ given r ≡ applied₁ (markOf mark) operand ⌝ }
 {
     match mark {
-        0x16 => not(operand),
-        0x17 => negate(operand),
+        marks::NOT => not(operand),
+        marks::NEGATE => negate(operand),
         _ => Answer::Nothing,
     }
 }
@@ -142,12 +143,12 @@ pub fn apply_two(mark: u8, left: Value, right: Value) -> Answer
     ensures { λ r. ⌜ given r ≡ applied₂ (markOf mark) left right ⌝ }
 {
     match mark {
-        0x10 => add(left, right),
-        0x11 => subtract(left, right),
-        0x12 => multiply(left, right),
-        0x13 => less(left, right),
-        0x14 => equal(left, right),
-        0x15 => and(left, right),
+        marks::ADD => add(left, right),
+        marks::SUBTRACT => subtract(left, right),
+        marks::MULTIPLY => multiply(left, right),
+        marks::LESS => less(left, right),
+        marks::EQUAL => equal(left, right),
+        marks::AND => and(left, right),
         _ => Answer::Nothing,
     }
 }

@@ -34,18 +34,18 @@ use Rattle.engine.specs.Laws.Work.{framed-get}
 
 -- ---- marks
 
--- an operator's mark is at least 10, in hexadecimal
-mark₁-high : (o : One) → 0x16 ≤ mark₁ o
-mark₁-high not = omega arith
-mark₁-high neg = omega arith
+-- an operator's mark is no leaf's, and in the table
+operator₁ : (o : One) → (6 ≤ mark₁ o) × (mark₁ o < 24)
+operator₁ not = omega arith
+operator₁ neg = omega arith
 
-mark₂-high : (o : Two) → 0x10 ≤ mark₂ o
-mark₂-high add = omega arith
-mark₂-high sub = omega arith
-mark₂-high mul = omega arith
-mark₂-high less = omega arith
-mark₂-high equal = omega arith
-mark₂-high and = omega arith
+operator₂ : (o : Two) → (6 ≤ mark₂ o) × (mark₂ o < 24)
+operator₂ add = omega arith
+operator₂ sub = omega arith
+operator₂ mul = omega arith
+operator₂ less = omega arith
+operator₂ equal = omega arith
+operator₂ and = omega arith
 
 -- a constant's is at most 04
 constant-low : {t : List ℕ} {i d : ℕ} (v : Value) {j : ℕ} → ExprAt t i d (constant v) j → getD t i 0 ≤ 4
@@ -73,8 +73,8 @@ count₂ and = refl
 leaf-at : {t : List ℕ} {i d : ℕ} (e : Expr) {j : ℕ} → ExprAt t i d e j → getD t i 0 < 6 → ExprAt t i 1 e j
 leaf-at (constant v) h l = record { stands = h .stands; fits = (omega arith, h .fits .1) }
 leaf-at (local x) h l = record { stands = h .stands; fits = (omega arith, h .fits .1) }
-leaf-at (one o a) h l = absurd (omega (arith, first (h .stands), mark₁-high o))
-leaf-at (two o a b) h l = absurd (omega (arith, first (h .stands), mark₂-high o))
+leaf-at (one o a) h l = absurd (omega (arith, first (h .stands), operator₁ o))
+leaf-at (two o a b) h l = absurd (omega (arith, first (h .stands), operator₂ o))
 
 -- a local, if it is no constant and no operator
 local-at : {t : List ℕ} {i : ℕ} (e : Expr) {j : ℕ} → ExprAt t i 1 e j → (getD t i 0 ≡ 1 → ⊥) → (getD t i 0 ≡ 2 → ⊥) → (getD t i 0 ≡ 3 → ⊥)
@@ -120,6 +120,16 @@ module _ {t ls : List ℕ} {fb i d : ℕ} where
   -- and some depth
   pub deep : Ready t ls fb i d → 1 ≤ d
   deep h = expr-deep (h .here)
+
+  -- an operator's mark is in the table
+  pub listed : Ready t ls fb i d → 6 ≤ getD t i 0 → getD t i 0 < 24
+  listed h l = go (h .e) (h .here)
+    where
+      go : (e : Expr) {j : ℕ} → ExprAt t i d e j → getD t i 0 < 24
+      go (constant v) h = omega (arith, constant-low v h)
+      go (local x) h = omega (arith, first (h .stands))
+      go (one o a) h = omega (arith, first (h .stands), operator₁ o)
+      go (two o a b) h = omega (arith, first (h .stands), operator₂ o)
 
   -- an operand's locals are the operator's
   one-below : (h : Ready t ls fb i d) {o : One} (w : OneAt t i d o (h .e) (h .j)) → Below (length (h .env)) (w .a)

@@ -9,9 +9,10 @@ use basics::operators;
 use value::Answer;
 use value::Value;
 ghost use mathlib.Core.Path.{_≡_};
-ghost use Prim.Native.Nat.{_≤_};
+ghost use Prim.Native.Nat.{_≤_, _<_};
 ghost use lib.ListN.{getD};
-ghost use Rattle.value.specs.Values.{given};
+ghost use Rattle.value.specs.Values.{given, equal, and};
+ghost use Rattle.value.specs.Marks.{mark₂, operandsOf, takesOf};
 ghost use Rattle.format.specs.Decode.{maxDepth};
 ghost use Rattle.engine.specs.Evaluated.{operated₁, operated₂, Ready, Evaluates};
 
@@ -27,9 +28,30 @@ pub struct Valued {
     pub next: usize,
 }
 
-// "An operator with an operand that has no value, or of the wrong kind, has none itself": add, subtract, multiply, less.
+// What the table says of an operator: the count of its operands, and their kind.
+struct Row {
+    operands: u8,
+    takes: u8,
+}
+
+fn row_of(mark: u8) -> Row
+    requires { ⌜ mark < 24 ⌝ }
+    ensures { λ r. ⌜ (r .operands ≡ operandsOf mark) × (r .takes ≡ takesOf mark) ⌝ }
+{
+    let row = marks::TABLE[mark as usize];
+    Row {
+        operands: marks::count_in(row),
+        takes: marks::kind_in(row),
+    }
+}
+
+// "An operator with an operand that has no value, or of the wrong kind, has none itself". So for each operand kind of the table the operands are
+// judged in turn: whether the left one has a value, its kind, whether the right one has a value, its kind. Then the operator is applied to
+// operands of known kinds.
+
+// Whole numbers: add, subtract, multiply, less.
 fn wholes(mark: u8, left: Answer, right: Answer) -> Answer
-    requires { ⌜ (mark ≡ 0x14 → ⊥) × (mark ≡ 0x15 → ⊥) ⌝ }
+    requires { ⌜ takesOf mark ≡ 1 ⌝ }
     ensures { λ r. ⌜ given r ≡ operated₂ mark (given left) (given right) ⌝ }
 {
     let Answer::Is(u) = left else {
@@ -47,9 +69,9 @@ fn wholes(mark: u8, left: Answer, right: Answer) -> Answer
     operators::apply_two(mark, Value::Whole(a), Value::Whole(b))
 }
 
-// "and (both sides are evaluated)".
+// Truth values: "and (both sides are evaluated)".
 fn truths(left: Answer, right: Answer) -> Answer
-    ensures { λ r. ⌜ given r ≡ operated₂ 0x15 (given left) (given right) ⌝ }
+    ensures { λ r. ⌜ given r ≡ operated₂ (mark₂ and) (given left) (given right) ⌝ }
 {
     let Answer::Is(u) = left else {
         return Answer::Nothing;
@@ -66,9 +88,9 @@ fn truths(left: Answer, right: Answer) -> Answer
     operators::and(Value::Truth(a), Value::Truth(b))
 }
 
-// "equal (two of one kind)".
+// Any kind: "equal (two of one kind)", so that the right operand must be of the left one's.
 fn same(left: Answer, right: Answer) -> Answer
-    ensures { λ r. ⌜ given r ≡ operated₂ 0x14 (given left) (given right) ⌝ }
+    ensures { λ r. ⌜ given r ≡ operated₂ (mark₂ equal) (given left) (given right) ⌝ }
 {
     let Answer::Is(u) = left else {
         return Answer::Nothing;
@@ -98,29 +120,36 @@ fn same(left: Answer, right: Answer) -> Answer
     }
 }
 
-// What the operator of a mark gives of two answers. The operator is chosen first, and then the operands are taken apart.
-fn two(mark: u8, left: Answer, right: Answer) -> Answer
+// What an operator gives of two answers, by the kind of its operands.
+fn two(mark: u8, kind: u8, left: Answer, right: Answer) -> Answer
+    requires { ⌜ (operandsOf mark ≡ 2) × (kind ≡ takesOf mark) ⌝ }
     ensures { λ r. ⌜ given r ≡ operated₂ mark (given left) (given right) ⌝ }
 {
-    match mark {
-        0x14 => same(left, right),
-        0x15 => truths(left, right),
-        _ => wholes(mark, left, right),
+    match kind {
+        marks::WHOLE => wholes(mark, left, right),
+        marks::TRUTH => truths(left, right),
+        _ => same(left, right),
     }
 }
 
 // And of one.
-fn one(mark: u8, operand: Answer) -> Answer
+fn one(mark: u8, kind: u8, operand: Answer) -> Answer
+    requires { ⌜ kind ≡ takesOf mark ⌝ }
     ensures { λ r. ⌜ given r ≡ operated₁ mark (given operand) ⌝ }
 {
     let Answer::Is(v) = operand else {
         return Answer::Nothing;
     };
-    match v {
-        Value::Whole(a) => operators::apply_one(mark, Value::Whole(a)),
-        Value::Truth(a) => operators::apply_one(mark, Value::Truth(a)),
-        Value::Location(_) => Answer::Nothing,
+    if kind == marks::TRUTH {
+        let Value::Truth(a) = v else {
+            return Answer::Nothing;
+        };
+        return operators::apply_one(mark, Value::Truth(a));
     }
+    let Value::Whole(a) = v else {
+        return Answer::Nothing;
+    };
+    operators::apply_one(mark, Value::Whole(a))
 }
 
 // A leaf's value.
@@ -129,19 +158,19 @@ fn leaf(t: &[u8], locals: &[u64; WORDS], base: usize, at: usize) -> Valued
     ensures { λ r. ⌜ Evaluates (now (t .entry)) (now (locals .entry)) base at 1 r ⌝ }
 {
     match t[at] {
-        0x01 => Valued {
+        marks::NUMBER => Valued {
             answer: Answer::Is(Value::Whole(bytes::number_of(table::four(t, at + 1)))),
             next: at + 5,
         },
-        0x02 => Valued {
+        marks::PLACE => Valued {
             answer: Answer::Is(Value::Location(table::two(t, at + 1))),
             next: at + 3,
         },
-        0x03 => Valued {
+        marks::FALSE => Valued {
             answer: Answer::Is(Value::Truth(false)),
             next: at + 1,
         },
-        0x04 => Valued {
+        marks::TRUE => Valued {
             answer: Answer::Is(Value::Truth(true)),
             next: at + 1,
         },
@@ -166,7 +195,9 @@ fn operation(t: &[u8], locals: &[u64; WORDS], base: usize, at: usize, depth: usi
     };
     let left = a.answer;
     let second = a.next;
-    if marks::operands(mark) == 2 {
+    let row = row_of(mark);
+    let kind = row.takes;
+    if row.operands == 2 {
         let b = if t[second] < LEAVES {
             leaf(t, locals, base, second)
         } else {
@@ -174,12 +205,12 @@ fn operation(t: &[u8], locals: &[u64; WORDS], base: usize, at: usize, depth: usi
         };
         let right = b.answer;
         Valued {
-            answer: two(mark, left, right),
+            answer: two(mark, kind, left, right),
             next: b.next,
         }
     } else {
         Valued {
-            answer: one(mark, left),
+            answer: one(mark, kind, left),
             next: second,
         }
     }

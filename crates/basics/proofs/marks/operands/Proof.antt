@@ -1,6 +1,6 @@
--- `basics::marks::operands` meets its contract: the column is computed from the table of marks.
+-- `basics::marks::operands` meets its contract: the count is found in the row.
 use borrow.Author.Needs.{needs}
-use Rattle.value.specs.Laws.Marks.{column, past-table}
+use Rattle.basics.specs.Laws.Columns.{count-told}
 use Rattle.basics.proofs.marks.operands.Statement.{statement}
 use Rattle.basics.proofs.marks.operands.Tie as tie
 
@@ -8,6 +8,6 @@ pub operands-spec : {M : Type 1} → statement M
 operands-spec =
     tie.close
     (tie.spec
-    (λ c. search needs)
-    (λ c. column (λ r. r .operands) (c .before .args .mark) (c .if1 .taken))
-    (λ c. past-table (λ r. r .operands) (c .before .args .mark) (c .if1 .left)))
+    (λ c κs. search needs)
+    (λ c κs. search needs)
+    (λ c. count-told (c .before .before .args .mark) (c .before .row .ensures) (c .count-in .ensures)))

@@ -1,5 +1,6 @@
 -- `engine::evaluate::two` meets its contract.
 use borrow.Author.Needs.{needs}
+use Rattle.engine.proofs.Operands.{ways}
 use Rattle.engine.proofs.evaluate.two.Statement.{statement}
 use Rattle.engine.proofs.evaluate.two.Tie as tie
 
@@ -9,6 +10,6 @@ two-spec =
     (λ c κs. search needs)
     (λ c κs. search needs)
     (λ c κs. search needs)
-    (λ c. rw (c .before .match .keys1) (c .same .ensures))
-    (λ c. rw (c .before .match .keys2) (c .truths .ensures))
-    (λ c. search needs))
+    (λ c. search needs)
+    (λ c. search (ways, needs))
+    (λ c. search (ways, needs)))
