@@ -47,6 +47,9 @@ pub const LABELS: usize = 400;
 // "schedule over 4,096 entries".
 pub const ENTRIES: usize = 4096;
 
+// "a budget of at least 140,000,000 steps".
+pub const BUDGET: u64 = 140000000;
+
 // ---- bytes
 
 // "per procedure 6 bytes".

@@ -14,6 +14,10 @@ mod buffers;
 mod print;
 
 use basics::bytes;
+use basics::numbers::COPY_CELLS;
+use basics::numbers::ENTRIES;
+use basics::numbers::EVENT;
+use figures::line::LINE;
 use semantics::RunAnswer;
 
 const HEADER: usize = 36;
@@ -22,9 +26,11 @@ const LONGEST_TABLE: usize = 66000;
 
 const LONGEST_SCHEDULE: usize = 5000;
 
-const LONGEST_CELLS: usize = 45056;
+// Room for all cells, and for some bytes more.
+const LONGEST_CELLS: usize = COPY_CELLS + 4096;
 
-const LONGEST_EVENTS: usize = 45056;
+// An event for each entry of the longest schedule.
+const LONGEST_EVENTS: usize = EVENT * ENTRIES;
 
 const LONGEST_OUT: usize = 70000;
 
@@ -172,7 +178,7 @@ fn run_machine(request: Request, table: &[u8], schedule: &[u8]) {
 
 // The run program's line on its whole input.
 fn run_program(input: &[u8]) {
-    let mut line = [0u8; 128];
+    let mut line = [0u8; LINE];
     let n = figures::input::print(input, &mut line);
     print::line(RUN_PROGRAM, &line[..n]);
 }

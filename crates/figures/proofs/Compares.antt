@@ -11,7 +11,8 @@ use borrow.Author.Tests.{eq-eqb, ne-eqb, eqb-true, eqb-false}
 use Rattle.value.specs.Laws.Tests.{by-test}
 use Rattle.format.specs.declared.ReadAnswer.{ReadAnswer}
 use Rattle.format.specs.Calls.{readCall}
-use Rattle.format.specs.Syntax.{concurrent}
+use Rattle.format.specs.Syntax.{Kind, concurrent, sequential}
+use Rattle.format.specs.Rules.{limits}
 use Rattle.reader.proofs.Verdicts.{slice-bytes}
 use Rattle.translation.specs.declared.WriteAnswer.{WriteAnswer}
 use Rattle.translation.specs.Calls.{translateCall}
@@ -21,7 +22,7 @@ use Rattle.agreement.specs.declared.Figures.{Figures}
 use Rattle.agreement.specs.Agreement.{budget}
 use Rattle.agreement.specs.Figures.{refusal, figuresCall}
 use Rattle.agreement.specs.Answers.{programAnswer, copyAnswer, compared}
-use Rattle.agreement.specs.Laws.Told.{program-answers, copy-answers, told-unwritten, told-fits, told-not-run, told-both}
+use Rattle.agreement.specs.Laws.Told.{program-answers, copy-answers, told-unwritten, told-fits, told-not-run, told-both, mostCells}
 
 -- what code knows of a slice: its elements are bytes
 abbrev Known : List ℕ → Type 0
@@ -29,16 +30,20 @@ Known t = (i : ℕ) → Fits w8 (getD t i 0)
 
 -- ---- the two runs
 
+-- room for the most cells
+abbrev room : Kind → List ℕ
+room k = replicate (mostCells k) 0
+
 module _ (t ts : List ℕ) {cs es : List ℕ} {r : RunAnswer} (known : Known t) where
   -- the program's
-  pub program-ran : _≡_ {A = Outcome} (record { answer = r; cells = cs; events = es }) (concurrentCall t ts (replicate 10240 0) [])
+  pub program-ran : _≡_ {A = Outcome} (record { answer = r; cells = cs; events = es }) (concurrentCall t ts (room concurrent) [])
       → r ≡ programAnswer t ts
-  program-ran e = ap (λ x. x .answer) e ∙ program-answers t ts (replicate 10240 0) [] (slice-bytes t known) (simp length-replicate (omega arith))
+  program-ran e = ap (λ x. x .answer) e ∙ program-answers t ts (room concurrent) [] (slice-bytes t known) (simp length-replicate (omega arith))
 
   -- the copy's
-  pub copy-ran : (h : ℕ) → _≡_ {A = Outcome} (record { answer = r; cells = cs; events = es }) (sequentialCall budget h t ts (replicate 40960 0) [])
+  pub copy-ran : (h : ℕ) → _≡_ {A = Outcome} (record { answer = r; cells = cs; events = es }) (sequentialCall budget h t ts (room sequential) [])
       → r ≡ copyAnswer t ts h
-  copy-ran h e = ap (λ x. x .answer) e ∙ copy-answers t ts (replicate 40960 0) [] h (slice-bytes t known) (simp length-replicate (omega arith))
+  copy-ran h e = ap (λ x. x .answer) e ∙ copy-answers t ts (room sequential) [] h (slice-bytes t known) (simp length-replicate (omega arith))
 
 -- ---- compared
 
@@ -60,15 +65,19 @@ module _ (t ts u : List ℕ) {p : RunAnswer} (P : p ≡ programAnswer t ts) wher
 
 -- ---- the figures
 
-module _ (t ts : List ℕ) {o : List ℕ} {w : WriteAnswer} (W : record { answer = w; out = o } ≡ translateCall t (replicate 65536 0)) where
+-- room for the longest copy
+abbrev longest : List ℕ
+longest = replicate (limits sequential .bytes) 0
+
+module _ (t ts : List ℕ) {o : List ℕ} {w : WriteAnswer} (W : record { answer = w; out = o } ≡ translateCall t longest) where
   -- a table that is not translated
   pub figures-unwritten : {r : Figures} → (w .number ≡ 0 → ⊥) → r ≡ refusal (w .number) → r ≡ figuresCall t ts
-  figures-unwritten z e = e ∙ told-unwritten t ts (replicate 65536 0) W (simp length-replicate (omega arith)) z
+  figures-unwritten z e = e ∙ told-unwritten t ts longest W (simp length-replicate (omega arith)) z
 
   module _ (known : Known t) (written : w .number ≡ 0) where
     -- the copy lies in the buffer
     pub copy-fits : w .length ≤ length o
-    copy-fits = told-fits t ts (replicate 65536 0) W (slice-bytes t known) written (simp length-replicate (omega arith))
+    copy-fits = told-fits t ts longest W (slice-bytes t known) written (simp length-replicate (omega arith))
 
     -- one that is
     pub figures-written : {r : Figures} → r ≡ compared (programAnswer t ts) (copyAnswer (take (w .length) o) ts (readCall concurrent t .locations))
@@ -77,5 +86,5 @@ module _ (t ts : List ℕ) {o : List ℕ} {w : WriteAnswer} (W : record { answer
     figures-written e =
         let p : RunAnswer = programAnswer t ts in
         by-test (eqb (p .number) 0)
-        (λ a. e ∙ rw a (told-both t ts (replicate 65536 0) W (slice-bytes t known) written refl (eqb-true _ _ a) refl refl))
-        (λ a. e ∙ rw a (told-not-run t ts (replicate 65536 0) W (slice-bytes t known) written refl (eqb-false _ _ a)))
+        (λ a. e ∙ rw a (told-both t ts longest W (slice-bytes t known) written refl (eqb-true _ _ a) refl refl))
+        (λ a. e ∙ rw a (told-not-run t ts longest W (slice-bytes t known) written refl (eqb-false _ _ a)))

@@ -11,7 +11,7 @@ use Rattle.value.specs.Values.{unbytes, numberAt}
 use Rattle.value.specs.Laws.Bytes.{number-at}
 use Rattle.agreement.specs.declared.Figures.{Figures}
 use Rattle.agreement.specs.Figures.{refusal, figuresCall}
-use Rattle.agreement.specs.Line.{scheduleOf, tableOf, told, line, printed, lined}
+use Rattle.agreement.specs.Line.{scheduleOf, tableOf, told, line, printed, lined, maxInput}
 
 -- ---- a place in a list, or its end
 
@@ -33,12 +33,12 @@ cut-take k i l e = elim (decLe i (length l)) [
 
 module _ (input : List ℕ) {r : Figures} where
   -- "an input over 20,482 bytes is answered 2"
-  pub input-large : 20482 < length input → r ≡ refusal 2 → r ≡ told input
+  pub input-large : maxInput < length input → r ≡ refusal 2 → r ≡ told input
   unfolding told
-  input-large h e = e ∙ rw (lt-ltb 20482 (length input) h)
+  input-large h e = e ∙ rw (lt-ltb maxInput (length input) h)
 
   -- two bytes, then the schedule from `start` to `stop`, then the table
-  pub input-split : {start n stop : ℕ} → length input ≤ 20482 → start ≡ min 2 (length input) → n ≡ numberAt 2 input 0
+  pub input-split : {start n stop : ℕ} → length input ≤ maxInput → start ≡ min 2 (length input) → n ≡ numberAt 2 input 0
       → stop ≡ min (start + n) (length input)
       → r ≡ figuresCall (take (length input - stop) (drop stop input)) (take (stop - start) (drop start input)) → r ≡ told input
   unfolding told
@@ -52,7 +52,7 @@ module _ (input : List ℕ) {r : Figures} where
       let schedule : take (stop - start) (drop start input) ≡ scheduleOf input
       = ap (take (stop - start)) (cut-drop start 2 input first)
       ∙ cut-take (stop - start) (unbytes (take 2 input)) (drop 2 input) (omega arith) in
-      e ∙ rw (table, schedule, le-ltb 20482 (length input) h)
+      e ∙ rw (table, schedule, le-ltb maxInput (length input) h)
 
 -- the figures of an input, then their line
 pub input-lined : (input o : List ℕ) {f : Figures} {o′ : List ℕ} {n : ℕ} → f ≡ told input → record { count = n; out = o′ } ≡ lined (line f) o

@@ -4,6 +4,10 @@
 // copy runs, 40,960 for its cells. The figures have only the number of events, so the event buffers are empty.
 use super::refused;
 use agreement::Figures;
+use basics::numbers::BUDGET;
+use basics::numbers::COPY_CELLS;
+use basics::numbers::LONGEST;
+use basics::numbers::PROGRAM_CELLS;
 use machines::run_concurrent;
 use machines::run_sequential;
 use reader::read_concurrent;
@@ -14,18 +18,6 @@ ghost use Rattle.format.specs.Syntax.{concurrent};
 ghost use Rattle.format.specs.Calls.{readCall};
 ghost use Rattle.agreement.specs.Answers.{programAnswer, copyAnswer, compared};
 ghost use Rattle.agreement.specs.Figures.{figuresCall};
-
-// "The sequential table would pass 65,536 bytes".
-const LONGEST_COPY: usize = 65536;
-
-// Five bytes for each of 2,048 cells.
-const PROGRAM_CELLS: usize = 10240;
-
-// Five bytes for each of 8,192 cells.
-const COPY_CELLS: usize = 40960;
-
-// "A budget of at least 140,000,000 steps".
-const BUDGET: u64 = 140000000;
 
 // The program's run, with room for the most cells.
 fn run_program(table: &[u8], schedule: &[u8]) -> RunAnswer
@@ -70,7 +62,7 @@ fn run_both(table: &[u8], schedule: &[u8], copy: &[u8]) -> Figures
 pub fn figures(table: &[u8], schedule: &[u8]) -> Figures
     ensures { λ r. ⌜ r ≡ figuresCall (now (table .entry)) (now (schedule .entry)) ⌝ }
 {
-    let mut copy = [0u8; LONGEST_COPY];
+    let mut copy = [0u8; LONGEST];
     let written = translate(table, &mut copy);
     if written.number != 0 {
         return refused(written.number);

@@ -1,15 +1,14 @@
 // The run program from its input to its line.
 use super::compare::figures;
+use super::line::LINE;
 use super::line::write_line;
 use super::refused;
 use agreement::Figures;
 use basics::bytes::two_bytes;
+use basics::numbers::LONGEST_INPUT;
 ghost use mathlib.Core.Path.{_≡_};
 ghost use Prim.Native.Nat.{min};
 ghost use Rattle.agreement.specs.Line.{told, printed, lined};
-
-// "An input over 20,482 bytes is answered 2".
-const LONGEST_INPUT: usize = 20482;
 
 // The place, or the end if that comes first.
 fn at_most(place: usize, end: usize) -> usize
@@ -23,6 +22,7 @@ pub fn figures_of_input(input: &[u8]) -> Figures
     ensures { λ r. ⌜ r ≡ told (now (input .entry)) ⌝ }
 {
     let end = input.len();
+    // "An input over 20,482 bytes is answered 2".
     if LONGEST_INPUT < end {
         return refused(2);
     }
@@ -33,7 +33,7 @@ pub fn figures_of_input(input: &[u8]) -> Figures
 }
 
 // The run program: the line that it prints for its standard input, and the line's length.
-pub fn print(input: &[u8], out: &mut [u8; 128]) -> usize
+pub fn print(input: &[u8], out: &mut [u8; LINE]) -> usize
     ensures { λ r. ⌜ record { count = r; out = now (out .exit) } ≡ lined (printed (now (input .entry))) (now (out .entry)) ⌝ }
 {
     write_line(figures_of_input(input), out)

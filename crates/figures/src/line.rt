@@ -1,10 +1,15 @@
 // The run program's line, written into a lent buffer.
 use agreement::Figures;
+use basics::numbers::FINISHED;
+use basics::numbers::USED;
 use writer::bytes::put;
 use writer::bytes::put_part;
 ghost use mathlib.Core.Path.{_≡_};
 ghost use Rattle.writer.specs.Laws.Put.{Put};
 ghost use Rattle.agreement.specs.Line.{digits, spaced, endWord, refusedLine, numbers, line, lined};
+
+// A buffer that is large enough: a line has at most 93 bytes.
+pub const LINE: usize = 128;
 
 // 20 digits are enough for 64 bits.
 const DIGITS: u8 = 20;
@@ -35,10 +40,10 @@ fn put_number(n: u64, out: &mut [u8], at: usize) -> usize
 fn put_end(end: u8, out: &mut [u8], at: usize) -> usize
     ensures { λ r. ⌜ Put (now (out .entry)) at (endWord end) (now (out .exit)) r ⌝ }
 {
-    if end == 0 {
+    if end == FINISHED {
         return put_part(b"finished", 0, 8, out, at);
     }
-    if end == 1 {
+    if end == USED {
         return put_part(b"used", 0, 4, out, at);
     }
     put_part(b"blocked", 0, 7, out, at)
@@ -75,8 +80,8 @@ fn put_line(f: Figures, out: &mut [u8]) -> usize
     put_numbers(f.steps, f.copy, f.unused as u64, f.events, out, p)
 }
 
-// The line, which has at most 93 bytes, and its length.
-pub fn write_line(f: Figures, out: &mut [u8; 128]) -> usize
+// The line, and its length.
+pub fn write_line(f: Figures, out: &mut [u8; LINE]) -> usize
     ensures { λ r. ⌜ record { count = r; out = now (out .exit) } ≡ lined (line f) (now (out .entry)) ⌝ }
 {
     put_line(f, out)
