@@ -248,7 +248,13 @@ two-says mul = record {
   any = λ e. absurd (omega arith);
   result = wholes-result _ 1 (λ a b u e. whole-kind (a *ℤ b) e);
 }
-two-says less = record { count = refl; next = refl; wrong = wholes-wrong _; any = λ e. absurd (omega arith); result = wholes-result _ 3 (λ a b u e. truth-kind e) }
+two-says less = record {
+  count = refl;
+  next = refl;
+  wrong = wholes-wrong _;
+  any = λ e. absurd (omega arith);
+  result = wholes-result _ 3 (λ a b u e. truth-kind e);
+}
 two-says equal = record { count = refl; next = refl; wrong = λ v w e. absurd (never (sym e)); any = λ e. same-there; result = same-result }
 two-says and = record { count = refl; next = refl; wrong = truths-wrong; any = λ e. absurd (omega arith); result = truths-result }
 
