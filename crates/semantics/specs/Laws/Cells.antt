@@ -6,21 +6,29 @@ use mathlib.Core.Path.{_≡_, refl, ap, _∙_}
 use mathlib.Core.Logic.{_≢_}
 use mathlib.Core.List.{List, [], _∷_, map}
 use lib.ListN.{length, getD, set, take, length-set, length-replicate}
-use lib.Seq.{map-set-same, take-set-le, take-set-lt, getD-take}
+use lib.Seq.{map-set-same, take-set-le, take-set-lt, getD-take, getD-set-same, getD-set-other}
 use lib.IntN.{pos}
-use Rattle.value.specs.Maybe.{Maybe, is, _>>=_}
+use Rattle.value.specs.Maybe.{Maybe, is, nothing, _>>=_}
 use Rattle.value.specs.Lists.{at}
 use Rattle.value.specs.declared.Value.{Value}
 use Rattle.value.specs.declared.Value.the-variants.{Whole}
 use Rattle.value.specs.Laws.Maybes.{missing}
-use Rattle.value.specs.Laws.Lists.{at-below, at-getD, at-set-same, at-set-other, at-take}
-use Rattle.semantics.specs.Memory.{Env, lookup, Memory, cell, stored, fresh}
+use Rattle.value.specs.Laws.Lists.{at-below, at-getD, at-set-same, at-set-other, at-take, at-replicate}
+use Rattle.semantics.specs.Memory.{Env, lookup, bound, Memory, cell, stored, fresh}
 
 -- a local that is set is below the number of locals
 pub lookup-below : (ρ : Env) (x : ℕ) {v : Value} → lookup ρ x ≡ is v → x < length ρ
 lookup-below [] x e = missing e
 lookup-below (u ∷ ρ) zero e = omega arith
 lookup-below (u ∷ ρ) (suc x) e = let h : x < length ρ = lookup-below ρ x e in omega arith
+
+-- ρ[x ↦ v]: x is v
+pub bound-same : (ρ : Env) (x : ℕ) (v : Value) → x < length ρ → lookup (bound ρ x v) x ≡ is v
+bound-same ρ x v h = getD-set-same ρ x (is v) nothing h
+
+-- and every other local is what it was
+pub bound-other : (ρ : Env) (x : ℕ) (v : Value) (y : ℕ) → y ≢ x → lookup (bound ρ x v) y ≡ lookup ρ y
+bound-other ρ x v y h = getD-set-other ρ x y (is v) nothing h
 
 -- ---- memory
 
@@ -87,7 +95,19 @@ cell-there (row ∷ η) zero i {n} e h =
     (getD row i d, at-getD row i d (omega arith))
 cell-there (row ∷ η) (suc l) i e h = cell-there η l i e h
 
+-- and a cell that is there is below it
+pub cell-inside : (η : Memory) (l i : ℕ) {u : Value} → cell η l i ≡ is u → (n : ℕ) × (at (shape η) l ≡ is n) × (i < n)
+cell-inside [] l i e = missing e
+cell-inside (row ∷ η) zero i e = (length row, refl, at-below row i e)
+cell-inside (row ∷ η) (suc l) i e = cell-inside η l i e
+
 -- fresh memory has the sizes
 pub shape-fresh : (ns : List ℕ) → shape (fresh ns) ≡ ns
 shape-fresh [] = refl
 shape-fresh (n ∷ ns) = rw (length-replicate n (Whole (pos 0)), shape-fresh ns)
+
+-- "All cells start as number 0"
+pub cell-fresh : (ns : List ℕ) (l i : ℕ) {n : ℕ} → at ns l ≡ is n → i < n → cell (fresh ns) l i ≡ is (Whole (pos 0))
+cell-fresh [] l i e h = missing e
+cell-fresh (m ∷ ns) zero i {n} e h = let same : m ≡ n = cc in at-replicate m i (Whole (pos 0)) (omega arith)
+cell-fresh (m ∷ ns) (suc l) i e h = cell-fresh ns l i e h
