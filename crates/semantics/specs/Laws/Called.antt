@@ -1,15 +1,20 @@
 -- What the run calls leave: buffers of the same length, with the bytes of each cell and of each event.
-use Prim.Native.Nat.{ℕ, _*_, _/_, _≤_, _<_}
+use Prim.Native.Nat.{ℕ, zero, suc, _+_, _*_, _/_, _≤_, _<_}
+use native.Mathlib.Nat.{zero-mul, suc-mul, add-comm}
 use native.Mathlib.Omega.{arith}
 use mathlib.Core.Path.{_≡_, refl, sym, ap, _∙_}
 use mathlib.Core.Logic.{_↔_}
-use mathlib.Core.List.{List, [], _∷_}
-use lib.ListN.{length, take, length-append, length-take}
+use mathlib.Core.List.{List, [], _∷_, _++_}
+use mathlib.Core.Bool.{true, false}
+use lib.ListN.{length, take, drop, length-append, length-take}
+use lib.Seq.{drop-drop, take-at, drop-at}
 use borrow.Author.Tests.{leb-true, leb-false, le-leb, lt-leb}
-use Rattle.value.specs.Lists.{sum}
+use Rattle.value.specs.Maybe.{is}
+use Rattle.value.specs.Lists.{at, sum}
 use Rattle.value.specs.Values.{cellBytes, cellSize}
+use Rattle.value.specs.Laws.Maybes.{is-inj, missing}
 use Rattle.value.specs.Laws.Tests.{Decides, never, by-test, _and_, le?, lt?}
-use Rattle.value.specs.Laws.Lists.{Each, all?, length-over}
+use Rattle.value.specs.Laws.Lists.{Each, all?, at-take, length-over}
 use Rattle.value.specs.Laws.Bytes.{Bytes}
 use Rattle.value.specs.Laws.Cells.{cell-parts, length-cell}
 use Rattle.format.specs.Syntax.{Program, Plain, Kind, concurrent, sequential}
@@ -45,14 +50,29 @@ length-cells (row ∷ η) =
 pub length-event : (e : Event) → length (eventBytes e) ≡ eventSize
 length-event e = rw (cell-parts (e .value))
 
+-- only whole events are written
+pub whole-events : (room : ℕ) (evs : List Event) → length (log room evs) ≡ eventSize * length (take (room / eventSize) evs)
+whole-events room evs = omega (arith, length-each eventBytes eventSize length-event (take (room / eventSize) evs))
+
 -- those that are written fit
 pub length-log : (room : ℕ) (evs : List Event) → length (log room evs) ≤ room
-length-log room evs =
-    omega (
-      arith,
-      length-each eventBytes eventSize length-event (take (room / eventSize) evs),
-      length-take (room / eventSize) evs,
-    )
+length-log room evs = omega (arith, whole-events room evs, length-take (room / eventSize) evs)
+
+-- what stands at place i of things of n bytes each
+each-place : {A : Type 0} (item : A → List ℕ) (n : ℕ) → ((x : A) → length (item x) ≡ n) → (xs : List A) (i : ℕ) {x : A} → at xs i ≡ is x
+    → take n (drop (i * n) (each item xs)) ≡ item x
+each-place item n h [] i e = missing e
+each-place item n h (y ∷ xs) zero {x} e =
+    rw (zero-mul n) (take-at (item y) (each item xs) n (h y) ∙ ap item (is-inj e))
+each-place item n h (y ∷ xs) (suc i) e =
+    let more : suc i * n ≡ n + i * n = suc-mul i n ∙ add-comm (i * n) n in
+    rw (more, ← drop-drop (i * n) n (item y ++ each item xs), drop-at (item y) (each item xs) n (h y)) (each-place item n h xs i e)
+
+-- "Events that fit whole are written": the one at place i, if i + 1 of them fit
+pub written-whole : (room : ℕ) (evs : List Event) (i : ℕ) {e : Event} → at evs i ≡ is e → (i + 1) * eventSize ≤ room
+    → take eventSize (drop (i * eventSize) (log room evs)) ≡ eventBytes e
+written-whole room evs i e h =
+    each-place eventBytes eventSize length-event (take (room / eventSize) evs) i (at-take (room / eventSize) evs i (omega arith) ∙ e)
 
 -- ---- the calls
 
@@ -93,6 +113,35 @@ sequential-lent n h t ts cs es = as-lent sequential (verdict sequential t) _ ts 
     let shaped : shape (sequentialRun n h p ts .config .memory) ≡ p .sizes
     = copy-shape h (p .procs) n 0 (C.start p ts) ∙ shape-fresh (p .sizes) in
     result-lent (sequentialRun n h p ts .how) _ _ (sequentialRun n h p ts .config .memory) _ cs es (rw shaped r)
+
+-- "A refusal returns its number and zeros and writes nothing"
+pub record Refused (o : Outcome) (cs es : List ℕ) : Type 0 where
+  pub end : o .answer .end ≡ 0
+  pub steps : o .answer .steps ≡ 0
+  pub unused : o .answer .unused ≡ 0
+  pub count : o .answer .events ≡ 0
+  pub cells : o .cells ≡ cs
+  pub events : o .events ≡ es
+
+-- a call that answers another number than 0, where a run answers 0
+as-refused : (k : Kind) (v : Verdict) (go : Program Plain → Outcome) (ts cs es : List ℕ) → ((p : Program Plain) → go p .answer .number ≡ 0)
+    → (runAs k v go ts cs es .answer .number ≡ 0 → ⊥) → Refused (runAs k v go ts cs es) cs es
+as-refused k (refused n) go ts cs es clean h = record { end = refl; steps = refl; unused = refl; count = refl; cells = refl; events = refl }
+as-refused k (accepted p) go ts cs es clean h =
+    by-test (scheduled k p ts)
+    (λ a. by-test (roomy p cs)
+    (λ b. absurd (h (rw (a, b, runAs) (clean p))))
+    (λ b. rw (a, b, runAs) (record { end = refl; steps = refl; unused = refl; count = refl; cells = refl; events = refl })))
+    (λ a. rw (a, runAs) (record { end = refl; steps = refl; unused = refl; count = refl; cells = refl; events = refl }))
+
+-- THE CONCURRENT RUN REFUSES WITH ZEROS, AND WRITES NOTHING.
+pub concurrent-refuses : (t ts cs es : List ℕ) → (concurrentCall t ts cs es .answer .number ≡ 0 → ⊥) → Refused (concurrentCall t ts cs es) cs es
+concurrent-refuses t ts cs es = as-refused concurrent (verdict concurrent t) _ ts cs es (λ p. refl)
+
+-- SO DOES THE SEQUENTIAL RUN.
+pub sequential-refuses : (n h : ℕ) (t ts cs es : List ℕ) → (sequentialCall n h t ts cs es .answer .number ≡ 0 → ⊥)
+    → Refused (sequentialCall n h t ts cs es) cs es
+sequential-refuses n h t ts cs es = as-refused sequential (verdict sequential t) _ ts cs es (λ p. refl)
 
 -- ---- which number is answered
 
