@@ -9,6 +9,6 @@ pub mod Translate
 -- what the translator's call answers and leaves in the lent buffer
 pub mod Calls
 -- a translation worked by hand
-pub mod Worked
+pub mod Example
 -- what these are worth: read the end of Laws.Copy
 pub mod Laws

@@ -8,9 +8,9 @@ use lib.ListN.{length, take}
 use lib.Seq.{take-at}
 use lib.Dec.{ltb}
 use borrow.Author.Tests.{ltb-true, ltb-false, lt-ltb, le-ltb}
-use Rattle.value.specs.Lists.{over}
+use Rattle.value.specs.Lists.{at, over}
 use Rattle.value.specs.Laws.Tests.{by-test}
-use Rattle.value.specs.Laws.Lists.{length-over}
+use Rattle.value.specs.Laws.Lists.{length-over, over-rest}
 use Rattle.format.specs.Syntax.{Program, Plain, concurrent, sequential}
 use Rattle.format.specs.Encode.{table}
 use Rattle.format.specs.Rules.{Verdict, refused, accepted, verdict, limits}
@@ -57,6 +57,26 @@ answers-exactly t out h n = (λ e. by (verdict concurrent t) refl e, of)
     of (no-room r short room) = rw (r, le-ltb _ _ short, writesTable, lt-ltb _ _ room, writes)
     of (writes-it r short room) = rw (r, le-ltb _ _ short, writesTable, le-ltb _ _ room, writes)
 
+-- "A refusal returns its number and zeros and writes nothing"
+pub record Refused (t out : List ℕ) : Type 0 where
+  pub length : translateCall t out .answer .length ≡ 0
+  pub stays : translateCall t out .out ≡ out
+
+-- A REFUSAL ANSWERS 0 FOR THE LENGTH, AND WRITES NOTHING.
+pub call-refuses : (t out : List ℕ) → (translateCall t out .answer .number ≡ 0 → ⊥) → Refused t out
+call-refuses t out h = by (verdict concurrent t) refl
+  where
+    by : (v : Verdict) → verdict concurrent t ≡ v → Refused t out
+    by (refused m) r = record { length = rw r; stays = rw r }
+    by (accepted p) r =
+        let new : List ℕ = table sequential (translate p) in
+        by-test (ltb (limits sequential .bytes) (length new))
+        (λ a. record { length = rw (r, a, writesTable); stays = rw (r, a, writesTable) })
+        λ a.
+        by-test (ltb (length out) (length new))
+        (λ b. record { length = rw (r, a, writesTable, b, writes); stays = rw (r, a, writesTable, b, writes) })
+        (λ b. absurd (h (rw (r, a, writesTable, b, writes))))
+
 -- ---- what is written
 
 -- the program of a table whose translation was written
@@ -67,6 +87,7 @@ pub record Copied (t out : List ℕ) (n : ℕ) (p : Program Plain) : Type 0 wher
   -- the first n bytes of the lent buffer are the copy's table, and read back as the copy; the others stay
   pub bytes : take n (translateCall t out .out) ≡ table sequential (translate p)
   pub back : verdict sequential (take n (translateCall t out .out)) ≡ accepted (translate p)
+  pub rest : (i : ℕ) → n ≤ i → at (translateCall t out .out) i ≡ at out i
   pub length : length (translateCall t out .out) ≡ length out
 
 -- THE TRANSLATOR'S CALL WRITES THE COPY'S TABLE, WHICH READS BACK AS THE COPY.
@@ -88,6 +109,7 @@ call-copies t out h e = by (answers-exactly t out h 0 .0 e)
             short = short;
             bytes = bytes;
             back = ap (verdict sequential) bytes ∙ copy-accepted t h p r short;
+            rest = λ i low. rw done (over-rest new out i (rw done at low));
             length = rw done (length-over new out fits);
           },
         )

@@ -3,12 +3,13 @@ use Prim.Native.Nat.{ℕ}
 use mathlib.Core.Path.{_≡_, refl}
 use mathlib.Core.List.{List, [], _∷_}
 use mathlib.Core.Bool.{true, false}
-use Rattle.value.specs.Values.{not, add, less, equal, and}
+use Rattle.value.specs.Values.{not, add, sub, less, equal, and}
 use Rattle.value.specs.declared.Value.the-variants.{Truth}
 use Rattle.format.specs.Syntax.{Expr, constant, local, one, two, assign, write, read, while, if, call, atomic, select}
-use Rattle.format.specs.Syntax.{Block, end, Proc, Program, Plain}
-use Rattle.translation.specs.Code.{_then_, num, loc}
-use Rattle.translation.specs.Translate.{translate}
+use Rattle.format.specs.Syntax.{Block, end, step, Proc, Program, Plain}
+use Rattle.translation.specs.Layout.{layout}
+use Rattle.translation.specs.Code.{_then_, num, loc, code}
+use Rattle.translation.specs.Translate.{translate, begins}
 
 -- ---- the program: one location of size 1, two threads
 
@@ -122,6 +123,27 @@ copied =
   where
     of : ℕ → Block Plain → Proc Plain
     of n b = record { params = 1; locals = n; body = b }
+
+-- "Loads go over distinct variables, rising": for a read "load o's k variables, load p", for a write "load e's j, then o's k, then p". In procedure 1
+-- of C's layout, local x would be kept at 7 + x.
+pub loads :
+    -- x := y[x + z], of x 0, y 1, z 2
+    (code (layout C) 1 3 (begins C) 12 (read 0 1 (two add (local 2) (local 0))) 13
+    ≡ load 3 7 (load 5 9 (load 4 8 (read 3 4 (two add (local 5) (local 3)) then put 7 (local 3) (pc 13)))))
+    -- y[x] := z - x
+    × (code (layout C) 1 3 (begins C) 12 (write 1 (local 0) (two sub (local 2) (local 0))) 13
+    ≡ load 3 7 (load 5 9 (load 3 7 (load 4 8 (write 4 (local 3) (two sub (local 5) (local 3)) then pc 13)))))
+    -- call 0 (z, x) of a procedure that begins at label 1
+    × (code (layout C) 1 3 (begins C) 12 (call 0 (local 2 ∷ local 0 ∷ [])) 13
+    ≡ load 3 7 (load 5 9 (put 5 (local 5) (put 6 (local 3) (put 3 (num 13) (pc 1))))))
+loads = (refl, refl, refl)
+
+-- "An empty then or else leads to what follows the if; an empty loop body leads to the loop itself": of label 12
+pub empty-blocks :
+    (code (layout C) 1 3 (begins C) 12 (if (local 0) end (step 13 (assign 0 (num 1)) end)) 14 ≡ load 3 7 (test (local 3) 14 13))
+    × (code (layout C) 1 3 (begins C) 12 (if (local 0) (step 13 (assign 0 (num 1)) end) end) 14 ≡ load 3 7 (test (local 3) 13 14))
+    × (code (layout C) 1 3 (begins C) 12 (while (local 0) end) 13 ≡ load 3 7 (test (local 3) 12 13))
+empty-blocks = (refl, refl, refl)
 
 -- C'S TRANSLATION IS AS WORKED BY HAND.
 pub worked : translate C ≡ record { procs = copied; sizes = 1 ∷ 1 ∷ 2 ∷ 2 ∷ 2 ∷ 2 ∷ 2 ∷ 2 ∷ []; mains = [] }
