@@ -5,7 +5,8 @@ use mathlib.Core.Bool.{true, false}
 use Rattle.value.specs.Maybe.{Maybe, is, nothing, _>>=_}
 use Rattle.format.specs.Syntax.{Instr, assign, write, read, while, if, call, atomic, select, Block, end, step, concurrent}
 use Rattle.format.specs.Rules.{Here}
-use Rattle.semantics.specs.Memory.{lookup, bound, eval, index, place, truth, cell, stored, reading, writing}
+use Rattle.semantics.specs.Memory.{lookup, bound, eval, index, cell, stored, reading, writing}
+use Rattle.value.specs.Values.{place, truth}
 use Rattle.semantics.specs.Threads.{Atomic}
 
 -- inside an atomic block of procedure m

@@ -8,8 +8,9 @@ use native.Mathlib.Omega.{arith}
 use lib.ListN.{length, set}
 use lib.Seq.{sets}
 use borrow.Author.Tests.{le-leb, lt-leb}
-use Rattle.value.specs.Values.{bytes, cellKind, cellNumber, room, withValue, cellSize}
-use Rattle.value.specs.Laws.Cells.{cell-parts}
+use Rattle.value.specs.Values.{bytes, cellSize}
+use Rattle.basics.specs.Places.{cellKind, cellNumber, room, withValue}
+use Rattle.basics.specs.Laws.Places.{cell-parts}
 use Rattle.value.specs.declared.Value.{Value}
 
 -- four bytes, one after the other

@@ -1,4 +1,6 @@
 -- Laws of this crate's definitions.
 
--- the table by mark byte: what a row's number says
+-- the table by mark byte: what each row says of an operator is so
 pub mod Columns
+-- numbers and values at places
+pub mod Places

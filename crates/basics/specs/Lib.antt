@@ -1,7 +1,9 @@
 -- What the small functions on values, marks and bytes are proved against, beyond the definitions of `value`, and the sizes of the code's arrays.
 
--- the table by mark byte, as the code has it
+-- the table by mark byte, as the code uses it
 pub mod Columns
+-- numbers and values at places of a table or a buffer
+pub mod Places
 -- sizes of arrays, made from the definitions' numbers
 pub mod Sizes
 -- what these are worth

@@ -4,9 +4,10 @@ use value::Answer;
 use value::Value;
 ghost use mathlib.Core.Path.{_≡_};
 ghost use Prim.Native.Nat.{_+_, _*_, _≤_};
-ghost use lib.ListN.{length, getD, take, drop};
+ghost use lib.ListN.{length, getD};
 ghost use lib.Seq.{sets};
-ghost use Rattle.value.specs.Values.{given, bytes, word, unword, cellKind, cellNumber, valueOf, cellSize, unCell, numberAt, room, withValue};
+ghost use Rattle.value.specs.Values.{given, bytes, word, unword, cellSize};
+ghost use Rattle.basics.specs.Places.{cellKind, cellNumber, valueOf, numberAt, room, withValue};
 
 // A whole number's 32 bits, in two's complement.
 pub fn bits_of(a: i32) -> u32
@@ -136,19 +137,6 @@ pub fn value_of(kind: u8, n: u32) -> Answer
         }
     }
     Answer::Nothing
-}
-
-// The value whose five bytes stand at a place.
-pub fn read_value(bytes: &[u8], at: usize) -> Answer
-    ensures { λ r. ⌜ given r ≡ unCell (take cellSize (drop at (now (bytes .entry)))) ⌝ }
-{
-    if bytes.len() < CELL {
-        return Answer::Nothing;
-    }
-    if bytes.len() - CELL < at {
-        return Answer::Nothing;
-    }
-    value_of(bytes[at], four_bytes(bytes, at + 1))
 }
 
 // The four bytes of a number.

@@ -1,7 +1,7 @@
 // The marks of expressions, and the constant table by mark byte, 00 to 17: operand count, operand kind and result kind.
 ghost use mathlib.Core.Path.{_≡_};
 ghost use Prim.Native.Nat.{_/_, _%_};
-ghost use Rattle.value.specs.Marks.{operandsOf, payloadOf};
+ghost use Rattle.basics.specs.Columns.{operandsOf, payloadOf};
 ghost use Rattle.basics.specs.Columns.{packedOf};
 
 // The marks of leaves.

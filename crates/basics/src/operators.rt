@@ -4,7 +4,8 @@ use value::Answer;
 use value::Value;
 ghost use mathlib.Core.Path.{_≡_};
 ghost use Rattle.value.specs.Values.{given, whole, apply₁, apply₂, not, neg, add, sub, mul, less, equal, and};
-ghost use Rattle.value.specs.Marks.{markOf, applied₁, applied₂};
+ghost use Rattle.value.specs.Marks.{markOf};
+ghost use Rattle.basics.specs.Columns.{applied₁, applied₂};
 
 const LOWEST: i64 = -2147483648;
 

@@ -10,7 +10,7 @@ use lib.Dec.{eqb}
 use borrow.Author.Tests.{eqb-true, eqb-false}
 use Rattle.value.specs.Maybe.{is, nothing}
 use Rattle.value.specs.Lists.{at}
-use Rattle.value.specs.Values.{numberAt}
+use Rattle.basics.specs.Places.{numberAt}
 use Rattle.value.specs.Laws.Maybes.{is-inj, missing}
 use Rattle.value.specs.Laws.Tests.{by-test, never}
 use Rattle.value.specs.Laws.Lists.{at-below, at-getD}

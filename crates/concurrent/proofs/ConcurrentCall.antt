@@ -10,10 +10,12 @@ use lib.Dec.{ltb, leb}
 use borrow.Author.Tests.{ltb-true, ltb-false, lt-ltb, le-ltb, le-leb, lt-leb, leb-true}
 use Rattle.value.specs.Maybe.{is, both}
 use Rattle.value.specs.Lists.{at, all, sum, over}
-use Rattle.value.specs.Values.{bytes, numberAt, cellSize}
+use Rattle.value.specs.Values.{bytes, cellSize}
+use Rattle.basics.specs.Places.{numberAt}
 use Rattle.value.specs.Laws.Tests.{by-test, both-passed, never}
 use Rattle.value.specs.Laws.Lists.{Each, each-so, each-at, at-below, at-getD, all-passed}
-use Rattle.value.specs.Laws.Bytes.{Bytes, number-at}
+use Rattle.value.specs.Laws.Bytes.{Bytes}
+use Rattle.basics.specs.Laws.Places.{number-at}
 use Rattle.format.specs.Syntax.{Program, Plain, concurrent}
 use Rattle.format.specs.Encode.{each, block, bodiesOf, head, heads, trailer, trailerOf, table, recordSize, trailerSize}
 use Rattle.format.specs.Encode as E

@@ -7,7 +7,8 @@ use lib.ListN.{length, getD}
 use lib.Dec.{ltb, leb}
 use Rattle.value.specs.Maybe.{both}
 use Rattle.value.specs.Lists.{all, sum}
-use Rattle.value.specs.Values.{numberAt, cellSize}
+use Rattle.value.specs.Values.{cellSize}
+use Rattle.basics.specs.Places.{numberAt}
 use Rattle.format.specs.Syntax.{Program, Plain, concurrent}
 use Rattle.format.specs.Encode.{table, recordSize, trailerSize}
 use Rattle.format.specs.Labels.{labelled}

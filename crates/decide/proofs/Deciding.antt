@@ -10,7 +10,8 @@ use types.Run.{OneOf, miss}
 use denote.Enum.Declared.{tagOf}
 use Rattle.value.proofs.Value.{the-type}
 use Rattle.value.specs.Maybe.{Maybe, is, nothing, _>>=_}
-use Rattle.value.specs.Values.{given, numberAt}
+use Rattle.value.specs.Values.{given}
+use Rattle.basics.specs.Places.{numberAt}
 use Rattle.value.specs.declared.Value.{Value}
 use Rattle.value.specs.declared.Value.the-variants.{Whole, Location, Truth}
 use Rattle.value.specs.declared.Answer.{Answer}
@@ -26,7 +27,8 @@ use Rattle.engine.specs.declared.memory.Spot.{Spot}
 use Rattle.engine.specs.declared.memory.Spot.the-variants.{At, Nowhere}
 use Rattle.decide.specs.declared.step.Step.{Step}
 use Rattle.decide.specs.declared.step.Step.the-variants.{Return, Assign, Read, Write, Test, Call, Blocked}
-use Rattle.semantics.specs.Memory.{Env, lookup, eval, evals, index, place, truth, Memory, cell}
+use Rattle.semantics.specs.Memory.{Env, lookup, eval, evals, index, Memory, cell}
+use Rattle.value.specs.Values.{place, truth}
 use Rattle.engine.specs.Work.{Beside, frameWords, localWords, Framed, cellWords, Placed, Places}
 use Rattle.engine.specs.Words.{held}
 use Rattle.engine.specs.Evaluated.{Below, Ready, Evaluates}

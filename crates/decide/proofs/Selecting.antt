@@ -14,7 +14,8 @@ use types.Run.{OneOf, miss}
 use denote.Enum.Declared.{tagOf}
 use Rattle.value.proofs.Value.{the-type}
 use Rattle.value.specs.Maybe.{is, nothing, _>>=_, when}
-use Rattle.value.specs.Values.{given, numberAt}
+use Rattle.value.specs.Values.{given}
+use Rattle.basics.specs.Places.{numberAt}
 use Rattle.value.specs.declared.Value.{Value}
 use Rattle.value.specs.declared.Value.the-variants.{Whole, Location, Truth}
 use Rattle.value.specs.declared.Answer.{Answer}

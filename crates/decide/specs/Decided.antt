@@ -9,7 +9,8 @@ use lib.ListN.{length, getD, take}
 use lib.Dec.{eqb}
 use Rattle.value.specs.Maybe.{Maybe, is, nothing, _>>=_, when, pick, either}
 use Rattle.value.specs.Lists.{at, sum}
-use Rattle.value.specs.Values.{given, numberAt}
+use Rattle.value.specs.Values.{given}
+use Rattle.basics.specs.Places.{numberAt}
 use Rattle.value.specs.declared.Value.{Value}
 use Rattle.value.specs.Laws.Lists.{Each}
 use Rattle.format.specs.Syntax.{Expr, Instr, assign, write, read, while, if, call, atomic, select, Block, step, _⊕_, Proc}
@@ -21,7 +22,8 @@ use Rattle.decide.specs.declared.step.Passed.{Passed}
 use Rattle.decide.specs.declared.step.Passed.the-variants.{All, Missing}
 use Rattle.decide.specs.declared.step.Step.{Step}
 use Rattle.decide.specs.declared.step.Step.the-variants.{Return, Assign, Read, Write, Test, Call, Select, Blocked}
-use Rattle.semantics.specs.Memory.{Env, lookup, bound, eval, evals, index, place, truth, Memory, cell, stored, reading, writing}
+use Rattle.semantics.specs.Memory.{Env, lookup, bound, eval, evals, index, Memory, cell, stored, reading, writing}
+use Rattle.value.specs.Values.{place, truth}
 use Rattle.semantics.specs.Step.{Stack, Moved, entered, quiet, runs}
 use Rattle.semantics.specs.Copy.{running}
 use Rattle.engine.specs.Work.{Beside, frameWords, localWords, Framed, Holds, Bases, IsCell}

@@ -7,9 +7,10 @@ use mathlib.Core.Bool.{true, false}
 use lib.ListN.{length, getD}
 use lib.Seq.{slice, slice-empty}
 use Rattle.value.specs.Values.{One, not, neg, Two, add, sub, mul, less, equal, and}
-use Rattle.value.specs.Marks.{Mark, wholeMark, locationMark, noMark, yesMark, localMark, oneMark, twoMark, noExpr, mark₁, mark₂, markOf, rowOf}
-use Rattle.value.specs.Marks.{operandsOf, payloadOf}
-use Rattle.value.specs.Laws.Marks.{Says, row-says}
+use Rattle.value.specs.Marks.{Mark, wholeMark, locationMark, noMark, yesMark, localMark, oneMark, twoMark, noExpr, mark₁, mark₂, markOf}
+use Rattle.basics.specs.Columns.{rowOf}
+use Rattle.basics.specs.Columns.{operandsOf, payloadOf}
+use Rattle.basics.specs.Laws.Columns.{Says, row-says}
 use Rattle.value.specs.declared.Value.the-variants.{Whole, Location, Truth}
 use Rattle.format.specs.Syntax.{Expr, constant, local, one, two}
 use Rattle.format.specs.Encode.{expr}

@@ -6,7 +6,7 @@ use mathlib.Core.Path.{_≡_, refl, sym, ap, ap₂, _∙_}
 use mathlib.Core.List.{List, [], _∷_, _++_}
 use lib.ListN.{length, getD, replicate}
 use Rattle.value.specs.Maybe.{Maybe, is, nothing}
-use Rattle.value.specs.Values.{numberAt}
+use Rattle.basics.specs.Places.{numberAt}
 use Rattle.value.specs.Lists.{at}
 use Rattle.value.specs.Laws.Lists.{at-below, each-at}
 use Rattle.value.specs.Laws.Maybes.{missing}

@@ -12,14 +12,16 @@ use mir.Syntax.{w32}
 use mir.Val.{SFits, ofZ, toZ}
 use mir.Facts.{toZ-ofZ}
 use Rattle.value.specs.Maybe.{is, _>>=_}
-use Rattle.value.specs.Values.{One, not, neg, Two, add, sub, mul, less, equal, and, given, numberAt, unword}
-use Rattle.value.specs.Marks.{mark₁, mark₂, markOf, operandsOf, applied₁, applied₂}
+use Rattle.value.specs.Values.{One, not, neg, Two, add, sub, mul, less, equal, and, given, unword}
+use Rattle.basics.specs.Places.{numberAt}
+use Rattle.value.specs.Marks.{mark₁, mark₂, markOf}
+use Rattle.basics.specs.Columns.{operandsOf, applied₁, applied₂}
 use Rattle.value.specs.declared.Value.{Value}
 use Rattle.value.specs.declared.Value.the-variants.{Whole, Location, Truth}
 use Rattle.value.specs.declared.Answer.{Answer}
 use Rattle.value.specs.declared.Answer.the-variants.{Is}
 use Rattle.value.specs.Laws.Tests.{by-test}
-use Rattle.value.specs.Laws.Bytes.{number-at}
+use Rattle.basics.specs.Laws.Places.{number-at}
 use Rattle.value.specs.Laws.Marks.{mark₁-marks, mark₂-marks}
 use Rattle.format.specs.Syntax.{Expr, constant, local, one, two}
 use Rattle.format.specs.Laws.Exprs.{depth-pos}

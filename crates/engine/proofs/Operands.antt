@@ -16,9 +16,11 @@ use denote.Enum.Declared.{tagOf}
 use Rattle.value.proofs.Value.{the-type}
 use Rattle.value.specs.Maybe.{Maybe, is, nothing, _>>=_, pick, both}
 use Rattle.value.specs.Values.{not, neg, add, sub, mul, less, equal, and, given}
-use Rattle.value.specs.Marks.{Mark, wholeMark, locationMark, noMark, yesMark, localMark, oneMark, twoMark, noExpr, markOf, applied₁, applied₂}
-use Rattle.value.specs.Marks.{mark₂, marks, rowOf, operandsOf, takesOf, ofKind}
-use Rattle.value.specs.Laws.Marks.{Says, row-says}
+use Rattle.value.specs.Marks.{Mark, wholeMark, locationMark, noMark, yesMark, localMark, oneMark, twoMark, noExpr, markOf}
+use Rattle.basics.specs.Columns.{applied₁, applied₂}
+use Rattle.value.specs.Marks.{mark₂, marks, ofKind}
+use Rattle.basics.specs.Columns.{rowOf, operandsOf, takesOf}
+use Rattle.basics.specs.Laws.Columns.{Says, row-says}
 use Rattle.value.specs.Laws.Tables.{looked-up}
 use Rattle.value.specs.declared.Value.{Value}
 use Rattle.value.specs.declared.Value.the-variants.{Whole, Location, Truth}

@@ -25,7 +25,8 @@ use Rattle.value.specs.declared.Answer.{Answer}
 use Rattle.value.specs.declared.Answer.the-variants.{Is, Nothing}
 use Rattle.engine.specs.declared.memory.Spot.{Spot}
 use Rattle.engine.specs.declared.memory.Spot.the-variants.{At, Nowhere}
-use Rattle.semantics.specs.Memory.{index, place, Memory, cell}
+use Rattle.semantics.specs.Memory.{index, Memory, cell}
+use Rattle.value.specs.Values.{place}
 use Rattle.engine.specs.Work.{mostLocations, Found, Finds, Placed, Places}
 use Rattle.semantics.specs.Laws.Cells.{shape}
 use Rattle.engine.specs.Laws.Holding.{no-cell}

@@ -8,7 +8,7 @@ use Rattle.value.proofs.Value.{the-type}
 use Rattle.value.proofs.Value.Laws.{the-laws}
 use Rattle.value.specs.declared.Value.{Value}
 use Rattle.value.specs.declared.Value.the-variants.{Whole, Location, Truth}
-use Rattle.value.specs.Laws.Cells.{Held}
+use Rattle.basics.specs.Laws.Places.{Held}
 
 -- what owning it tells
 pub value-held : (v : Value) (vs : List Val) → Is (row the-type) v vs → Held v

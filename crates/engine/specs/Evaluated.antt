@@ -5,7 +5,8 @@ use mathlib.Core.List.{List}
 use lib.ListN.{length}
 use Rattle.value.specs.Maybe.{Maybe, _>>=_}
 use Rattle.value.specs.Values.{given}
-use Rattle.value.specs.Marks.{markOf, applied₁, applied₂}
+use Rattle.value.specs.Marks.{markOf}
+use Rattle.basics.specs.Columns.{applied₁, applied₂}
 use Rattle.value.specs.declared.Value.{Value}
 use Rattle.value.specs.declared.Answer.{Answer}
 use Rattle.format.specs.Syntax.{Expr, constant, local, one, two}

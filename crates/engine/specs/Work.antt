@@ -5,11 +5,12 @@ use mathlib.Core.List.{List, [], _∷_, _++_}
 use lib.ListN.{length, getD, take, set}
 use Rattle.value.specs.Maybe.{Maybe, is, nothing, _>>=_}
 use Rattle.value.specs.Lists.{at, sum, over}
-use Rattle.value.specs.Values.{numberAt, withValue, cellSize}
+use Rattle.value.specs.Values.{cellSize, place}
 use Rattle.value.specs.declared.Value.{Value}
+use Rattle.basics.specs.Places.{numberAt, withValue}
 use Rattle.engine.specs.declared.memory.Spot.{Spot}
 use Rattle.engine.specs.declared.memory.Spot.the-variants.{At, Nowhere}
-use Rattle.semantics.specs.Memory.{Env, lookup, index, place, Memory, cell}
+use Rattle.semantics.specs.Memory.{Env, lookup, index, Memory, cell}
 use Rattle.semantics.specs.Buffers.{cells}
 pub use Rattle.basics.specs.Sizes.{frameWords, localWords, mostLocations, startWords, cellWords}
 use Rattle.engine.specs.Words.{held}

@@ -12,8 +12,9 @@ ghost use mathlib.Core.Path.{_≡_};
 ghost use Prim.Native.Nat.{_≤_, _<_};
 ghost use lib.ListN.{getD};
 ghost use Rattle.value.specs.Values.{given, equal, and};
-ghost use Rattle.value.specs.Marks.{mark₂, operandsOf, takesOf};
+ghost use Rattle.value.specs.Marks.{mark₂};
 ghost use Rattle.format.specs.Decode.{maxDepth};
+ghost use Rattle.basics.specs.Columns.{operandsOf, takesOf};
 ghost use Rattle.engine.specs.Evaluated.{operated₁, operated₂, Ready, Evaluates};
 
 // "An expression nests at most 16 deep".

@@ -4,7 +4,7 @@ use basics::bytes::pair;
 ghost use mathlib.Core.Path.{_≡_};
 ghost use Prim.Native.Nat.{_+_, _≤_, _<_};
 ghost use lib.ListN.{length, getD};
-ghost use Rattle.value.specs.Values.{numberAt};
+ghost use Rattle.basics.specs.Places.{numberAt};
 
 // The number of one byte.
 pub fn byte(t: &[u8], at: usize) -> usize

@@ -7,8 +7,9 @@ use mathlib.Core.List.{List}
 use lib.ListN.{length, take, drop, length-drop, drop-of-length-le}
 use lib.Seq.{take-all, drop-drop}
 use borrow.Author.Tests.{lt-ltb, le-ltb}
-use Rattle.value.specs.Values.{unbytes, numberAt}
-use Rattle.value.specs.Laws.Bytes.{number-at}
+use Rattle.value.specs.Values.{unbytes}
+use Rattle.basics.specs.Places.{numberAt}
+use Rattle.basics.specs.Laws.Places.{number-at}
 use Rattle.agreement.specs.declared.Figures.{Figures}
 use Rattle.agreement.specs.Figures.{refusal, figuresCall}
 use Rattle.agreement.specs.Line.{scheduleOf, tableOf, told, line, printed, lined, maxInput}

@@ -12,7 +12,8 @@ use mir.Val.{boolByte}
 use borrow.Author.Tests.{eqb-true, eqb-false, eq-eqb, ne-eqb}
 use Rattle.value.specs.Maybe.{either}
 use Rattle.value.specs.Values.{One, not, neg, Two, add, sub, mul, less, equal, and}
-use Rattle.value.specs.Marks.{mark₁, mark₂, operandsOf, payloadOf}
+use Rattle.value.specs.Marks.{mark₁, mark₂}
+use Rattle.basics.specs.Columns.{operandsOf, payloadOf}
 use Rattle.value.specs.declared.Value.the-variants.{Whole, Location, Truth}
 use Rattle.value.specs.Laws.Tests.{by-test}
 use Rattle.format.specs.Syntax.{Expr, constant, local, one, two}

@@ -11,8 +11,9 @@ use mathlib.Core.Bool.{Bool, true, false}
 use borrow.Author.Tests.{le-leb, lt-leb}
 use Rattle.value.specs.Maybe.{is, nothing, _>>=_, when, pick}
 use Rattle.value.specs.Values.{not, neg, Two, add, sub, mul, less, equal, and}
-use Rattle.value.specs.Marks.{Mark, wholeMark, locationMark, noMark, yesMark, localMark, oneMark, twoMark, noExpr, markOf, rowOf}
-use Rattle.value.specs.Marks.{operandsOf, payloadOf}
+use Rattle.value.specs.Marks.{Mark, wholeMark, locationMark, noMark, yesMark, localMark, oneMark, twoMark, noExpr, markOf}
+use Rattle.basics.specs.Columns.{rowOf}
+use Rattle.basics.specs.Columns.{operandsOf, payloadOf}
 use Rattle.format.specs.Syntax.{Expr, local, one, two}
 use Rattle.format.specs.Decode.{Read, byte, marked, expr}
 use Rattle.parse.specs.Ends.{endOf, ReadsExpr}

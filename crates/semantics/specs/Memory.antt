@@ -42,18 +42,6 @@ index (Whole (negsuc n)) = nothing
 index (Location l) = nothing
 index (Truth b) = nothing
 
--- a location
-abbrev pub place : Value → Maybe ℕ
-place (Location l) = is l
-place (Whole z) = nothing
-place (Truth b) = nothing
-
--- a truth value
-abbrev pub truth : Value → Maybe Bool
-truth (Truth b) = is b
-truth (Whole z) = nothing
-truth (Location l) = nothing
-
 -- memory, by location and index
 abbrev pub Memory : Type 0
 Memory = List (List Value)

@@ -9,7 +9,8 @@ use Rattle.value.specs.Maybe.{Maybe, is, nothing, _>>=_, when, pick, either}
 use Rattle.value.specs.Lists.{at}
 use Rattle.value.specs.declared.Value.{Value}
 use Rattle.format.specs.Syntax.{Instr, assign, write, read, while, if, call, atomic, select, Block, end, step, _⊕_, Proc}
-use Rattle.semantics.specs.Memory.{Env, lookup, bound, eval, evals, index, place, truth, Memory, cell, stored, reading, writing, Event}
+use Rattle.semantics.specs.Memory.{Env, lookup, bound, eval, evals, index, Memory, cell, stored, reading, writing, Event}
+use Rattle.value.specs.Values.{place, truth}
 
 -- the report's frame: procedure, locals, and the code that remains
 pub record Frame (A : Type 0) : Type 0 where

@@ -9,7 +9,7 @@ use lib.Seq.{getD-set-same, drop-drop}
 use borrow.Author.Tests.{lt-ltb, le-ltb}
 use lib.IntN.{pos}
 use Rattle.value.specs.Maybe.{is}
-use Rattle.value.specs.Values.{numberAt}
+use Rattle.basics.specs.Places.{numberAt}
 use Rattle.value.specs.declared.Value.{Value}
 use Rattle.value.specs.declared.Value.the-variants.{Whole}
 use Rattle.value.specs.Laws.Lists.{each-at}

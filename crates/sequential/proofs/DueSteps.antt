@@ -23,7 +23,8 @@ use Rattle.labels.specs.Laws.Spots.{itself}
 use Rattle.decide.specs.declared.step.Step.{Step}
 use Rattle.decide.specs.declared.step.Step.the-variants.{Return, Assign, Read, Write, Test, Call, Select, Blocked}
 use Rattle.sequential.specs.declared.machine.State.{State}
-use Rattle.semantics.specs.Memory.{Env, lookup, bound, eval, evals, index, place, truth, Memory, cell, stored}
+use Rattle.semantics.specs.Memory.{Env, lookup, bound, eval, evals, index, Memory, cell, stored}
+use Rattle.value.specs.Values.{place, truth}
 use Rattle.semantics.specs.Step.{Frame, Stack}
 use Rattle.semantics.specs.Copy as C
 use Rattle.decide.specs.Decided.{Act, actOf, actEnd, decided, orBlocked, numberOf}

@@ -11,12 +11,12 @@ use lib.Dec.{eqb}
 use borrow.Author.Tests.{eqb-true, eqb-false}
 use Rattle.value.specs.Maybe.{is}
 use Rattle.value.specs.Lists.{at}
-use Rattle.value.specs.Values.{numberAt}
+use Rattle.basics.specs.Places.{numberAt}
 use Rattle.value.specs.declared.Value.{Value}
 use Rattle.value.specs.Laws.Maybes.{is-inj, missing}
 use Rattle.value.specs.Laws.Tests.{never, both-passed}
 use Rattle.value.specs.Laws.Lists.{each-at}
-use Rattle.value.specs.Laws.Bytes.{number-at}
+use Rattle.basics.specs.Laws.Places.{number-at}
 use Rattle.format.specs.Syntax.{Expr, Instr, assign, write, read, while, if, call, atomic, select, Block, end, step, _⊕_, Proc, Program, Plain}
 use Rattle.format.specs.Syntax.{sequential}
 use Rattle.format.specs.Encode.{table}

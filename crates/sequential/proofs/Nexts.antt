@@ -11,7 +11,8 @@ use Rattle.value.specs.Lists.{at}
 use Rattle.value.specs.declared.Value.{Value}
 use Rattle.value.specs.declared.Value.the-variants.{Whole}
 use Rattle.format.specs.Syntax.{Expr, Instr, assign, write, read, while, if, call, atomic, select, Block, end, step, _⊕_, Proc, Plain}
-use Rattle.semantics.specs.Memory.{Env, lookup, bound, eval, evals, index, place, truth, Memory, cell, stored, reading, writing, Event}
+use Rattle.semantics.specs.Memory.{Env, lookup, bound, eval, evals, index, Memory, cell, stored, reading, writing, Event}
+use Rattle.value.specs.Values.{place, truth}
 use Rattle.semantics.specs.Step.{Frame, Stack, entered, runs}
 use Rattle.semantics.specs.Threads.{finished, used, blocked}
 use Rattle.semantics.specs.Copy as C

@@ -13,7 +13,7 @@ use Rattle.value.specs.Maybe.{is, nothing}
 use Rattle.value.specs.Laws.Maybes.{is-inj, missing}
 use Rattle.value.specs.Laws.Lists.{each-at}
 use Rattle.value.specs.Lists.{at}
-use Rattle.value.specs.Values.{numberAt}
+use Rattle.basics.specs.Places.{numberAt}
 use Rattle.format.specs.Laws.Procs.{takes-at}
 use Rattle.format.specs.Laws.Sound.{LocalsRight}
 use Rattle.format.specs.Syntax.{Block, Proc, Program, Plain}

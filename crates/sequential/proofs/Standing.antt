@@ -8,9 +8,10 @@ use lib.ListN.{length, getD}
 use Rattle.value.specs.Maybe.{is}
 use Rattle.value.specs.Lists.{at}
 use Rattle.value.specs.Laws.Maybes.{is-inj}
-use Rattle.value.specs.Values.{bytes, numberAt}
+use Rattle.value.specs.Values.{bytes}
+use Rattle.basics.specs.Places.{numberAt}
 use Rattle.value.specs.Laws.Lists.{each-at}
-use Rattle.value.specs.Laws.Bytes.{number-at}
+use Rattle.basics.specs.Laws.Places.{number-at}
 use Rattle.format.specs.Syntax.{Expr, Instr, while, if, Block, end, step, _⊕_, Proc, Program, Plain, sequential}
 use Rattle.format.specs.Encode.{table, bodiesOf, recordSize}
 use Rattle.format.specs.Encode as E

@@ -7,7 +7,8 @@ use lib.ListN.{length, getD, set, drop}
 use lib.Dec.{ltb}
 use Rattle.value.specs.Maybe.{is, pick}
 use Rattle.value.specs.Lists.{sum}
-use Rattle.value.specs.Values.{numberAt, cellSize}
+use Rattle.value.specs.Values.{cellSize}
+use Rattle.basics.specs.Places.{numberAt}
 use Rattle.value.specs.declared.Value.{Value}
 use Rattle.format.specs.Syntax.{Expr, Instr, call, select, Block, end, step, _⊕_, Program, Plain, sequential}
 use Rattle.format.specs.Encode.{table, recordSize, trailerSize}

@@ -11,8 +11,9 @@ use lib.Dec.{eqb}
 use borrow.Author.Tests.{le-leb, lt-leb}
 use Rattle.value.specs.Maybe.{both}
 use Rattle.value.specs.Lists.{all, sum}
-use Rattle.value.specs.Values.{unbytes, numberAt}
-use Rattle.value.specs.Laws.Bytes as Numbers
+use Rattle.value.specs.Values.{unbytes}
+use Rattle.basics.specs.Places.{numberAt}
+use Rattle.basics.specs.Laws.Places as Numbers
 use Rattle.format.specs.Syntax.{Kind, concurrent, sequential}
 use Rattle.format.specs.Encode.{Trailer, recordSize}
 use Rattle.format.specs.Rules.{limits, within, begun, maxSize}

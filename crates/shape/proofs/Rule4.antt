@@ -10,10 +10,11 @@ use lib.Seq.{drop-drop}
 use lib.Dec.{eqb}
 use borrow.Author.Tests.{eq-eqb, ne-eqb, eqb-true, eqb-false}
 use Rattle.value.specs.Maybe.{Maybe, is, nothing, _>>=_, both}
-use Rattle.value.specs.Values.{unbytes, numberAt}
+use Rattle.value.specs.Values.{unbytes}
+use Rattle.basics.specs.Places.{numberAt}
 use Rattle.value.specs.Laws.Tests.{by-test}
 use Rattle.value.specs.Laws.Bytes.{Bytes}
-use Rattle.value.specs.Laws.Bytes as Numbers
+use Rattle.basics.specs.Laws.Places as Numbers
 use Rattle.format.specs.Syntax.{Kind, Block, Plain}
 use Rattle.format.specs.Encode.{Head, recordSize}
 use Rattle.format.specs.Encode as E

@@ -10,7 +10,7 @@ use borrow.Author.Tests.{eq-eqb, ne-eqb, le-leb, lt-leb}
 use lib.Seq.{drop-length}
 use Rattle.value.specs.Maybe.{Maybe, is, nothing, both}
 use Rattle.value.specs.Laws.Bytes.{Bytes}
-use Rattle.value.specs.Laws.Bytes as Numbers
+use Rattle.basics.specs.Laws.Places as Numbers
 use Rattle.format.specs.Syntax.{Kind}
 use Rattle.format.specs.Encode.{Trailer, kindMark, trailerSize, formMark, distance}
 use Rattle.format.specs.Encode as E

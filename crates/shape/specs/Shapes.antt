@@ -7,7 +7,8 @@ use lib.ListN.{length, getD, take, drop}
 use lib.Dec.{leb}
 use Rattle.value.specs.Maybe.{Maybe, is, nothing, both}
 use Rattle.value.specs.Lists.{all, sum}
-use Rattle.value.specs.Values.{numberAt, unbytes}
+use Rattle.value.specs.Values.{unbytes}
+use Rattle.basics.specs.Places.{numberAt}
 use Rattle.value.specs.Laws.Bytes.{Bytes}
 use Rattle.format.specs.Syntax.{Kind, Block, Program, Plain}
 use Rattle.format.specs.Encode as E

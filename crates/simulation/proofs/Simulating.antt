@@ -10,9 +10,10 @@ use mathlib.Core.Bool.{true, false}
 use lib.ListN.{length, getD, set, take, drop, length-set, length-map}
 use lib.Seq.{take-all, getD-set-same, getD-set-other}
 use Rattle.value.specs.Maybe.{is}
-use Rattle.value.specs.Values.{numberAt, unbytes}
+use Rattle.value.specs.Values.{unbytes}
+use Rattle.basics.specs.Places.{numberAt}
 use Rattle.value.specs.Lists.{at}
-use Rattle.value.specs.Laws.Bytes.{number-at}
+use Rattle.basics.specs.Laws.Places.{number-at}
 use Rattle.value.specs.Laws.Lists.{Each, each-at, at-getD}
 use Rattle.value.specs.Laws.Maybes.{is-inj, missing}
 use Rattle.format.specs.Syntax.{Expr, Instr, assign, write, read, while, if, call, atomic, select, Block, end, step, _⊕_, Proc, Program, concurrent}

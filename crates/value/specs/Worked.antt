@@ -8,7 +8,7 @@ use lib.IntN.{pos, negℤ}
 use Rattle.value.specs.Maybe.{is}
 use Rattle.value.specs.Lists.{sum}
 use Rattle.value.specs.Values.{not, neg, add, sub, mul, less, equal, and, apply₁, apply₂, bytes, cellBytes}
-use Rattle.value.specs.Marks.{mark₁, mark₂, twoMark, applied₂}
+use Rattle.value.specs.Marks.{mark₁, mark₂}
 use Rattle.value.specs.declared.Value.{Value}
 use Rattle.value.specs.declared.Value.the-variants.{Whole, Location, Truth}
 
@@ -43,10 +43,6 @@ pub operator-marks :
     (map mark₂ (add ∷ sub ∷ mul ∷ less ∷ equal ∷ and ∷ []) ≡ 0x10 ∷ 0x11 ∷ 0x12 ∷ 0x13 ∷ 0x14 ∷ 0x15 ∷ [])
     × (map mark₁ (not ∷ neg ∷ []) ≡ 0x16 ∷ 0x17 ∷ [])
 operator-marks = (refl, refl)
-
--- A MARK'S OPERATOR TAKES ITS OPERANDS IN ORDER
-pub operands-in-order : applied₂ (twoMark sub) (plus 2) (plus 7) ≡ is (minus 5)
-operands-in-order = refl
 
 -- "numbers of several bytes are low byte first"; "two's complement"; "1 and number; 2, location, two zeros; 3 or 4 and four zeros"
 pub in-bytes :

@@ -17,7 +17,8 @@ use Rattle.format.specs.Syntax.{Expr, Instr, assign, write, read, while, if, ca
 use Rattle.format.specs.Rules.{takes, inExpr, named, namedI}
 use Rattle.format.specs.Rules as Rules
 use Rattle.format.specs.Laws.Joined.{named-append, allowed-append}
-use Rattle.semantics.specs.Memory.{Env, lookup, bound, eval, evals, index, place, truth, Memory, cell, Event}
+use Rattle.semantics.specs.Memory.{Env, lookup, bound, eval, evals, index, Memory, cell, Event}
+use Rattle.value.specs.Values.{place, truth}
 use Rattle.semantics.specs.Step.{Stack, Moved, instr, runs}
 use Rattle.semantics.specs.Threads as P
 use Rattle.agreement.specs.Laws.Calling.{lookup-entered}

@@ -10,7 +10,8 @@ use Rattle.value.specs.Laws.Tests.{both-passed, never}
 use Rattle.format.specs.Syntax.{Expr, Instr, assign, write, read, while, if, call, atomic, select, Block, end, step, _⊕_, Proc}
 use Rattle.format.specs.Rules.{allowed, allowedI}
 use Rattle.format.specs.Laws.Joined.{allowed-append}
-use Rattle.semantics.specs.Memory.{Env, lookup, bound, eval, index, place, truth, Memory, cell, stored, Event}
+use Rattle.semantics.specs.Memory.{Env, lookup, bound, eval, index, Memory, cell, stored, Event}
+use Rattle.value.specs.Values.{place, truth}
 use Rattle.semantics.specs.Step.{Moved, instr}
 use Rattle.semantics.specs.Threads.{Atomic, sizeI, size, toEnd, first-instr}
 use Rattle.atomic.specs.Acts.{within, actI, act}

@@ -18,7 +18,8 @@ use Rattle.format.specs.Laws.Stands.{first}
 use Rattle.format.specs.Laws.Grammar.{InstrAt, BlockAt, IfAt, if-here}
 use Rattle.decide.specs.declared.step.Step.{Step}
 use Rattle.decide.specs.declared.step.Step.the-variants as S
-use Rattle.semantics.specs.Memory.{lookup, eval, index, place, truth, cell}
+use Rattle.semantics.specs.Memory.{lookup, eval, index, cell}
+use Rattle.value.specs.Values.{place, truth}
 use Rattle.decide.specs.Decided.{Act, assigns, writes, reads, tests, actOf, actEnd, argsOf, decided, orBlocked}
 use Rattle.semantics.specs.Threads.{Atomic}
 use Rattle.atomic.specs.Acts.{within, actI, act}

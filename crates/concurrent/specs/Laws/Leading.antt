@@ -24,7 +24,8 @@ use Rattle.format.specs.Laws.Names.{takes?}
 use Rattle.labels.specs.Laws.Spots.{Remains, remains-after, remains-loop, remains-then, remains-else}
 use Rattle.decide.specs.declared.step.Step.{Step}
 use Rattle.decide.specs.declared.step.Step.the-variants as S
-use Rattle.semantics.specs.Memory.{Env, eval, evals, lookup, index, place, truth, Memory, cell}
+use Rattle.semantics.specs.Memory.{Env, eval, evals, lookup, index, Memory, cell}
+use Rattle.value.specs.Values.{place, truth}
 use Rattle.decide.specs.Decided.{Act, actOf, argsOf, argsIn, branch, decided, orBlocked}
 use Rattle.atomic.specs.Laws.Fitting.{through}
 use Rattle.decide.specs.Laws.Deciding.{evals-length}

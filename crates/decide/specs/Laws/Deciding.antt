@@ -17,7 +17,7 @@ use Rattle.value.specs.declared.Value.the-variants.{Whole}
 use Rattle.value.specs.Laws.Maybes.{is-inj, missing, bind-is, bind-same}
 use Rattle.value.specs.Laws.Tests.{by-test, both-passed}
 use Rattle.value.specs.Laws.Lists.{Each, all-passed}
-use Rattle.value.specs.Laws.Bytes.{number-at}
+use Rattle.basics.specs.Laws.Places.{number-at}
 use Rattle.format.specs.Syntax.{Expr, constant, local, one, two, Instr, assign, write, read}
 use Rattle.format.specs.Syntax.{while, if, call, atomic, select, Block, step, Proc, Program}
 use Rattle.format.specs.Encode.{each, expr, instr, block}
@@ -27,7 +27,8 @@ use Rattle.format.specs.Laws.Stands as S
 use Rattle.format.specs.Laws.Stands.{Stands, first, others, front, back}
 use Rattle.decide.specs.declared.step.Step.{Step}
 use Rattle.decide.specs.declared.step.Step.the-variants.{Return, Assign, Read, Write, Test, Call, Select, Blocked}
-use Rattle.semantics.specs.Memory.{Env, lookup, eval, evals, index, place, truth, Memory, cell, stored, Event}
+use Rattle.semantics.specs.Memory.{Env, lookup, eval, evals, index, Memory, cell, stored, Event}
+use Rattle.value.specs.Values.{place, truth}
 use Rattle.semantics.specs.Step.{Frame, Stack, Moved}
 use Rattle.semantics.specs.Step as F
 use Rattle.semantics.specs.Threads.{blocked}

@@ -8,7 +8,8 @@ use lib.ListN.{length, take, set, length-append, length-set}
 use lib.Seq.{sets, length-sets, take-all, take-append-le, take-nil}
 use lib.Dec.{ltb}
 use borrow.Author.Tests.{ltb-true, ltb-false, lt-ltb, le-ltb, le-leb}
-use Rattle.value.specs.Values.{bytes, cellSize, withValue}
+use Rattle.value.specs.Values.{bytes, cellSize}
+use Rattle.basics.specs.Places.{withValue}
 use Rattle.value.specs.Laws.Tests.{by-test}
 use Rattle.value.specs.Laws.Lists.{length-over}
 use Rattle.format.specs.Encode.{each}

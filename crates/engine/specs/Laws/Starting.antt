@@ -8,10 +8,11 @@ use lib.Seq.{getD-set-same, getD-set-other, take-all}
 use lib.Dec.{eqb}
 use borrow.Author.Tests.{eqb-true, eqb-false}
 use Rattle.value.specs.Lists.{sum}
-use Rattle.value.specs.Values.{bytes, numberAt}
+use Rattle.value.specs.Values.{bytes}
+use Rattle.basics.specs.Places.{numberAt}
 use Rattle.value.specs.Laws.Tests.{by-test}
 use Rattle.value.specs.Laws.Lists.{Each}
-use Rattle.value.specs.Laws.Bytes.{number-at}
+use Rattle.basics.specs.Laws.Places.{number-at}
 use Rattle.format.specs.Encode.{each}
 use Rattle.format.specs.Laws.Stands as S
 use Rattle.format.specs.Laws.Stands.{Stands}

@@ -4,10 +4,10 @@ use native.Mathlib.Omega.{arith}
 use mathlib.Core.Path.{_≡_}
 use mathlib.Core.Bool.{true, false}
 use Rattle.value.specs.Maybe.{is}
-use Rattle.value.specs.Values.{valueOf, cellKind, cellNumber}
+use Rattle.basics.specs.Places.{valueOf, cellKind, cellNumber}
 use Rattle.value.specs.declared.Value.{Value}
 use Rattle.value.specs.declared.Value.the-variants.{Whole, Location, Truth}
-use Rattle.value.specs.Laws.Cells.{Held, number-fits, value-of-cell}
+use Rattle.basics.specs.Laws.Places.{Held, number-fits, value-of-cell}
 use Rattle.engine.specs.Words.{held}
 
 -- a kind byte and a number of four bytes are read back from their word

@@ -9,14 +9,15 @@ use lib.IntN.{pos}
 use borrow.Author.Tests.{le-leb}
 use Rattle.value.specs.Maybe.{is}
 use Rattle.value.specs.Lists.{over}
-use Rattle.value.specs.Values.{given, cellBytes, withValue, cellSize}
+use Rattle.value.specs.Values.{given, cellBytes, cellSize}
+use Rattle.basics.specs.Places.{withValue}
 use Rattle.value.specs.declared.Value.{Value}
 use Rattle.value.specs.declared.Value.the-variants.{Whole}
 use Rattle.value.specs.declared.Answer.{Answer}
 use Rattle.value.specs.declared.Answer.the-variants.{Is, Nothing}
 use Rattle.value.specs.Laws.Maybes.{is-inj, missing}
 use Rattle.value.specs.Laws.Lists.{at-getD, length-over}
-use Rattle.value.specs.Laws.Cells.{length-cell}
+use Rattle.value.specs.Laws.Bytes.{length-cell}
 use Rattle.format.specs.Encode.{each}
 use Rattle.format.specs.Laws.Sections.{length-each}
 use Rattle.semantics.specs.Memory.{Memory}

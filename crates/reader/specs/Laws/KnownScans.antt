@@ -11,7 +11,8 @@ use borrow.Author.Tests.{not-true, not-false, ne-eqb, eqb-true, leb-true}
 use Rattle.value.specs.Maybe.{pick, both, either}
 use Rattle.value.specs.Lists.{all}
 use Rattle.value.specs.Values.{One, not, neg, Two, add, sub, mul, less, equal, and, bytes, word}
-use Rattle.value.specs.Marks.{mark₁, mark₂, noExpr, marks, rowOf, operandsOf, payloadOf}
+use Rattle.value.specs.Marks.{mark₁, mark₂, noExpr, marks}
+use Rattle.basics.specs.Columns.{rowOf, operandsOf, payloadOf}
 use Rattle.value.specs.Laws.Lists.{Each}
 use Rattle.value.specs.Laws.Tests.{either-passed}
 use Rattle.value.specs.Laws.Tables.{looked-up}

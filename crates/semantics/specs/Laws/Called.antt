@@ -15,8 +15,7 @@ use Rattle.value.specs.Values.{cellBytes, cellSize}
 use Rattle.value.specs.Laws.Maybes.{is-inj, missing}
 use Rattle.value.specs.Laws.Tests.{Decides, never, by-test, _and_, le?, lt?}
 use Rattle.value.specs.Laws.Lists.{Each, all?, at-take, length-over}
-use Rattle.value.specs.Laws.Bytes.{Bytes}
-use Rattle.value.specs.Laws.Cells.{cell-parts, length-cell}
+use Rattle.value.specs.Laws.Bytes.{Bytes, length-cell}
 use Rattle.format.specs.Syntax.{Program, Plain, Kind, concurrent, sequential}
 use Rattle.format.specs.Encode.{each}
 use Rattle.format.specs.Labels.{labelled}
@@ -48,7 +47,7 @@ length-cells (row ∷ η) =
 
 -- an event has as many as is said
 pub length-event : (e : Event) → length (eventBytes e) ≡ eventSize
-length-event e = rw (cell-parts (e .value))
+length-event e = omega (arith, length-cell (e .value))
 
 -- only whole events are written
 pub whole-events : (room : ℕ) (evs : List Event) → length (log room evs) ≡ eventSize * length (take (room / eventSize) evs)

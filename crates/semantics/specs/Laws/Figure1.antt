@@ -20,7 +20,8 @@ use Rattle.value.specs.Laws.Tests.{never, either-failed, by-test}
 use Rattle.value.specs.Laws.Lists.{Each}
 use Rattle.format.specs.Syntax.{Expr, constant, local, one, two, Instr, assign, write, read, while, if, call, atomic, select}
 use Rattle.format.specs.Syntax.{Block, end, step, _⊕_, Proc}
-use Rattle.semantics.specs.Memory.{Env, lookup, bound, eval, evals, index, place, truth, Memory, cell, stored, Way, reading, writing, Event}
+use Rattle.value.specs.Values.{place, truth}
+use Rattle.semantics.specs.Memory.{Env, lookup, bound, eval, evals, index, Memory, cell, stored, Way, reading, writing, Event}
 use Rattle.semantics.specs.Laws.Cells.{shape, cell-there, cell-inside}
 use Rattle.semantics.specs.Step.{Frame, Stack, Moved, entered, runs, instr, frame}
 

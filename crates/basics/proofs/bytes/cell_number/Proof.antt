@@ -2,7 +2,8 @@
 use borrow.Author.Needs.{needs}
 use mathlib.Core.Path.{sym, ap, _∙_}
 use mir.Facts.{toZ-ofZ}
-use Rattle.value.specs.Values.{word, cellNumber}
+use Rattle.value.specs.Values.{word}
+use Rattle.basics.specs.Places.{cellNumber}
 use Rattle.basics.proofs.bytes.cell_number.Statement.{statement}
 use Rattle.basics.proofs.bytes.cell_number.Tie as tie
 

@@ -5,7 +5,7 @@ use native.Mathlib.Omega.{arith}
 use mathlib.Core.Path.{sym, _∙_}
 use mathlib.Core.Logic.{⊎-elim}
 use lib.ListN.{length}
-use Rattle.value.specs.Laws.Bytes.{number-shorter}
+use Rattle.basics.specs.Laws.Places.{number-shorter}
 use Rattle.basics.proofs.bytes.four_bytes.Statement.{statement}
 use Rattle.basics.proofs.bytes.four_bytes.Tie as tie
 

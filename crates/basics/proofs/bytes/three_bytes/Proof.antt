@@ -1,7 +1,7 @@
 -- `basics::bytes::three_bytes` meets its contract.
 use borrow.Author.Needs.{needs}
 use mathlib.Core.Path.{sym}
-use Rattle.value.specs.Laws.Bytes.{number-past}
+use Rattle.basics.specs.Laws.Places.{number-past}
 use Rattle.basics.proofs.bytes.three_bytes.Statement.{statement}
 use Rattle.basics.proofs.bytes.three_bytes.Tie as tie
 

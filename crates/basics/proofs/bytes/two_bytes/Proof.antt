@@ -4,7 +4,7 @@ use Prim.Native.Nat.{_+_, _≤_}
 use native.Mathlib.Omega.{arith}
 use mathlib.Core.Logic.{⊎-elim}
 use lib.ListN.{length}
-use Rattle.value.specs.Laws.Bytes.{number-shorter}
+use Rattle.basics.specs.Laws.Places.{number-shorter}
 use Rattle.basics.proofs.bytes.two_bytes.Statement.{statement}
 use Rattle.basics.proofs.bytes.two_bytes.Tie as tie
 

@@ -1,6 +1,6 @@
 -- `basics::marks::payload` meets its contract: the column is computed from the table of marks.
 use borrow.Author.Needs.{needs}
-use Rattle.value.specs.Laws.Marks.{column, past-table}
+use Rattle.basics.specs.Laws.Columns.{column, past-table}
 use Rattle.basics.proofs.marks.payload.Statement.{statement}
 use Rattle.basics.proofs.marks.payload.Tie as tie
 

@@ -1,6 +1,6 @@
 -- `basics::marks::row` meets its contract: the table is computed from that of the marks.
 use borrow.Author.Needs.{needs}
-use Rattle.value.specs.Laws.Marks.{column, past-table}
+use Rattle.basics.specs.Laws.Columns.{column, past-table}
 use Rattle.basics.specs.Columns.{packed}
 use Rattle.basics.proofs.marks.row.Statement.{statement}
 use Rattle.basics.proofs.marks.row.Tie as tie

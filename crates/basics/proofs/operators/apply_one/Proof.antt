@@ -1,6 +1,6 @@
 -- `basics::operators::apply_one` meets its contract.
 use borrow.Author.Needs.{needs}
-use Rattle.value.specs.Laws.Marks.{no-one}
+use Rattle.basics.specs.Laws.Columns.{no-one}
 use Rattle.basics.proofs.operators.apply_one.Statement.{statement}
 use Rattle.basics.proofs.operators.apply_one.Tie as tie
 

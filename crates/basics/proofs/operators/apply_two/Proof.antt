@@ -1,6 +1,6 @@
 -- `basics::operators::apply_two` meets its contract.
 use borrow.Author.Needs.{needs}
-use Rattle.value.specs.Laws.Marks.{no-two}
+use Rattle.basics.specs.Laws.Columns.{no-two}
 use Rattle.basics.proofs.operators.apply_two.Statement.{statement}
 use Rattle.basics.proofs.operators.apply_two.Tie as tie
 

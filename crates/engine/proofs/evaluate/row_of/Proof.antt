@@ -1,6 +1,6 @@
 -- `engine::evaluate::row_of` meets its contract: the count and the kind are found in the row of the table.
 use borrow.Author.Needs.{needs}
-use Rattle.value.specs.Laws.Marks.{column}
+use Rattle.basics.specs.Laws.Columns.{column}
 use Rattle.basics.specs.Columns.{packed}
 use Rattle.basics.specs.Laws.Columns.{count-told, kind-told}
 use Rattle.engine.proofs.evaluate.row_of.Statement.{statement}
