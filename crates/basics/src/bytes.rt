@@ -10,7 +10,7 @@ ghost use Rattle.value.specs.Values.{given, bytes, word, unword, cellSize};
 ghost use Rattle.basics.specs.Places.{cellKind, cellNumber, valueOf, numberAt, room, withValue};
 
 // A whole number's 32 bits, in two's complement.
-pub fn bits_of(a: i32) -> u32
+fn bits_of(a: i32) -> u32
     ensures { λ r. ⌜ r ≡ word a ⌝ }
 {
     let x = a as i64;

@@ -13,8 +13,6 @@ pub const FALSE: u8 = 0x03;
 
 pub const TRUE: u8 = 0x04;
 
-pub const LOCAL: u8 = 0x05;
-
 // Those of operators.
 pub const ADD: u8 = 0x10;
 
@@ -33,11 +31,11 @@ pub const NOT: u8 = 0x16;
 pub const NEGATE: u8 = 0x17;
 
 // The kinds of values. ANY is the operand kind of "equal (two of one kind)", and of a mark without operands.
-pub const ANY: u8 = 0;
+const ANY: u8 = 0;
 
 pub const WHOLE: u8 = 1;
 
-pub const LOCATION: u8 = 2;
+const LOCATION: u8 = 2;
 
 pub const TRUTH: u8 = 3;
 

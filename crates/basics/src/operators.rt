@@ -48,7 +48,7 @@ pub fn subtract(left: Value, right: Value) -> Answer
     narrow((a as i64) - (b as i64))
 }
 
-pub fn multiply(left: Value, right: Value) -> Answer
+fn multiply(left: Value, right: Value) -> Answer
     ensures { λ r. ⌜ given r ≡ apply₂ mul left right ⌝ }
 {
     let Value::Whole(a) = left else {
@@ -69,7 +69,7 @@ pub fn negate(operand: Value) -> Answer
     narrow(0 - (a as i64))
 }
 
-pub fn less(left: Value, right: Value) -> Answer
+fn less(left: Value, right: Value) -> Answer
     ensures { λ r. ⌜ given r ≡ apply₂ less left right ⌝ }
 {
     let Value::Whole(a) = left else {
@@ -119,7 +119,7 @@ pub fn and(left: Value, right: Value) -> Answer
     Answer::Is(Value::Truth(a & b))
 }
 
-pub fn not(operand: Value) -> Answer
+fn not(operand: Value) -> Answer
     ensures { λ r. ⌜ given r ≡ apply₁ not operand ⌝ }
 {
     let Value::Truth(a) = operand else {

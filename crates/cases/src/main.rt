@@ -17,7 +17,7 @@ use basics::bytes;
 use basics::numbers::COPY_CELLS;
 use basics::numbers::ENTRIES;
 use basics::numbers::EVENT;
-use figures::line::LINE;
+use figures::input::LINE;
 use semantics::RunAnswer;
 
 const HEADER: usize = 36;

@@ -29,10 +29,10 @@ ghost use Rattle.atomic.specs.Threaded.{mostThreads, allFrames};
 ghost use Rattle.concurrent.specs.Concurrent.{AllDone, MainsAt, Begins, ranWith, Starting, Runs, Entries, Accepted, Outcomes};
 
 // What a run came to: its end, the entries taken, each for a step, and the events recorded.
-pub struct Ran {
-    pub end: u8,
-    pub taken: usize,
-    pub events: usize,
+struct Ran {
+    end: u8,
+    taken: usize,
+    events: usize,
 }
 
 // Whether all threads are finished.

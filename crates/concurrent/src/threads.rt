@@ -29,7 +29,7 @@ ghost use Rattle.concurrent.specs.Turning.{Turning, Turns};
 ghost use Rattle.concurrent.specs.Stepping.{testLabel, Moving, Moves, Stepping, Steps};
 
 // What a step of a frame's code does: the code goes on, with so many events then; a test comes out; a procedure is called; it returns.
-pub enum Turn {
+enum Turn {
     Next(usize),
     Test(bool),
     Call(usize),
@@ -39,7 +39,7 @@ pub enum Turn {
 
 // One step of the code at `at`, over the locals of the frame at `base`: "one assign, read, write, test, call, return or whole atomic
 // block". The arguments of a call are the first locals of the frame above, whose other locals are not set.
-pub fn take_turn(
+fn take_turn(
     t: &[u8],
     at: usize,
     thread: u8,

@@ -167,7 +167,7 @@ pub fn decide_read(
 }
 
 // The arguments of a call: all were passed, and the last one ends here; or one has no value.
-pub enum Passed {
+enum Passed {
     All(usize),
     Missing,
 }

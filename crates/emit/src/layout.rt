@@ -43,7 +43,7 @@ pub fn locals_of(t: &[u8], shape: Shape, m: usize) -> u8
 }
 
 // The locals of the procedures before m.
-pub fn before(t: &[u8], shape: Shape, m: usize) -> usize
+fn before(t: &[u8], shape: Shape, m: usize) -> usize
     ensures { λ r. ⌜ BeforeAt (now (t .entry)) shape m r ⌝ }
 {
     let most = shape.procedures as usize;

@@ -26,7 +26,7 @@ pub const TID: u8 = 0;
 
 pub const TMP: u8 = 1;
 
-pub const AUX: u8 = 2;
+const AUX: u8 = 2;
 
 // tmp := location l
 pub fn put_locate(out: &mut [u8], at: usize, l: usize) -> usize
@@ -37,7 +37,7 @@ pub fn put_locate(out: &mut [u8], at: usize, l: usize) -> usize
 }
 
 // x := tmp[tid]
-pub fn put_fetch(out: &mut [u8], at: usize, x: u8) -> usize
+fn put_fetch(out: &mut [u8], at: usize, x: u8) -> usize
     ensures { λ r. ⌜ PutInstr (now (out .entry)) at (read x tmp (local tid)) (now (out .exit)) r ⌝ }
 {
     let p = put_three(out, at, READ, x, TMP);
@@ -85,7 +85,7 @@ pub fn put_load(s: Site, x: u8, out: &mut [u8], at: usize) -> usize
 }
 
 // Load x if its flag is set and the procedure has it.
-pub fn put_flagged(s: Site, flag: bool, x: u8, out: &mut [u8], at: usize) -> usize
+fn put_flagged(s: Site, flag: bool, x: u8, out: &mut [u8], at: usize) -> usize
     ensures { λ r. ⌜ LoadsIf s flag x (now (out .entry)) at (now (out .exit)) r ⌝ }
 {
     if flag {

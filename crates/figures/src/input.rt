@@ -1,6 +1,5 @@
 // The run program from its input to its line.
 use super::compare::figures;
-use super::line::LINE;
 use super::line::write_line;
 use super::refused;
 use agreement::Figures;
@@ -9,6 +8,9 @@ use basics::numbers::LONGEST_INPUT;
 ghost use mathlib.Core.Path.{_≡_};
 ghost use Prim.Native.Nat.{min};
 ghost use Rattle.agreement.specs.Line.{told, printed, lined};
+
+// A buffer that is large enough for a line: it has at most 93 bytes.
+pub const LINE: usize = 128;
 
 // The place, or the end if that comes first.
 fn at_most(place: usize, end: usize) -> usize

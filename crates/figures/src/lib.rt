@@ -2,7 +2,7 @@
 // `input::figures_of_input` and `input::print` are for users; read them first.
 pub mod compare;
 pub mod input;
-pub mod line;
+mod line;
 mod worked;
 
 use agreement::Figures;

@@ -1,4 +1,5 @@
 // The run program's line, written into a lent buffer.
+use super::input::LINE;
 use agreement::Figures;
 use basics::numbers::FINISHED;
 use basics::numbers::USED;
@@ -7,9 +8,6 @@ use writer::bytes::put_part;
 ghost use mathlib.Core.Path.{_≡_};
 ghost use Rattle.writer.specs.Laws.Put.{Put};
 ghost use Rattle.agreement.specs.Line.{digits, spaced, endWord, refusedLine, numbers, line, lined};
-
-// A buffer that is large enough: a line has at most 93 bytes.
-pub const LINE: usize = 128;
 
 // 20 digits are enough for 64 bits.
 const DIGITS: u8 = 20;

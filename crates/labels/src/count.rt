@@ -30,7 +30,7 @@ pub fn after_expr(t: &[u8], at: usize) -> usize
 }
 
 // Where n expressions end.
-pub fn after_exprs(t: &[u8], at: usize, n: u8) -> usize
+fn after_exprs(t: &[u8], at: usize, n: u8) -> usize
     ensures { λ r. ⌜ ExprsEnd (now (t .entry)) at n r ⌝ }
 {
     let mut i = at;
@@ -95,7 +95,7 @@ pub fn count_instr(t: &[u8], at: usize, depth: u8) -> Counted
 }
 
 // Where an instruction ends that holds no block.
-pub fn after_plain(t: &[u8], at: usize) -> usize
+fn after_plain(t: &[u8], at: usize) -> usize
     requires { ⌜ InstrIn (now t) at 0 ⌝ }
     ensures { λ r. ⌜ PlainEnds (now (t .entry)) at r ⌝ }
 {

@@ -128,7 +128,7 @@ pub fn read_block(code: &[u8], at: usize, depth: u8, context: Context) -> Ends
 }
 
 // Where the instruction that stands from `at` on ends; the blocks in it are at most `depth` deep.
-pub fn read_instruction(code: &[u8], at: usize, depth: u8, context: Context) -> Ends
+fn read_instruction(code: &[u8], at: usize, depth: u8, context: Context) -> Ends
     ensures { λ r. ⌜ ReadsInstr (now (code .entry)) at depth (hereOf context) r ⌝ }
 {
     if code.len() <= at {

@@ -17,7 +17,7 @@ ghost use Rattle.reader.specs.Laws.SetPlain.{settled, SetsPlain, SetsIns
 ghost use Rattle.reader.specs.Laws.SetScans.{procSet};
 
 // What is set after a block or an instruction, and where it ends; or that a local may be read before it is set.
-pub enum After {
+enum After {
     Set(usize, u64),
     Unset,
 }

@@ -3,7 +3,7 @@
 //
 // Stack, beside what the calls below use: 20,483 bytes for the input, 128 for the line.
 use basics::numbers::LONGEST_INPUT;
-use figures::line::LINE;
+use figures::input::LINE;
 
 // One byte more than an input may have, so that one that is too long is seen; what follows is not read.
 const INPUT: usize = LONGEST_INPUT + 1;

@@ -35,7 +35,7 @@ pub fn byte_at(t: &[u8], i: usize) -> usize
 }
 
 // The number of the two bytes at a place, low byte first.
-pub fn two_at(t: &[u8], i: usize) -> usize
+fn two_at(t: &[u8], i: usize) -> usize
     requires { ⌜ i ≤ length (now t) + 8 ⌝ }
     ensures { λ r. ⌜ (r ≡ twoAt (now (t .entry)) i) × (r < 65536) ⌝ }
 {

@@ -41,20 +41,20 @@ ghost use Rattle.sequential.specs.Sequential.{Facing, Faces, UsedUp, ran
 
 // The state of a run beside its arrays: where it goes on, how many frames there are, the thread last selected, the entries taken and
 // the events recorded.
-pub struct State {
-    pub at: usize,
-    pub depth: usize,
-    pub thread: u8,
-    pub taken: usize,
-    pub events: usize,
+struct State {
+    at: usize,
+    depth: usize,
+    thread: u8,
+    taken: usize,
+    events: usize,
 }
 
 // What a run came to: its end, its steps, the entries taken and the events recorded.
-pub struct Ran {
-    pub end: u8,
-    pub steps: u64,
-    pub taken: usize,
-    pub events: usize,
+struct Ran {
+    end: u8,
+    steps: u64,
+    taken: usize,
+    events: usize,
 }
 
 // A number of 32 bits, as a position.

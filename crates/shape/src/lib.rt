@@ -2,6 +2,6 @@
 // answers in specs/Shapes.antt. An inner room: its functions may have a `requires`.
 pub mod bodies;
 pub mod form;
-pub mod header;
-pub mod limits;
-pub mod records;
+mod header;
+mod limits;
+mod records;

@@ -42,7 +42,7 @@ const STMT: u8 = 2;
 const TERMINATED: u8 = 3;
 
 // What procedure 0 has for each thread: its beginning, its "from", and whether it has finished.
-pub enum Part {
+enum Part {
     Beginning,
     From,
     Finished,
