@@ -106,3 +106,15 @@ subtract-undoes a b c h e = rw (valued (a +ℤ b) e, +ℤ-negℤ-cancel a b) (wh
 -- A NUMBER AND ITS NEGATE ARE 0 TOGETHER
 pub negate-undoes : (a b : ℤ) → apply₁ neg (Whole a) ≡ is (Whole b) → apply₂ add (Whole a) (Whole b) ≡ is (Whole (pos 0))
 negate-undoes a b e = rw (valued (negℤ a) e, +ℤ-invr a)
+
+-- "equal (two of one kind)": of two kinds it has no value
+pub equal-one-kind : (u v : Value) {w : Value} → apply₂ equal u v ≡ is w → kindOf u ≡ kindOf v
+equal-one-kind (Whole a) (Whole b) e = refl
+equal-one-kind (Whole a) (Location l) e = missing e
+equal-one-kind (Whole a) (Truth b) e = missing e
+equal-one-kind (Location a) (Location b) e = refl
+equal-one-kind (Location a) (Whole z) e = missing e
+equal-one-kind (Location a) (Truth b) e = missing e
+equal-one-kind (Truth a) (Truth b) e = refl
+equal-one-kind (Truth a) (Whole z) e = missing e
+equal-one-kind (Truth a) (Location l) e = missing e
