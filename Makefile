@@ -1,5 +1,5 @@
 # Two commands: `make demo` runs the main job, `make test` proves and tests everything.
-.PHONY: demo test kit second cases zaru use lib bench
+.PHONY: demo test kit second cases zaru use lib bench more-edits
 
 kit:
 	@tools/need rt
@@ -43,6 +43,10 @@ lib: kit
 bench: zaru
 	@tools/need python3 python3
 	tools/bench
+
+# not part of the test, for their time: further wrong definitions and programs that the prover must refuse
+more-edits: kit
+	tools/more-edits
 
 # everything, each crate proved once; ends in 'N passed, 0 failed' if all of it passed
 test: kit
