@@ -31,7 +31,7 @@ enum { ZARU_READ_NUMBERS = 6, ZARU_TRANSLATE_NUMBERS = 2, ZARU_RUN_NUMBERS = 5 }
  * guard page: frames are touched page by page. The main thread has enough as a rule; another gets it by pthread_attr_setstacksize. */
 #define ZARU_STACK_READ (32 * 1024)
 #define ZARU_STACK_TRANSLATE (48 * 1024)
-#define ZARU_STACK_RUN_CONCURRENT (432 * 1024)
+#define ZARU_STACK_RUN_CONCURRENT (112 * 1024)
 #define ZARU_STACK_RUN_SEQUENTIAL (352 * 1024)
 
 /* answer: number, procedures, locations, threads, labels (sequential: 0), cells. */

@@ -15,7 +15,7 @@ use Rattle.decide.specs.declared.step.Step.the-variants as S
 use Rattle.atomic.specs.declared.block.Done.the-variants.{To, Blocked}
 use Rattle.engine.specs.declared.event.Event as E
 use Rattle.semantics.specs.Memory.{bound}
-use Rattle.engine.specs.Work.{localWords, cellWords, Puts}
+use Rattle.engine.specs.Work.{Puts}
 use Rattle.engine.specs.Events.{eventOf, withEvent}
 use Rattle.atomic.specs.Doing.{Works, stops, goes, carried, StepFits, endOf, Carrying, Carries}
 use Rattle.semantics.specs.Laws.Cells.{shape-stored}
@@ -34,14 +34,14 @@ module _ {fb : ℕ} {s : Step} {ls cs o : List ℕ} {n : ℕ} where
   fitting e h = subst (StepFits (h .a)) e (h .fits)
 
   -- a local has its word
-  pub assign-room : {x : ℕ} {v : Value} {j : ℕ} → s ≡ S.Assign x v j → Carrying fb s ls cs o n → fb + x < localWords
+  pub assign-room : {x : ℕ} {v : Value} {j : ℕ} → s ≡ S.Assign x v j → Carrying fb s ls cs o n → fb + x < length ls
   assign-room {x} e h = framed-get (h .works .framed) x (fitting e h) .0
 
-  pub read-room : {x l i : ℕ} {v : Value} {j : ℕ} → s ≡ S.Read x l i v j → Carrying fb s ls cs o n → fb + x < localWords
+  pub read-room : {x l i : ℕ} {v : Value} {j : ℕ} → s ≡ S.Read x l i v j → Carrying fb s ls cs o n → fb + x < length ls
   read-room {x} e h = framed-get (h .works .framed) x (fitting e h) .0
 
   -- a cell has its word
-  pub write-room : {l i k : ℕ} {v : Value} {j : ℕ} → s ≡ S.Write l i k v j → Carrying fb s ls cs o n → k < cellWords
+  pub write-room : {l i k : ℕ} {v : Value} {j : ℕ} → s ≡ S.Write l i k v j → Carrying fb s ls cs o n → k < length cs
   write-room e h = cell-word (h .works .holds) (fitting e h)
 
   -- an assignment
@@ -54,7 +54,7 @@ module _ {fb : ℕ} {s : Step} {ls cs o : List ℕ} {n : ℕ} where
         goes _ n refl refl (record {
           works = record {
             framed = framed-put (w .framed) (h .fits) p;
-            room = w .room;
+            room = omega (arith, w .room, beside-put p .long);
             small = omega (arith, w .small);
             holds = w .holds;
             bases = w .bases;
@@ -78,7 +78,7 @@ module _ {fb : ℕ} {s : Step} {ls cs o : List ℕ} {n : ℕ} where
         goes _ (n + 1) refl refl (record {
           works = record {
             framed = framed-put (w .framed) (h .fits) p;
-            room = w .room;
+            room = omega (arith, w .room, beside-put p .long);
             small = omega (arith, w .small);
             holds = w .holds;
             bases = w .bases;

@@ -200,7 +200,7 @@ module _ {t : List ℕ} {thread fb : ℕ} {bs : List ℕ} {i d : ℕ} {ls cs o :
     works-on : (h : DoingI t thread fb bs i d ls cs o n) → Works fb bs (h .es) ls₁ cs o n (h .a)
     works-on h = record {
       framed = framed-below (same-words h) (omega (arith, h .works .small)) (h .works .framed);
-      room = h .works .room;
+      room = omega (arith, h .works .room, same-words h .long);
       small = h .works .small;
       holds = h .works .holds;
       bases = h .works .bases;

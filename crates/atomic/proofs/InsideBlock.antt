@@ -4,21 +4,27 @@ use native.Mathlib.Omega.{arith}
 use mathlib.Core.Path.{_≡_, refl, sym, ap, subst, _∙_}
 use mathlib.Core.List.{List, [], _∷_, append-nil}
 use mathlib.Core.Bool.{true}
-use lib.ListN.{length, getD}
+use lib.ListN.{length, getD, set}
+use lib.Seq.{getD-set-same, getD-set-other}
+use lib.Dec.{eqb}
+use borrow.Author.Tests.{eqb-true, eqb-false}
 use types.Run.{OneOf, miss}
 use denote.Enum.Declared.{tagOf}
 use Rattle.value.specs.Maybe.{Maybe, is, nothing, _>>=_}
 use Rattle.value.specs.Laws.Maybes.{missing}
-use Rattle.value.specs.Laws.Tests.{both-passed}
+use Rattle.value.specs.Laws.Tests.{by-test, both-passed}
 use Rattle.format.specs.Syntax.{Block}
 use Rattle.format.specs.Rules.{allowed, allowedI, named, namedI}
 use Rattle.format.specs.Laws.Grammar.{StepAt, end-here, step-here, instr-inside, block-inside, block-deep}
 use Rattle.atomic.proofs.block.Done.{the-type as done-type}
 use Rattle.atomic.specs.declared.block.Done.{Done}
 use Rattle.atomic.specs.declared.block.Done.the-variants.{To, Blocked}
+use Rattle.semantics.specs.Memory.{Env}
 use Rattle.semantics.specs.Threads.{Atomic}
+use Rattle.engine.specs.Words.{held}
+use Rattle.engine.specs.Work.{frameWords, Framed}
 use Rattle.atomic.specs.Acts.{within, act}
-use Rattle.atomic.specs.Doing.{stops, goes, DoingI, Doing, DoesI, Does, DoesWhole}
+use Rattle.atomic.specs.Doing.{stops, goes, DoingI, Doing, DoesI, Does, Copies, DoesWhole}
 use Rattle.atomic.proofs.Carrying.{never-blocked}
 use Rattle.engine.specs.Laws.Work.{beside-same}
 use Rattle.engine.specs.Laws.Logging.{logged-none}
@@ -198,15 +204,47 @@ pub bind-none : {A B : Type 0} (m : Maybe A) (f : A → B) → (m >>= λ x. is (
 bind-none (is x) f e = missing (sym e)
 bind-none nothing f e = refl
 
-module _ {t : List ℕ} {thread fb : ℕ} {bs : List ℕ} {i d : ℕ} {ls cs o : List ℕ} {n : ℕ} where
-  -- it can be tried with another buffer
-  pub doing-tried : (e : List ℕ) → Doing t thread fb bs i d ls cs o n → Doing t thread fb bs i d ls cs e 0
+-- the words of its frame are copied: none yet
+pub copies-none : {ls ws : List ℕ} {fb : ℕ} → Copies ls fb 0 ws
+copies-none = record { each = λ k l. absurd (omega arith) }
+
+-- one more
+pub copies-more : {ls ws : List ℕ} {fb i w : ℕ} → Copies ls fb i ws → i < length ws → w ≡ getD ls (fb + i) 0 → Copies ls fb (i + 1) (set ws i w)
+copies-more {ls} {ws} {fb} {i} {w} C l e = record {
+  each = λ k m. by-test (eqb k i)
+      (λ q. let here : k ≡ i = eqb-true k i q in rw (here, getD-set-same ws i w 0 l) e)
+      (λ q. let other = eqb-false k i q in getD-set-other ws i k w 0 other ∙ C .each k (omega arith));
+}
+
+-- all
+pub copies-all : {ls ws : List ℕ} {fb i n : ℕ} → n ≤ i → Copies ls fb i ws → Copies ls fb n ws
+copies-all l C = record { each = λ k m. C .each k (omega arith) }
+
+pub ruleset copy-ways = (copies-none, copies-all)
+
+-- there are such words
+pub whole-room : {t : List ℕ} {thread fb : ℕ} {bs : List ℕ} {i d : ℕ} {ls cs o : List ℕ} {n : ℕ} → Doing t thread fb bs i d ls cs o n
+    → fb + frameWords ≤ length ls
+whole-room h = omega (arith, h .works .room)
+
+-- they hold the frame's locals
+copied : {ls ws : List ℕ} {fb : ℕ} {ρ : Env} → Copies ls fb frameWords ws → length ws ≡ frameWords + frameWords → length ρ ≤ frameWords
+    → Framed ls fb ρ → Framed ws 0 ρ
+copied C long l f = record {
+  room = omega arith;
+  each = λ x m. let none : 0 + x ≡ x = omega arith in rw none (ap held (C .each x (omega arith)) ∙ f .each x m);
+}
+
+module _ {t : List ℕ} {thread fb : ℕ} {bs : List ℕ} {i d : ℕ} {ls cs o : List ℕ} {n : ℕ} {ws : List ℕ} (C : Copies ls fb frameWords ws)
+    (long : length ws ≡ frameWords + frameWords) where
+  -- it can be tried on them, with another buffer
+  pub doing-tried : (e : List ℕ) → Doing t thread fb bs i d ls cs o n → Doing t thread 0 bs i d ws cs e 0
   doing-tried e h = record {
     a = bare (h .a);
     es = e;
     works = record {
-      framed = h .works .framed;
-      room = h .works .room;
+      framed = copied C long (h .works .small) (h .works .framed);
+      room = omega arith;
       small = h .works .small;
       holds = h .works .holds;
       bases = h .works .bases;
@@ -222,7 +260,7 @@ module _ {t : List ℕ} {thread fb : ℕ} {bs : List ℕ} {i d : ℕ} {ls cs o :
     few = omega (arith, h .few);
   }
 
-  module _ {e ls₁ cs₁ e₁ : List ℕ} {r₁ : Done} (T : Does t thread fb bs i d ls cs e 0 ls₁ cs₁ e₁ r₁) where
+  module _ {e ls₁ cs₁ e₁ : List ℕ} {r₁ : Done} (T : Does t thread 0 bs i d ws cs e 0 ls₁ cs₁ e₁ r₁) where
     -- it blocked when it was tried
     pub whole-blocked : r₁ ≡ Blocked → DoesWhole t thread fb bs i d ls cs o n ls cs o Blocked
     unfolding doing-tried
@@ -245,6 +283,3 @@ module _ {t : List ℕ} {thread fb : ℕ} {bs : List ℕ} {i d : ℕ} {ls cs o :
           let none = bind-none (act thread (h .block) (bare (h .a))) _ (sym (same-later thread (h .block) (h .a)) ∙ stopped b (D .does h)) in
           not-blocked r₁ q (blocks none (T .does (doing-tried e h)));
     }
-
--- one law for each way through a whole block
-pub ruleset whole-ways = (doing-tried, whole-blocked, whole-done)

@@ -3,7 +3,7 @@
 use Prim.Native.Nat.{ℕ, _+_, _^_, _≤_, _<_}
 use mathlib.Core.Path.{_≡_}
 use mathlib.Core.List.{List, [], _∷_, _++_}
-use lib.ListN.{length}
+use lib.ListN.{length, getD}
 use Rattle.value.specs.Maybe.{Maybe, is, nothing}
 use mathlib.Core.Bool.{true}
 use Rattle.format.specs.Syntax.{Instr, Block, Program}
@@ -14,7 +14,7 @@ use Rattle.decide.specs.declared.step.Step.the-variants as S
 use Rattle.atomic.specs.declared.block.Done.{Done}
 use Rattle.atomic.specs.declared.block.Done.the-variants.{To, Blocked}
 use Rattle.semantics.specs.Memory.{bound, stored, reading, writing}
-use Rattle.engine.specs.Work.{frameWords, localWords, Beside, Framed, Holds, Bases, IsCell}
+use Rattle.engine.specs.Work.{frameWords, Beside, Framed, Holds, Bases, IsCell}
 use Rattle.engine.specs.Events.{Logged}
 use Rattle.semantics.specs.Threads.{Atomic}
 use Rattle.atomic.specs.Acts.{within, actI, act}
@@ -25,7 +25,7 @@ use Rattle.semantics.specs.Laws.Cells.{shape}
 -- the words from fb on, those of memory with its first cells bs, and a buffer es with the events written hold what `a` says
 pub record Works (fb : ℕ) (bs es ls cs o : List ℕ) (n : ℕ) (a : Atomic) : Type 0 where
   pub framed : Framed ls fb (a .env)
-  pub room : fb + frameWords + frameWords ≤ localWords
+  pub room : fb + frameWords + frameWords ≤ length ls
   pub small : length (a .env) ≤ frameWords
   pub holds : Holds (a .memory) cs
   pub bases : Bases (shape (a .memory)) bs
@@ -113,6 +113,10 @@ pub record Carries (thread fb : ℕ) (s : Step) (ls cs o : List ℕ) (n : ℕ) (
   pub still : r ≡ Blocked → (ls′ ≡ ls) × (cs′ ≡ cs) × (o′ ≡ o)
 
 -- ---- a block
+
+-- the first n words are those from fb on
+pub record Copies (ls : List ℕ) (fb n : ℕ) (ws : List ℕ) : Type 0 where
+  pub each : (k : ℕ) → k < n → getD ws k 0 ≡ getD ls (fb + k) 0
 
 module _ (t : List ℕ) (thread fb : ℕ) (bs : List ℕ) where
   -- an instruction stands at i

@@ -1,8 +1,8 @@
 // Atomic blocks: a whole one is a step. Block and instruction functions call each other, the allowed depth falling.
-use basics::numbers::CELL_WORDS;
 use basics::numbers::END;
-use basics::numbers::LOCAL_WORDS;
+use basics::numbers::FRAME;
 use basics::numbers::NESTING;
+use basics::numbers::PROGRAM_WORDS;
 use basics::numbers::STARTS;
 use decide::step::Step;
 use decide::step::decide;
@@ -12,8 +12,11 @@ use engine::locals;
 use engine::memory;
 use labels::count::count_block;
 ghost use mathlib.Core.Path.{_≡_};
+ghost use Prim.Native.Nat.{_+_, _≤_};
+ghost use lib.ListN.{length};
+ghost use Rattle.engine.specs.Work.{frameWords};
 ghost use Rattle.format.specs.Decode.{maxNesting};
-ghost use Rattle.atomic.specs.Doing.{Carrying, Carries, Doing, Does, DoingI, DoesI, DoesWhole};
+ghost use Rattle.atomic.specs.Doing.{Carrying, Carries, Doing, Does, DoingI, DoesI, Copies, DoesWhole};
 
 // How a block or an instruction goes: where it ends and how many events there are then, or it blocks.
 pub enum Done {
@@ -26,8 +29,8 @@ pub fn carry_out(
     step: Step,
     thread: u8,
     base: usize,
-    words: &mut [u64; LOCAL_WORDS],
-    cells: &mut [u64; CELL_WORDS],
+    words: &mut [u64],
+    cells: &mut [u64],
     events: &mut [u8],
     count: usize,
 ) -> Done
@@ -103,8 +106,8 @@ fn do_block(
     thread: u8,
     base: usize,
     starts: &[u32; STARTS],
-    words: &mut [u64; LOCAL_WORDS],
-    cells: &mut [u64; CELL_WORDS],
+    words: &mut [u64],
+    cells: &mut [u64],
     events: &mut [u8],
     count: usize,
 ) -> Done
@@ -147,8 +150,8 @@ fn do_instr(
     thread: u8,
     base: usize,
     starts: &[u32; STARTS],
-    words: &mut [u64; LOCAL_WORDS],
-    cells: &mut [u64; CELL_WORDS],
+    words: &mut [u64],
+    cells: &mut [u64],
     events: &mut [u8],
     count: usize,
 ) -> Done
@@ -200,42 +203,38 @@ fn do_instr(
     carry_out(step, thread, base, words, cells, events, count)
 }
 
-// A whole atomic block. "The state stays as before the step, and no event of that step is written or counted" where it blocks: it is
-// tried on copies first, with no room for events.
-pub fn do_atomic(
+// The words of a frame on which a block is tried, and of one above it.
+const TRIED: usize = FRAME + FRAME;
+
+// The words of the frame at `base`, from 0 on.
+fn copy_frame(words: &[u64], base: usize, copy: &mut [u64])
+    requires { ⌜ (base + frameWords ≤ length (now words)) × (frameWords ≤ length (now copy)) ⌝ }
+    ensures { λ _. ⌜ Copies (now (words .entry)) base frameWords (now (copy .exit)) ⌝ }
+{
+    let mut i = 0;
+    while i < FRAME {
+        copy[i] = words[base + i];
+        i += 1;
+    }
+}
+
+// A block over the cells of a program, as deep as one may be.
+fn do_all(
     t: &[u8],
     at: usize,
     thread: u8,
     base: usize,
     starts: &[u32; STARTS],
-    words: &mut [u64; LOCAL_WORDS],
-    cells: &mut [u64; CELL_WORDS],
+    words: &mut [u64],
+    cells: &mut [u64; PROGRAM_WORDS],
     events: &mut [u8],
     count: usize,
 ) -> Done
     requires { ⌜ Doing (now t) thread base (now starts) at maxNesting (now words) (now cells) (now events) count ⌝ }
-    ensures { λ r. ⌜ DoesWhole (now (t .entry)) thread base (now (starts .entry)) at maxNesting
+    ensures { λ r. ⌜ Does (now (t .entry)) thread base (now (starts .entry)) at maxNesting
         (now (words .entry)) (now (cells .entry)) (now (events .entry)) count
         (now (words .exit)) (now (cells .exit)) (now (events .exit)) r ⌝ }
 {
-    let mut some_words = *words;
-    let mut some_cells = *cells;
-    let mut no_events = [0u8; 1];
-    let tried = do_block(
-        t,
-        at,
-        NESTING,
-        thread,
-        base,
-        starts,
-        &mut some_words,
-        &mut some_cells,
-        &mut no_events,
-        0,
-    );
-    if let Done::Blocked = tried {
-        return Done::Blocked;
-    }
     do_block(
         t,
         at,
@@ -248,4 +247,43 @@ pub fn do_atomic(
         events,
         count,
     )
+}
+
+// A whole atomic block. "The state stays as before the step, and no event of that step is written or counted" where it blocks: it is
+// tried first on copies of its frame's words and of the cells, with no room for events.
+pub fn do_atomic(
+    t: &[u8],
+    at: usize,
+    thread: u8,
+    base: usize,
+    starts: &[u32; STARTS],
+    words: &mut [u64],
+    cells: &mut [u64; PROGRAM_WORDS],
+    events: &mut [u8],
+    count: usize,
+) -> Done
+    requires { ⌜ Doing (now t) thread base (now starts) at maxNesting (now words) (now cells) (now events) count ⌝ }
+    ensures { λ r. ⌜ DoesWhole (now (t .entry)) thread base (now (starts .entry)) at maxNesting
+        (now (words .entry)) (now (cells .entry)) (now (events .entry)) count
+        (now (words .exit)) (now (cells .exit)) (now (events .exit)) r ⌝ }
+{
+    let mut copy = [0u64; TRIED];
+    copy_frame(words, base, &mut copy);
+    let mut some_cells = *cells;
+    let mut no_events = [0u8; 1];
+    let tried = do_all(
+        t,
+        at,
+        thread,
+        0,
+        starts,
+        &mut copy,
+        &mut some_cells,
+        &mut no_events,
+        0,
+    );
+    if let Done::Blocked = tried {
+        return Done::Blocked;
+    }
+    do_all(t, at, thread, base, starts, words, cells, events, count)
 }

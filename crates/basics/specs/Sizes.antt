@@ -37,6 +37,10 @@ frameWords = limits sequential .locals
 abbrev pub localWords : ℕ
 localWords = frameWords * stackFrames
 
+-- of the frames of all threads
+abbrev pub threadWords : ℕ
+threadWords = frameWords * allFrames
+
 -- ---- memory
 
 -- "M over 512"
@@ -50,6 +54,10 @@ startWords = suc mostLocations
 -- "all sizes together over .. (sequential 8,192)"
 abbrev pub cellWords : ℕ
 cellWords = limits sequential .cells
+
+-- "all sizes together over 2,048"
+abbrev pub programWords : ℕ
+programWords = limits concurrent .cells
 
 -- ---- tables
 

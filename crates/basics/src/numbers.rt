@@ -156,10 +156,13 @@ pub const MOST_PROCEDURES: usize = SEQUENTIAL.procedures as usize;
 
 pub const FRAMES: usize = MOST_PROCEDURES + 1;
 
-// The words of a frame, one for each local that it may have, and those of all frames. The threads of a concurrent table have fewer frames.
+// The words of a frame, one for each local that it may have, and those of all frames.
 pub const FRAME: usize = SEQUENTIAL.locals as usize;
 
 pub const LOCAL_WORDS: usize = FRAME * FRAMES;
+
+// Those of the frames of all threads.
+pub const THREAD_WORDS: usize = FRAME * ALL_FRAMES;
 
 // A first cell for each location, and the number of all cells.
 pub const LOCATIONS: usize = SEQUENTIAL.locations as usize;
@@ -168,6 +171,9 @@ pub const STARTS: usize = LOCATIONS + 1;
 
 // A word for each cell.
 pub const CELL_WORDS: usize = SEQUENTIAL.cells;
+
+// And for each of a concurrent table.
+pub const PROGRAM_WORDS: usize = CONCURRENT.cells;
 
 // The longest table, and the first length that is too long.
 pub const LONGEST: usize = SEQUENTIAL.bytes;

@@ -23,7 +23,7 @@ use Rattle.labels.specs.Laws.Spots.{remains-body}
 use Rattle.semantics.specs.Step.{Stack, entered}
 use Rattle.semantics.specs.Threads as P
 use Rattle.basics.specs.Sizes.{boundWords}
-use Rattle.engine.specs.Work.{frameWords, localWords}
+use Rattle.engine.specs.Work.{frameWords, threadWords}
 use Rattle.atomic.specs.Threaded.{threadFrames, mostThreads, FrameAt, Threaded, allFrames}
 use Rattle.concurrent.specs.Concurrent.{AllDone, MainsAt, Begins}
 use Rattle.atomic.specs.Laws.Threading.{few-locals}
@@ -153,7 +153,7 @@ body-of (p ∷ ps) (suc m) e = body-of ps m e
 -- each thread begins with one frame, whose locals are not set
 module _ {p : Program Plain} {t map bounds labels depths ls : List ℕ} {i : ℕ} (sound : Sound concurrent p) (mapped : Mapped p map bounds)
     (mains : (k m : ℕ) → at (p .mains) k ≡ is m → numberAt 2 t (i + 2 * k) ≡ m) (B : Begins t i (length (p .mains)) bounds labels depths)
-    (zeros : (k : ℕ) → getD ls k 0 ≡ 0) (long : length ls ≡ localWords) where
+    (zeros : (k : ℕ) → getD ls k 0 ≡ 0) (long : length ls ≡ threadWords) where
   -- the frame of thread k
   first-frame : (k m : ℕ) (q : Proc ℕ) → at (p .mains) k ≡ is m → at (labelled p .procs) m ≡ is q
       → FrameAt p ls (getD labels (threadFrames * k + 0) 0) (threadFrames * k + 0) (entered m q [])
@@ -162,14 +162,14 @@ module _ {p : Program Plain} {t map bounds labels depths ls : List ℕ} {i : ℕ
       let found = main-at sound k m e in
       let few = few-locals sound m f in
       let here : threadFrames * k + 0 ≡ threadFrames * k = omega arith in
-      let fits : frameWords * (threadFrames * k + 0) + q .locals ≤ localWords = omega (arith, sound .threads .high) in
+      let fits : frameWords * (threadFrames * k + 0) + q .locals ≤ length ls = omega (arith, sound .threads .high) in
       record {
         remains = remains-body f;
         label =
             ap (λ j. getD labels j 0) here ∙ B .label k low ∙ ap (λ j. getD bounds (2 * j) 0) (mains k m e)
             ∙ mapped .begins m (at-below (p .procs) m (found .1)) ∙ ap (first (endsOf p m)) (body-of (labelled p .procs) m f);
         framed =
-            framed-entered {fb = frameWords * (threadFrames * k + 0)} {n = q .locals} [] (framed-none long (omega arith)) (omega arith) fits
+            framed-entered {fb = frameWords * (threadFrames * k + 0)} {n = q .locals} [] (framed-none (omega arith)) (omega arith) fits
             (record { beside = beside-same; zero = λ x a b. zeros x });
         full = λ r g. length-replicate (q .locals - 0) nothing ∙ omega (arith, ap (λ (z : Proc ℕ). z .locals) (is-inj (sym f ∙ g)));
       }

@@ -39,7 +39,7 @@ use Rattle.semantics.specs.Memory.{Memory}
 use Rattle.semantics.specs.Threads as P
 use Rattle.semantics.specs.Buffers.{cells}
 use Rattle.semantics.specs.Calls.{Outcome, refusal, untouched, maxEntries, scheduled, roomy, runAs, concurrentOutcome, concurrentCall, result}
-use Rattle.engine.specs.Work.{localWords, cellWords, flat, Bases, sizesAt, Starts, Writes}
+use Rattle.engine.specs.Work.{threadWords, programWords, flat, Bases, sizesAt, Starts, Writes}
 use Rattle.concurrent.specs.Concurrent.{scheduledBelow, SaysScheduled, Entries, MainsAt, Begins, Starting, RanAs, Runs, Accepted, Outcomes}
 use Rattle.engine.specs.Laws.Holding.{length-flat, holds-fresh}
 use Rattle.engine.specs.Laws.Starting.{sizes-stand}
@@ -49,7 +49,7 @@ use Rattle.concurrent.proofs.Beginning.{starts-threaded}
 
 module _ {t : List ℕ} {P M T c : ℕ} (a : Accepted t P M T c) where
   -- its cells fit the words
-  pub accepted-cells : c ≤ cellWords
+  pub accepted-cells : c ≤ programWords
   accepted-cells = omega (arith, a .cells, a .sound .cells)
 
   -- its bodies stand first
@@ -125,7 +125,7 @@ zeros n k = by-test (ltb k n)
 pub accepted-starting : {t : List ℕ} {P M T c n l : ℕ} {ts map bounds ss labels depths : List ℕ} → Accepted t P M T c → Entries T ts
     → MapsLabels t P map bounds l → Starts (sizesAt t (length t - trailerSize - 2 * T - 2 * M) M) ss n
     → Begins t (length t - trailerSize - 2 * T) T bounds labels depths
-    → Starting t T ts map bounds ss labels depths (replicate localWords 0) (replicate cellWords (2 ^ 32))
+    → Starting t T ts map bounds ss labels depths (replicate threadWords 0) (replicate programWords (2 ^ 32))
 accepted-starting {t} {T = T} {bounds = bounds} {ss} {labels} {depths} a es W S B = record {
   loaded = record {
     program = a .program;
@@ -138,10 +138,10 @@ accepted-starting {t} {T = T} {bounds = bounds} {ss} {labels} {depths} a es W S 
   entries = es;
   threads =
       starts-threaded (a .sound) (accepted-map a W) (main-read a)
-      (subst (λ (n : ℕ). Begins t (length t - trailerSize - 2 * T) n bounds labels depths) (a .threads) B) (zeros localWords)
-      (length-replicate {A = ℕ} localWords 0);
-  long = length-replicate {A = ℕ} localWords 0;
-  cells = holds-fresh (a .program .sizes) (omega (arith, a .sound .cells));
+      (subst (λ (n : ℕ). Begins t (length t - trailerSize - 2 * T) n bounds labels depths) (a .threads) B) (zeros threadWords)
+      (length-replicate {A = ℕ} threadWords 0);
+  long = length-replicate {A = ℕ} threadWords 0;
+  cells = holds-fresh (a .program .sizes) {n = programWords} (omega (arith, a .sound .cells));
 }
 
 -- ---- from the run to the answer
@@ -170,7 +170,7 @@ outcome-of {p} {c} {ts} {cs} {es} {os = os} {es′} {r} size room z W =
 pub run-outcome : {t : List ℕ} {P M T c n l : ℕ} {ts map bounds ss labels depths cs es ms os es′ : List ℕ} {r : Ran}
     → MapsLabels t P map bounds l → Starts (sizesAt t (length t - trailerSize - 2 * T - 2 * M) M) ss n
     → Begins t (length t - trailerSize - 2 * T) T bounds labels depths
-    → Runs t T ts map bounds ss labels depths (replicate localWords 0) (replicate cellWords (2 ^ 32)) es ms es′ r → Writes ms c cs os
+    → Runs t T ts map bounds ss labels depths (replicate threadWords 0) (replicate programWords (2 ^ 32)) es ms es′ r → Writes ms c cs os
     → Outcomes t P M T c ts cs es (record { number = 0; end = r .end; steps = r .taken; unused = length ts - r .taken; events = r .events }) os es′
 unfolding accepted-starting
 run-outcome W S B R O = record { same = λ a e room. outcome-of (a .cells) room (R .ran (accepted-starting a e W S B)) O }

@@ -141,7 +141,7 @@ module _ {t map bounds ss : List ℕ} {thread : ℕ} {labels depths ls cs o : Li
     es = h .lent;
     works = record {
       framed = rw e (u .here .framed);
-      room = omega (arith, u .there, u .few);
+      room = omega (arith, h .present .long, u .there, u .few);
       small = omega (arith, frame-small (h .loaded .sound) (u .here));
       holds = h .present .memory;
       bases = rw (h .present .sizes) (h .loaded .starts);

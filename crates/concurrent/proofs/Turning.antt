@@ -22,7 +22,7 @@ use Rattle.concurrent.specs.declared.threads.Turn.the-variants as T
 use Rattle.semantics.specs.Memory.{Env, evals, Memory, Event}
 use Rattle.semantics.specs.Step.{Stack, Moved}
 use Rattle.semantics.specs.Threads.{Atomic}
-use Rattle.engine.specs.Work.{frameWords, localWords, Beside, Clears, Framed}
+use Rattle.engine.specs.Work.{frameWords, Beside, Clears, Framed}
 use Rattle.decide.specs.Decided.{Act, assigns, writes, reads, tests, calls, returns, argsOf, decided, calleeOf, Right}
 use Rattle.decide.specs.Decided.{ActAt, Poised, Kept, Lies, DecidesAll}
 use Rattle.decide.specs.Decided as D
@@ -65,14 +65,13 @@ step-past ρ η k j S.Blocked l r = tt
 -- the first locals of a frame
 framed-front : {ls : List ℕ} {fb : ℕ} (ρ σ : Env) → Framed ls fb (ρ ++ σ) → Framed ls fb ρ
 framed-front ρ σ f = record {
-  long = f .long;
   room = omega (arith, f .room, length-append ρ σ);
   each = λ x l. f .each x (omega (arith, length-append ρ σ)) ∙ List·getD-append ρ σ nothing x l;
 }
 
 -- the frame of a call: its arguments, and all other words cleared
 framed-called : {ls ls′ : List ℕ} {fb : ℕ} (vs : List Value) (n : ℕ) → Framed ls fb (map is vs) → length vs ≤ n → n ≤ frameWords
-    → fb + frameWords ≤ localWords
+    → fb + frameWords ≤ length ls
     → Clears ls ls′ (fb + length vs) (fb + frameWords) → Framed ls′ fb (map is vs ++ replicate (n - length vs) nothing)
 framed-called {ls} {ls′} {fb} vs n f h l r c =
     let none : ℕ → Env = λ k. replicate k nothing in
@@ -206,7 +205,7 @@ module _ {t : List ℕ} {thread fb : ℕ} {bs : List ℕ} {i : ℕ} {ls cs o : L
       working : (h : Turning t thread fb bs i ls cs o n) → Works fb bs (h .es) ls₁ cs o n (h .a)
       working h = record {
         framed = framed-below (above h) (omega (arith, h .works .small)) (h .works .framed);
-        room = h .works .room;
+        room = omega (arith, h .works .room, above h .long);
         small = h .works .small;
         holds = h .works .holds;
         bases = h .works .bases;
@@ -256,6 +255,10 @@ module _ {t : List ℕ} {thread fb : ℕ} {bs : List ℕ} {i : ℕ} {ls cs o : L
           → fb + frameWords + b ≤ fb + frameWords + frameWords
       call-room e f h = omega (arith, call-here e h, asked h y .few)
 
+      -- and a frame above
+      pub call-above : {q k : ℕ} → u ≡ S.Call q k → Turning t thread fb bs i ls cs o n → fb + frameWords + frameWords ≤ length ls₁
+      call-above e h = omega (arith, h .works .room, above h .long)
+
       -- those that are no arguments are not set
       pub turns-call : {q k b : ℕ} {ls₂ : List ℕ} → u ≡ S.Call q k → b ≡ getD t (i + 3) 0
           → Clears ls₁ ls₂ (fb + frameWords + b) (fb + frameWords + frameWords) → Turns t thread fb bs i ls cs o n ls₂ cs o (T.Call q)
@@ -280,7 +283,7 @@ module _ {t : List ℕ} {thread fb : ℕ} {bs : List ℕ} {i : ℕ} {ls cs o : L
               label = m .1 .0 ∙ ap (Map.next (endsOf (h .p) (h .m))) (sym (m .0));
               works = record {
                 framed = framed-below (cleared h) (omega (arith, h .works .small)) (working h .framed);
-                room = h .works .room;
+                room = omega (arith, h .works .room, above h .long, cleared h .long);
                 small = h .works .small;
                 holds = h .works .holds;
                 bases = h .works .bases;
@@ -288,7 +291,7 @@ module _ {t : List ℕ} {thread fb : ℕ} {bs : List ℕ} {i : ℕ} {ls cs o : L
               };
               above =
                   framed-called vs (w .proc .locals) (E .passes .passed (turn-poised h) vs args) (omega (arith, w .params)) (omega arith)
-                  (omega (arith, h .works .room)) (count h vs args);
+                  (omega (arith, h .works .room, above h .long)) (count h vs args);
             };
       }
         where
@@ -365,8 +368,6 @@ pub ruleset turn-ways = (
   turn-kept,
   turns-return,
   turns-test,
-  call-byte,
-  call-room,
   turns-call,
   turn-carrying,
   turns-carried,

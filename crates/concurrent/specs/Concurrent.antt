@@ -20,7 +20,7 @@ use Rattle.semantics.specs.Memory.{fresh, Event}
 use Rattle.semantics.specs.Threads.{End}
 use Rattle.semantics.specs.Threads as P
 use Rattle.semantics.specs.Calls.{endNumber, maxEntries, Outcome, concurrentRun, concurrentOutcome}
-use Rattle.engine.specs.Work.{localWords, Holds}
+use Rattle.engine.specs.Work.{threadWords, Holds}
 use Rattle.engine.specs.Events.{Logged}
 use Rattle.atomic.specs.Threaded.{threadFrames, mostThreads, Threaded, allFrames}
 use Rattle.concurrent.specs.Stepping.{Loaded}
@@ -73,7 +73,7 @@ pub record Starting (t : List ℕ) (n : ℕ) (ts map bounds ss labels depths ls 
   pub count : n ≡ length (loaded .program .mains)
   pub entries : Entries n ts
   pub threads : Threaded (loaded .program) labels depths ls (P.start (labelled (loaded .program)) .threads)
-  pub long : length ls ≡ localWords
+  pub long : length ls ≡ threadWords
   pub cells : Holds (fresh (loaded .program .sizes)) cs
 
 -- how the run of the definition ended, as the code says it; "unused entries are counted, a blocking one among them"

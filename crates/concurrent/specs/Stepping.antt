@@ -17,7 +17,7 @@ use Rattle.concurrent.specs.declared.threads.Turn.{Turn}
 use Rattle.concurrent.specs.declared.threads.Turn.the-variants as T
 use Rattle.semantics.specs.Memory.{Event}
 use Rattle.semantics.specs.Threads as P
-use Rattle.engine.specs.Work.{localWords, Holds, Bases}
+use Rattle.engine.specs.Work.{threadWords, Holds, Bases}
 use Rattle.engine.specs.Events.{Logged}
 use Rattle.atomic.specs.Threaded.{mostFrames, mostThreads, Threaded, allFrames}
 use Rattle.semantics.specs.Laws.Cells.{shape}
@@ -36,7 +36,7 @@ pub record Loaded (t map bounds ss : List ℕ) : Type 0 where
 -- the events evs; `lent` is the buffer as it was lent
 pub record Present (p : Program Plain) (lent labels depths ls cs o : List ℕ) (n : ℕ) (s : P.State) (evs : List Event) : Type 0 where
   pub threads : Threaded p labels depths ls (s .threads)
-  pub long : length ls ≡ localWords
+  pub long : length ls ≡ threadWords
   pub memory : Holds (s .memory) cs
   pub sizes : shape (s .memory) ≡ p .sizes
   pub events : Logged lent evs o n

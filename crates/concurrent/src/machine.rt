@@ -4,15 +4,15 @@ use super::threads::step;
 use basics::numbers::ALL_FRAMES;
 use basics::numbers::BLOCKED;
 use basics::numbers::BOUNDS;
-use basics::numbers::CELL_WORDS;
 use basics::numbers::FINISHED;
-use basics::numbers::LOCAL_WORDS;
 use basics::numbers::MAIN;
 use basics::numbers::MAP;
 use basics::numbers::PAIR;
+use basics::numbers::PROGRAM_WORDS;
 use basics::numbers::SIZE;
 use basics::numbers::STARTS;
 use basics::numbers::THREAD_FRAMES;
+use basics::numbers::THREAD_WORDS;
 use basics::numbers::THREADS;
 use basics::numbers::TRAILER;
 use basics::numbers::USED;
@@ -25,6 +25,7 @@ use semantics::RunAnswer;
 ghost use mathlib.Core.Path.{_≡_};
 ghost use Prim.Native.Nat.{_≤_};
 ghost use lib.ListN.{length};
+ghost use Rattle.engine.specs.Work.{programWords, Writes};
 ghost use Rattle.atomic.specs.Threaded.{mostThreads, allFrames};
 ghost use Rattle.concurrent.specs.Concurrent.{AllDone, MainsAt, Begins, ranWith, Starting, Runs, Entries, Accepted, Outcomes};
 
@@ -88,8 +89,8 @@ fn go(
     starts: &[u32; STARTS],
     labels: &mut [usize; ALL_FRAMES],
     depths: &mut [usize; THREADS],
-    words: &mut [u64; LOCAL_WORDS],
-    cells: &mut [u64; CELL_WORDS],
+    words: &mut [u64; THREAD_WORDS],
+    cells: &mut [u64; PROGRAM_WORDS],
     events: &mut [u8],
 ) -> Ran
     requires { ⌜ Starting (now t) threads (now schedule) (now map) (now bounds) (now starts) (now labels) (now depths) (now words) (now cells) ⌝ }
@@ -126,6 +127,14 @@ fn go(
     }
 }
 
+// The final cells, `count` of them.
+fn write_out(words: &[u64; PROGRAM_WORDS], count: usize, out: &mut [u8])
+    requires { ⌜ count ≤ programWords ⌝ }
+    ensures { λ _. ⌜ Writes (now (words .entry)) count (now (out .entry)) (now (out .exit)) ⌝ }
+{
+    memory::write_cells(words, count, out);
+}
+
 // The run on a table that is accepted, under a schedule of its threads, with room for its cells.
 pub fn run(
     t: &[u8],
@@ -147,8 +156,8 @@ pub fn run(
     let mut starts = [0u32; STARTS];
     let mut labels = [0usize; ALL_FRAMES];
     let mut depths = [0usize; THREADS];
-    let mut words = [0u64; LOCAL_WORDS];
-    let mut memory = [ZERO; CELL_WORDS];
+    let mut words = [0u64; THREAD_WORDS];
+    let mut memory = [ZERO; PROGRAM_WORDS];
     fill_labels(t, procedures, &mut map, &mut bounds);
     memory::set_starts(t, mains - SIZE * locations, locations, &mut starts);
     begin(t, mains, threads, &bounds, &mut labels, &mut depths);
@@ -165,7 +174,7 @@ pub fn run(
         &mut memory,
         events,
     );
-    memory::write_cells(&memory, count, cells);
+    write_out(&memory, count, cells);
     RunAnswer {
         number: 0,
         end: ran.end,

@@ -5,14 +5,14 @@ use atomic::block::do_atomic;
 use basics::numbers::ALL_FRAMES;
 use basics::numbers::ATOMIC;
 use basics::numbers::BOUNDS;
-use basics::numbers::CELL_WORDS;
 use basics::numbers::FRAME;
-use basics::numbers::LOCAL_WORDS;
 use basics::numbers::MAP;
 use basics::numbers::NODE;
 use basics::numbers::PAIR;
+use basics::numbers::PROGRAM_WORDS;
 use basics::numbers::STARTS;
 use basics::numbers::THREAD_FRAMES;
+use basics::numbers::THREAD_WORDS;
 use basics::numbers::THREADS;
 use decide::step::Step;
 use decide::step::decide;
@@ -45,8 +45,8 @@ fn take_turn(
     thread: u8,
     base: usize,
     starts: &[u32; STARTS],
-    words: &mut [u64; LOCAL_WORDS],
-    cells: &mut [u64; CELL_WORDS],
+    words: &mut [u64; THREAD_WORDS],
+    cells: &mut [u64; PROGRAM_WORDS],
     events: &mut [u8],
     count: usize,
 ) -> Turn
@@ -163,8 +163,8 @@ pub fn step(
     thread: u8,
     labels: &mut [usize; ALL_FRAMES],
     depths: &mut [usize; THREADS],
-    words: &mut [u64; LOCAL_WORDS],
-    cells: &mut [u64; CELL_WORDS],
+    words: &mut [u64; THREAD_WORDS],
+    cells: &mut [u64; PROGRAM_WORDS],
     events: &mut [u8],
     count: usize,
 ) -> Stepped

@@ -29,7 +29,7 @@ use Rattle.decide.specs.declared.step.Step.{Step}
 use Rattle.decide.specs.declared.step.Step.the-variants.{Return, Assign, Read, Write, Test, Call, Blocked}
 use Rattle.semantics.specs.Memory.{Env, lookup, eval, evals, index, Memory, cell}
 use Rattle.value.specs.Values.{place, truth}
-use Rattle.engine.specs.Work.{Beside, frameWords, localWords, Framed, cellWords, Placed, Places}
+use Rattle.engine.specs.Work.{Beside, frameWords, Framed, Placed, Places}
 use Rattle.engine.specs.Words.{held}
 use Rattle.engine.specs.Evaluated.{Below, Ready, Evaluates}
 use Rattle.engine.specs.Laws.Work.{beside-same, framed-none}
@@ -222,7 +222,7 @@ read-of η x j o p = orBlocked (o >>= index >>= λ k. p >>= place >>= λ l. cell
 
 module _ {t ls : List ℕ} {fb i : ℕ} where
   -- a local of the instruction is one of the frame's
-  word : {y k : ℕ} (h : Poised t ls fb i) → y < length (h .env) → k ≡ y → fb + k < localWords
+  word : {y k : ℕ} (h : Poised t ls fb i) → y < length (h .env) → k ≡ y → fb + k < length ls
   word h l e = omega (arith, h .framed .room)
 
   -- and what the frame says
@@ -247,7 +247,7 @@ module _ {t ls : List ℕ} {fb i : ℕ} where
   source-ready h q X = let w = see-write (h .act) (h .here) q in ready (h .framed) (source-at h q X) (w .4 .below .2)
 
   -- its pointer
-  pub write-word : {k : ℕ} → Poised t ls fb i → getD t i 0 ≡ 0x21 → k ≡ getD t (i + 1) 0 → fb + k < localWords
+  pub write-word : {k : ℕ} → Poised t ls fb i → getD t i 0 ≡ 0x21 → k ≡ getD t (i + 1) 0 → fb + k < length ls
   write-word h q e = let w = see-write (h .act) (h .here) q in word h (w .4 .below .0) (e ∙ w .4 .pointer)
 
   -- what they decide
@@ -302,7 +302,7 @@ module _ {t ls : List ℕ} {fb i : ℕ} where
   read-ready h q = let w = see-read (h .act) (h .here) q in ready (h .framed) (w .4 .offset) (w .4 .below .2)
 
   -- its pointer
-  pub read-word : {k : ℕ} → Poised t ls fb i → getD t i 0 ≡ 0x22 → k ≡ getD t (i + 2) 0 → fb + k < localWords
+  pub read-word : {k : ℕ} → Poised t ls fb i → getD t i 0 ≡ 0x22 → k ≡ getD t (i + 2) 0 → fb + k < length ls
   read-word h q e = let w = see-read (h .act) (h .here) q in word h (w .4 .below .1) (e ∙ w .4 .pointer)
 
   -- what they decide
@@ -346,7 +346,7 @@ module _ {t ls : List ℕ} {fb i : ℕ} where
     }
 
 -- a cell that is found is one of the words
-pub found-word : {bs cs : List ℕ} (p o : Maybe Value) {s : Spot} {l j c : ℕ} → Kept bs cs → Places bs p o s → s ≡ At l j c → c < cellWords
+pub found-word : {bs cs : List ℕ} (p o : Maybe Value) {s : Spot} {l j c : ℕ} → Kept bs cs → Places bs p o s → s ≡ At l j c → c < length cs
 found-word p o k P n = cell-word (k .lies .holds) (subst (Placed (k .memory) p o) n (P .placed (k .memory) (k .lies .bases)) .2)
 
 -- ---- "call procedure m"
@@ -447,7 +447,7 @@ module _ {t ls : List ℕ} {fb i : ℕ} where
     beside = λ h. beside-same;
     passed = λ h vs f.
         let none : vs ≡ [] = sym (is-inj (sym (ap (evals (h .env)) (see-no-call t i (length (h .env)) (h .act) (h .j) (h .here) n)) ∙ f)) in
-        rw none (framed-none (h .framed .long) (omega (arith, h .room)));
+        rw none (framed-none (omega (arith, h .room)));
   }
 
   module _ {bs cs : List ℕ} {s : Step} where

@@ -16,7 +16,7 @@ use Rattle.format.specs.Decode.{maxDepth}
 use Rattle.engine.specs.declared.evaluate.Valued.{Valued}
 use Rattle.decide.specs.declared.step.Passed.the-variants.{All, Missing}
 use Rattle.semantics.specs.Memory.{evals}
-use Rattle.engine.specs.Work.{Puts, Beside, frameWords, localWords, Framed}
+use Rattle.engine.specs.Work.{Puts, Beside, frameWords, Framed}
 use Rattle.engine.specs.Evaluated.{Below, Ready, Evaluates}
 use Rattle.decide.specs.Decided.{Passable, PassesAll}
 use Rattle.engine.specs.Laws.Work.{beside-same, beside-put, beside-then, framed-none, framed-below, framed-more}
@@ -66,7 +66,7 @@ module _ {t ls : List ℕ} {fb i n : ℕ} where
       here = rw all (h .args);
       below = h .below;
       framed = h .framed;
-      args = framed-none (h .framed .long) (omega (arith, h .room));
+      args = framed-none (omega (arith, h .room));
       count = refl;
     };
   }
@@ -91,8 +91,12 @@ module _ {t ls : List ℕ} {fb i n : ℕ} where
     passing-ready h P l = ready h P l
 
     -- its word is there
-    pub passing-word : Passable t ls fb i n → Passing t ls ls′ fb i n a k → k < n → fb + frameWords + k < localWords
-    passing-word h P l = omega (arith, h .room, h .few)
+    pub passing-word : Passable t ls fb i n → Passing t ls ls′ fb i n a k → k < n → fb + frameWords + k < length ls′
+    passing-word h P l = omega (arith, h .room, h .few, P .beside .long)
+
+    -- as many words as before
+    pub passing-long : Passing t ls ls′ fb i n a k → length ls′ ≡ length ls
+    passing-long P = P .beside .long
 
     module _ {r : Valued} (P : Passing t ls ls′ fb i n a k) (l : k < n) (E : Evaluates t ls′ fb a maxDepth r) where
       -- what is left to evaluate
@@ -132,7 +136,7 @@ module _ {t ls : List ℕ} {fb i n : ℕ} where
               framed = framed-below (beside-put p) (omega (arith, h .narrow)) (o .framed);
               args =
                   rw (L.map-append is (o .vs) (v ∷ []))
-                  (framed-more (map is (o .vs)) (o .args) (rw long (omega (arith, h .room, h .few))) (rw long p));
+                  (framed-more (map is (o .vs)) (o .args) (rw long (omega (arith, h .room, h .few, P .beside .long))) (rw long p));
               count = omega (arith, length-append (o .vs) (v ∷ []), o .count);
             };
       }
@@ -151,4 +155,4 @@ module _ {t ls : List ℕ} {fb i n : ℕ} where
     }
 
 -- one law for each way
-pub ruleset passing-ways = (passing-start, passing-ready, passing-word, passing-none, passing-more, passing-all)
+pub ruleset passing-ways = (passing-start, passing-ready, passing-word, passing-long, passing-none, passing-more, passing-all)

@@ -27,7 +27,7 @@ use Rattle.decide.specs.declared.step.Step.the-variants.{Select, Blocked
 use Rattle.semantics.specs.Memory.{Memory, cell}
 use Rattle.semantics.specs.Copy.{running}
 use Rattle.engine.specs.Words.{held}
-use Rattle.engine.specs.Work.{mostLocations, cellWords, Found, Finds}
+use Rattle.engine.specs.Work.{mostLocations, Found, Finds}
 use Rattle.decide.specs.Decided.{numberOf, orBlocked, chosen, Lies, SelectHere, Selects, Selectable}
 use Rattle.semantics.specs.Laws.Cells.{shape}
 use Rattle.engine.specs.Laws.Holding.{cell-word, cell-held}
@@ -74,7 +74,7 @@ module _ {t bs cs : List ℕ} {i e l : ℕ} {s : Spot} where
   found a b η q F h m = subst (λ l. Found η l e s) (q ∙ h .source) (F .found η (m .bases))
 
   -- a cell that is found is one of the words
-  pub select-word : {k j c : ℕ} → Selectable t bs cs i → l ≡ numberAt 2 t (i + 3) → Finds bs l e s → s ≡ At k j c → c < cellWords
+  pub select-word : {k j c : ℕ} → Selectable t bs cs i → l ≡ numberAt 2 t (i + 3) → Finds bs l e s → s ≡ At k j c → c < length cs
   select-word {k} {j} {c} h q F n =
       let w = subst (Found (h .memory) (h .b) e) n (found (h .a) (h .b) (h .memory) q F (h .here) (h .lies)) in
       cell-word (h .lies .holds) (w .2)

@@ -26,7 +26,7 @@ use Rattle.semantics.specs.Memory.{Env, lookup, bound, eval, evals, index, Memo
 use Rattle.value.specs.Values.{place, truth}
 use Rattle.semantics.specs.Step.{Stack, Moved, entered, quiet, runs}
 use Rattle.semantics.specs.Copy.{running}
-use Rattle.engine.specs.Work.{Beside, frameWords, localWords, Framed, Holds, Bases, IsCell}
+use Rattle.engine.specs.Work.{Beside, frameWords, Framed, Holds, Bases, IsCell}
 use Rattle.engine.specs.Evaluated.{Below, Evaluates}
 use Rattle.semantics.specs.Laws.Cells.{shape}
 
@@ -257,7 +257,7 @@ pub record Poised (t ls : List ℕ) (fb i : ℕ) : Type 0 where
   pub j : ℕ
   pub here : ActAt t i (length env) act j
   pub narrow : length env ≤ frameWords
-  pub room : fb + frameWords + frameWords ≤ localWords
+  pub room : fb + frameWords + frameWords ≤ length ls
 
 -- n expressions stand at i, over the locals of the frame at fb
 pub record Passable (t ls : List ℕ) (fb i n : ℕ) : Type 0 where
@@ -269,7 +269,7 @@ pub record Passable (t ls : List ℕ) (fb i n : ℕ) : Type 0 where
   pub below : Each (Below (length env)) es
   pub few : n ≤ frameWords
   pub narrow : length env ≤ frameWords
-  pub room : fb + frameWords + frameWords ≤ localWords
+  pub room : fb + frameWords + frameWords ≤ length ls
 
 -- "y[o] := e" stands at i, and its index and value are evaluated
 pub record Writable (t ls : List ℕ) (fb i : ℕ) (o e : Valued) : Type 0 where

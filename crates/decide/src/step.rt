@@ -1,10 +1,8 @@
 // The deciding half of a step: reads the instruction that stands at a place, and answers what is to be done.
 use basics::numbers::ASSIGN;
 use basics::numbers::CALL;
-use basics::numbers::CELL_WORDS;
 use basics::numbers::END;
 use basics::numbers::FRAME;
-use basics::numbers::LOCAL_WORDS;
 use basics::numbers::READ;
 use basics::numbers::STARTS;
 use basics::numbers::WRITE;
@@ -98,7 +96,7 @@ pub fn decide_test(e: Valued) -> Step
 // "y[o] := e".
 pub fn decide_write(
     t: &[u8],
-    words: &[u64; LOCAL_WORDS],
+    words: &[u64],
     base: usize,
     starts: &[u32; STARTS],
     at: usize,
@@ -134,10 +132,10 @@ pub fn decide_write(
 // "x := y[o]".
 pub fn decide_read(
     t: &[u8],
-    words: &[u64; LOCAL_WORDS],
+    words: &[u64],
     base: usize,
     starts: &[u32; STARTS],
-    cells: &[u64; CELL_WORDS],
+    cells: &[u64],
     at: usize,
     o: Valued,
 ) -> Step
@@ -173,7 +171,7 @@ enum Passed {
 }
 
 // The values of `count` expressions go to the frame above, which is no part of the state before the call.
-fn pass(t: &[u8], words: &mut [u64; LOCAL_WORDS], base: usize, from: usize, count: usize) -> Passed
+fn pass(t: &[u8], words: &mut [u64], base: usize, from: usize, count: usize) -> Passed
     requires { ⌜ Passable (now t) (now words) base from count ⌝ }
     ensures { λ r. ⌜ PassesAll (now (t .entry)) (now (words .entry)) (now (words .exit)) base from count r ⌝ }
 {
@@ -194,7 +192,7 @@ fn pass(t: &[u8], words: &mut [u64; LOCAL_WORDS], base: usize, from: usize, coun
 }
 
 // "call procedure m".
-pub fn decide_call(t: &[u8], words: &mut [u64; LOCAL_WORDS], base: usize, at: usize) -> Step
+pub fn decide_call(t: &[u8], words: &mut [u64], base: usize, at: usize) -> Step
     requires { ⌜ Poised (now t) (now words) base at × (getD (now t) at 0 ≡ 0x25) × (at + 4 ≤ length (now t)) ⌝ }
     ensures { λ r. ⌜ DecidesAll (now (t .entry)) (now (words .entry)) (now (words .exit)) base at Any r ⌝ }
 {
@@ -212,10 +210,10 @@ pub fn decide_call(t: &[u8], words: &mut [u64; LOCAL_WORDS], base: usize, at: us
 // The sequential machine matches on the mark itself (`sequential::due`).
 pub fn decide(
     t: &[u8],
-    words: &mut [u64; LOCAL_WORDS],
+    words: &mut [u64],
     base: usize,
     starts: &[u32; STARTS],
-    cells: &[u64; CELL_WORDS],
+    cells: &[u64],
     at: usize,
 ) -> Step
     requires { ⌜ Poised (now t) (now words) base at × Kept (now starts) (now cells) ⌝ }
@@ -241,13 +239,7 @@ pub fn decide(
 }
 
 // The step of the select at `at`, which takes an entry of the schedule.
-pub fn decide_select(
-    t: &[u8],
-    starts: &[u32; STARTS],
-    cells: &[u64; CELL_WORDS],
-    at: usize,
-    thread: u8,
-) -> Step
+pub fn decide_select(t: &[u8], starts: &[u32; STARTS], cells: &[u64], at: usize, thread: u8) -> Step
     requires { ⌜ Selectable (now t) (now starts) (now cells) at ⌝ }
     ensures { λ r. ⌜ Selects (now (t .entry)) (now (starts .entry)) (now (cells .entry)) at thread r ⌝ }
 {

@@ -29,7 +29,6 @@ use Rattle.format.specs.Laws.Stands.{first, others}
 use Rattle.format.specs.Laws.Grammar.{ExprAt, OneAt, TwoAt, whole-here, location-here, no-here, yes-here, one-here, two-here, expr-inside, expr-deep}
 use Rattle.semantics.specs.Memory.{eval}
 use Rattle.engine.specs.Words.{held}
-use Rattle.engine.specs.Work.{localWords}
 use Rattle.engine.specs.Evaluated.{operated₁, operated₂, Below, Ready, valued, Evaluates}
 use Rattle.engine.specs.declared.evaluate.Valued.{Valued}
 use Rattle.engine.specs.Laws.Work.{framed-get}
@@ -227,7 +226,7 @@ module _ {t ls : List ℕ} {fb i : ℕ} where
   local-below h n₁ n₂ n₃ n₄ = subst (Below (length (h .env))) (local-here h n₁ n₂ n₃ n₄ .0) (h .below)
 
   pub local-word : Ready t ls fb i 1 → (getD t i 0 ≡ 1 → ⊥) → (getD t i 0 ≡ 2 → ⊥) → (getD t i 0 ≡ 3 → ⊥) → (getD t i 0 ≡ 4 → ⊥)
-      → fb + getD t (i + 1) 0 < localWords
+      → fb + getD t (i + 1) 0 < length ls
   local-word h n₁ n₂ n₃ n₄ = framed-get (h .framed) (getD t (i + 1) 0) (local-below h n₁ n₂ n₃ n₄) .0
 
   -- what they give

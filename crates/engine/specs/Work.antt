@@ -12,7 +12,7 @@ use Rattle.engine.specs.declared.memory.Spot.{Spot}
 use Rattle.engine.specs.declared.memory.Spot.the-variants.{At, Nowhere}
 use Rattle.semantics.specs.Memory.{Env, lookup, index, Memory, cell}
 use Rattle.semantics.specs.Buffers.{cells}
-pub use Rattle.basics.specs.Sizes.{frameWords, localWords, mostLocations, startWords, cellWords}
+pub use Rattle.basics.specs.Sizes.{frameWords, localWords, threadWords, mostLocations, startWords, cellWords, programWords}
 use Rattle.engine.specs.Words.{held}
 use Rattle.semantics.specs.Laws.Cells.{shape}
 
@@ -39,8 +39,7 @@ pub record Clears (ws ws′ : List ℕ) (a b : ℕ) : Type 0 where
 
 -- the words from fb on hold the locals ρ
 pub record Framed (ls : List ℕ) (fb : ℕ) (ρ : Env) : Type 0 where
-  pub long : length ls ≡ localWords
-  pub room : fb + length ρ ≤ localWords
+  pub room : fb + length ρ ≤ length ls
   pub each : (x : ℕ) → x < length ρ → held (getD ls (fb + x) 0) ≡ lookup ρ x
 
 -- ---- cells
@@ -52,8 +51,7 @@ flat (row ∷ η) = row ++ flat η
 
 -- the words hold the cells of η
 pub record Holds (η : Memory) (cs : List ℕ) : Type 0 where
-  pub long : length cs ≡ cellWords
-  pub few : length (flat η) ≤ cellWords
+  pub few : length (flat η) ≤ length cs
   pub each : (k : ℕ) → k < length (flat η) → held (getD cs k 0) ≡ at (flat η) k
 
 -- the number of the first cell of each location of these sizes; past the last of them, the number of all cells

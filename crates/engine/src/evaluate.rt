@@ -4,7 +4,6 @@ use super::table;
 use basics::bytes;
 use basics::marks;
 use basics::numbers;
-use basics::numbers::LOCAL_WORDS as WORDS;
 use basics::operators;
 use value::Answer;
 use value::Value;
@@ -154,7 +153,7 @@ fn one(mark: u8, kind: u8, operand: Answer) -> Answer
 }
 
 // A leaf's value.
-fn leaf(t: &[u8], locals: &[u64; WORDS], base: usize, at: usize) -> Valued
+fn leaf(t: &[u8], locals: &[u64], base: usize, at: usize) -> Valued
     requires { ⌜ Ready (now t) (now locals) base at 1 ⌝ }
     ensures { λ r. ⌜ Evaluates (now (t .entry)) (now (locals .entry)) base at 1 r ⌝ }
 {
@@ -183,7 +182,7 @@ fn leaf(t: &[u8], locals: &[u64; WORDS], base: usize, at: usize) -> Valued
 }
 
 // The value of an operator's expression. A leaf among its operands is evaluated here, without a call of this function.
-fn operation(t: &[u8], locals: &[u64; WORDS], base: usize, at: usize, depth: usize) -> Valued
+fn operation(t: &[u8], locals: &[u64], base: usize, at: usize, depth: usize) -> Valued
     requires { ⌜ Ready (now t) (now locals) base at depth × (6 ≤ getD (now t) at 0) ⌝ }
     ensures { λ r. ⌜ Evaluates (now (t .entry)) (now (locals .entry)) base at depth r ⌝ }
 {
@@ -218,7 +217,7 @@ fn operation(t: &[u8], locals: &[u64; WORDS], base: usize, at: usize, depth: usi
 }
 
 // The value of an expression, and where it ends.
-pub fn evaluate(t: &[u8], locals: &[u64; WORDS], base: usize, at: usize) -> Valued
+pub fn evaluate(t: &[u8], locals: &[u64], base: usize, at: usize) -> Valued
     requires { ⌜ Ready (now t) (now locals) base at maxDepth ⌝ }
     ensures { λ r. ⌜ Evaluates (now (t .entry)) (now (locals .entry)) base at maxDepth r ⌝ }
 {

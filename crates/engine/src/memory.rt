@@ -3,7 +3,6 @@ use super::table;
 use super::word;
 use basics::bytes;
 use basics::numbers::CELL;
-use basics::numbers::CELL_WORDS;
 use basics::numbers::LOCATIONS;
 use basics::numbers::SIZE;
 use basics::numbers::STARTS;
@@ -14,7 +13,7 @@ ghost use Prim.Native.Nat.{_+_, _*_, _^_, _≤_, _<_};
 ghost use lib.ListN.{length, getD};
 ghost use Rattle.value.specs.Values.{given};
 ghost use Rattle.engine.specs.Words.{held};
-ghost use Rattle.engine.specs.Work.{mostLocations, startWords, cellWords, Puts, sizesAt, Starts, Finds, Places, WritesOne, Writes};
+ghost use Rattle.engine.specs.Work.{mostLocations, startWords, Puts, sizesAt, Starts, Finds, Places, WritesOne, Writes};
 
 // A cell's location, its index there and its number among all cells; or there is none.
 pub enum Spot {
@@ -102,16 +101,16 @@ pub fn place(starts: &[u32; STARTS], pointer: Answer, offset: Answer) -> Spot
 }
 
 // What a cell holds.
-pub fn get(cells: &[u64; CELL_WORDS], cell: usize) -> Answer
-    requires { ⌜ cell < cellWords ⌝ }
+pub fn get(cells: &[u64], cell: usize) -> Answer
+    requires { ⌜ cell < length (now cells) ⌝ }
     ensures { λ r. ⌜ given r ≡ held (getD (now (cells .entry)) cell 0) ⌝ }
 {
     word::unpack(cells[cell])
 }
 
 // A value is stored in a cell.
-pub fn put(cells: &mut [u64; CELL_WORDS], cell: usize, v: Value)
-    requires { ⌜ cell < cellWords ⌝ }
+pub fn put(cells: &mut [u64], cell: usize, v: Value)
+    requires { ⌜ cell < length (now cells) ⌝ }
     ensures { λ _. ⌜ Puts (now (cells .entry)) (now (cells .exit)) cell v ⌝ }
 {
     cells[cell] = word::pack(v);
@@ -127,8 +126,8 @@ fn write_cell(w: u64, out: &mut [u8], at: usize)
 }
 
 // The first `count` cells: "Final cells are written as such values, in location order".
-pub fn write_cells(cells: &[u64; CELL_WORDS], count: usize, out: &mut [u8])
-    requires { ⌜ count ≤ cellWords ⌝ }
+pub fn write_cells(cells: &[u64], count: usize, out: &mut [u8])
+    requires { ⌜ count ≤ length (now cells) ⌝ }
     ensures { λ _. ⌜ Writes (now (cells .entry)) count (now (out .entry)) (now (out .exit)) ⌝ }
 {
     let mut i = 0;

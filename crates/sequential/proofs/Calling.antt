@@ -119,6 +119,7 @@ accepted-starting {js′ = js′} {ss} a e F S = record {
   long = length-replicate {A = ℕ} localWords 0;
   backs = length-replicate {A = ℕ} stackFrames 0;
   cells = holds-fresh (a .program .sizes) (a .sound .cells);
+  full = length-replicate {A = ℕ} cellWords (2 ^ 32);
 }
 
 -- ---- from the run to the answer
@@ -127,6 +128,11 @@ accepted-starting {js′ = js′} {ss} a e F S = record {
 pub run-taken : {t : List ℕ} {records : ℕ} {ts js ss ls bs cs : List ℕ} {h n : ℕ} {lent cs′ es : List ℕ} {r : Ran} → Starting t records js ss ls bs cs
     → Runs t records ts js ss ls bs cs h n lent cs′ es r → r .taken ≤ length ts
 run-taken q R = R .ran q .taken
+
+-- the cells are as many words as before
+pub run-full : {t : List ℕ} {records : ℕ} {ts js ss ls bs cs : List ℕ} {h n : ℕ} {lent cs′ es : List ℕ} {r : Ran} → Starting t records js ss ls bs cs
+    → Runs t records ts js ss ls bs cs h n lent cs′ es r → length cs′ ≡ cellWords
+run-full q R = R .ran q .full
 
 -- the answer, the cells and the events of a run
 outcome-of : {t : List ℕ} {P M c : ℕ} {records : ℕ} {ts js ss ls bs ks : List ℕ} {h n : ℕ} {cs es ms os es′ : List ℕ} {r : Ran} (a : Accepted t P M c)

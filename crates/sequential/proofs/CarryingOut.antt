@@ -30,7 +30,7 @@ use Rattle.engine.specs.Events.{withEvent}
 use Rattle.jumps.specs.Jumps.{positions, Settles, Branches}
 use Rattle.sequential.specs.Frames.{FrameAt, Stacked, more}
 use Rattle.sequential.specs.Sequential.{Due, eventIn, Recorded, Enters, movedTo, selectedTo, Moves, CarriesOut}
-use Rattle.engine.specs.Laws.Work.{framed-below, framed-entered}
+use Rattle.engine.specs.Laws.Work.{beside-put, framed-below, framed-entered}
 use Rattle.engine.specs.Laws.Holding.{holds-put}
 use Rattle.semantics.specs.Laws.Cells.{shape-stored}
 use Rattle.engine.specs.Laws.Logging.{logged-more}
@@ -62,7 +62,7 @@ module _ {t : List ℕ} {records : ℕ} {js : List ℕ} {h : ℕ} {ls bs cs es :
           record {
             config = restacked (d .config) (rebound (d .frame) y v (b ⊕ r) ∷ d .below);
             goes = next-assign h (d .loaded .program .procs) (d .config) (d .stack) q u;
-            present = went-on d (rebound (d .frame) y v (b ⊕ r)) (rebinds d low w (goes-on d b g (code-after o z)));
+            present = went-on d (rebound (d .frame) y v (b ⊕ r)) (beside-put w .long) (rebinds d low w (goes-on d b g (code-after o z)));
           }
 
   -- "while", "if, then, else"
@@ -77,26 +77,26 @@ module _ {t : List ℕ} {records : ℕ} {js : List ℕ} {h : ℕ} {ls bs cs es :
           record {
             config = restacked (d .config) (recoded (d .frame) all ∷ d .below);
             goes = next-while h (d .loaded .program .procs) (d .config) (d .stack) w (u ∙ ap is f);
-            present = went-on d (recoded (d .frame) all) (recodes d (goes-on d b (B .yes f) (code-body o z)));
+            present = went-on d (recoded (d .frame) all) refl (recodes d (goes-on d b (B .yes f) (code-body o z)));
           }
       go d false f (looping a b b′ r o w z u) = record {
         config = restacked (d .config) (recoded (d .frame) (b′ ⊕ r) ∷ d .below);
         goes = next-while h (d .loaded .program .procs) (d .config) (d .stack) w (u ∙ ap is f);
-        present = went-on d (recoded (d .frame) (b′ ⊕ r)) (recodes d (rw (B .no f) (d .loaded .jumps .entry _ _ _ _ o .goes (b′ ⊕ r) refl)));
+        present = went-on d (recoded (d .frame) (b′ ⊕ r)) refl (recodes d (rw (B .no f) (d .loaded .jumps .entry _ _ _ _ o .goes (b′ ⊕ r) refl)));
       }
       go d true f (choosing a b b′ b″ r o w z u) =
           let all : Block Plain = b ⊕ (b″ ⊕ r) in
           record {
             config = restacked (d .config) (recoded (d .frame) all ∷ d .below);
             goes = next-if h (d .loaded .program .procs) (d .config) (d .stack) w (u ∙ ap is f);
-            present = went-on d (recoded (d .frame) all) (recodes d (goes-on d b (B .yes f) (code-then o z)));
+            present = went-on d (recoded (d .frame) all) refl (recodes d (goes-on d b (B .yes f) (code-then o z)));
           }
       go d false f (choosing a b b′ b″ r o w z u) =
           let all : Block Plain = b′ ⊕ (b″ ⊕ r) in
           record {
             config = restacked (d .config) (recoded (d .frame) all ∷ d .below);
             goes = next-if h (d .loaded .program .procs) (d .config) (d .stack) w (u ∙ ap is f);
-            present = went-on d (recoded (d .frame) all) (recodes d (rw (B .no f) (d .loaded .jumps .entry _ _ _ _ o .goes all refl)));
+            present = went-on d (recoded (d .frame) all) refl (recodes d (rw (B .no f) (d .loaded .jumps .entry _ _ _ _ o .goes all refl)));
           }
 
   -- the end of a body: the frame below goes on where its caller wrote
@@ -114,8 +114,10 @@ module _ {t : List ℕ} {records : ℕ} {js : List ℕ} {h : ℕ} {ls bs cs es :
             present = record {
               depth = less;
               frames = rw (f, less) (top-rest (tower d));
+              long = d .present .long;
               backs = d .present .backs;
               memory = d .present .memory;
+              full = d .present .full;
               sizes = d .present .sizes;
               todo = d .present .todo;
               taken = d .present .taken;
@@ -147,8 +149,10 @@ module _ {t : List ℕ} {records : ℕ} {js : List ℕ} {h : ℕ} {ls bs cs es :
             present = record {
               depth = deep d;
               frames = rebinds d low w (goes-on d b g (code-after p z));
+              long = beside-put w .long ∙ d .present .long;
               backs = d .present .backs;
               memory = d .present .memory;
+              full = d .present .full;
               sizes = d .present .sizes;
               todo = d .present .todo;
               taken = d .present .taken;
@@ -177,8 +181,10 @@ module _ {t : List ℕ} {records : ℕ} {js : List ℕ} {h : ℕ} {ls bs cs es :
         present = record {
           depth = deep d;
           frames = recodes d (goes-on d b g (code-after p z));
+          long = d .present .long;
           backs = d .present .backs;
           memory = holds-put (d .present .memory) (cell-is (d .config .memory) l i u₃ f) w;
+          full = beside-put w .long ∙ d .present .full;
           sizes = shape-stored (d .config .memory) l i v ∙ d .present .sizes;
           todo = d .present .todo;
           taken = d .present .taken;
@@ -209,8 +215,10 @@ module _ {t : List ℕ} {records : ℕ} {js : List ℕ} {h : ℕ} {ls bs cs es :
             present = record {
               depth = deep d;
               frames = recodes d (goes-on d b′ g (code-after p z));
+              long = d .present .long;
               backs = d .present .backs;
               memory = rw (← i) (holds-put (d .present .memory) (select-cell d p f) w);
+              full = beside-put w .long ∙ d .present .full;
               sizes = shape-stored η a 0 (Whole (pos u)) ∙ d .present .sizes;
               todo = sym (ap (drop 1) rest) ∙ drop-drop 1 (s .taken) (d .schedule);
               taken = omega (arith, length-drop (s .taken) (d .schedule), ap length rest);
@@ -249,7 +257,7 @@ module _ {t : List ℕ} {records : ℕ} {js : List ℕ} {h : ℕ} {ls bs cs es :
             proc = q;
             found = callee .1;
             long = rw (length-append, length-map, length-replicate) (omega (arith, right .params));
-            framed = framed-entered vs passed (omega (arith, right .params)) (omega (arith, right .locals, d .few, deep d)) cleared;
+            framed = framed-entered vs passed (omega (arith, right .params)) (omega (arith, right .locals, d .few, deep d, d .present .long)) cleared;
             code = settled-body (callee .1) (N .start ∙ H .start);
           } in
           let back : getD bs′ (suc (length (d .below))) 0 ≡ k =
@@ -264,8 +272,10 @@ module _ {t : List ℕ} {records : ℕ} {js : List ℕ} {h : ℕ} {ls bs cs es :
             present = record {
               depth = omega (arith, deep d);
               frames = more frame called below;
+              long = N .clears .beside .long ∙ d .present .long;
               backs = rw (N .back, length-set) (d .present .backs);
               memory = d .present .memory;
+              full = d .present .full;
               sizes = d .present .sizes;
               todo = d .present .todo;
               taken = d .present .taken;

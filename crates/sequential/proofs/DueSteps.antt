@@ -28,7 +28,7 @@ use Rattle.value.specs.Values.{place, truth}
 use Rattle.semantics.specs.Step.{Frame, Stack}
 use Rattle.semantics.specs.Copy as C
 use Rattle.decide.specs.Decided.{Act, actOf, actEnd, decided, orBlocked, numberOf}
-use Rattle.engine.specs.Work.{Puts, Beside, frameWords, localWords, Framed, cellWords, IsCell}
+use Rattle.engine.specs.Work.{Puts, Beside, frameWords, Framed, IsCell}
 use Rattle.jumps.specs.Jumps.{Settled, Settles}
 use Rattle.sequential.specs.Frames.{FrameAt, Called, Stacked, more}
 use Rattle.sequential.specs.Sequential.{Present, Decision, leaves, acts, selects, Due, Enterable}
@@ -224,13 +224,15 @@ module _ {t : List ℕ} {records : ℕ} {js ls bs cs es : List ℕ} {s : State} 
   to k = record { at = k; depth = s .depth; thread = s .thread; taken = s .taken; events = s .events }
 
   -- it goes on, and nothing else has changed
-  pub went-on : {ls′ : List ℕ} {k : ℕ} (f : Frame Plain) → Stacked (P .procs) ls′ bs k (f ∷ d .below)
+  pub went-on : {ls′ : List ℕ} {k : ℕ} (f : Frame Plain) → length ls′ ≡ length ls → Stacked (P .procs) ls′ bs k (f ∷ d .below)
       → Present P (d .lent) (d .schedule) ls′ bs cs es (to k) (restacked c (f ∷ d .below))
-  went-on f S = record {
+  went-on f l S = record {
     depth = deep;
     frames = S;
+    long = l ∙ d .present .long;
     backs = d .present .backs;
     memory = d .present .memory;
+    full = d .present .full;
     sizes = d .present .sizes;
     todo = d .present .todo;
     taken = d .present .taken;
@@ -345,36 +347,36 @@ module _ {t : List ℕ} {records : ℕ} {js ls bs cs es : List ℕ} {s : State} 
   select-after d e = after-inside d _ (done d e)
 
   -- a local of the top frame
-  frame-room : (d : Due t records js ls bs cs es s x) (y : ℕ) → y < length (d .frame .env) → frameWords * (s .depth - 1) + y < localWords
+  frame-room : (d : Due t records js ls bs cs es s x) (y : ℕ) → y < length (d .frame .env) → frameWords * (s .depth - 1) + y < length ls
   frame-room d y l = omega (arith, deep d, top-frame (tower d) .framed .room)
 
-  pub assign-room : {y n : ℕ} {v : Value} → Due t records js ls bs cs es s x → x ≡ Assign y v n → frameWords * (s .depth - 1) + y < localWords
+  pub assign-room : {y n : ℕ} {v : Value} → Due t records js ls bs cs es s x → x ≡ Assign y v n → frameWords * (s .depth - 1) + y < length ls
   assign-room {y} {n} {v} d e = go (done d e)
     where
-      go : Doing (d .loaded .program) (d .config) (d .frame) (s .at) (Assign y v n) → frameWords * (s .depth - 1) + y < localWords
+      go : Doing (d .loaded .program) (d .config) (d .frame) (s .at) (Assign y v n) → frameWords * (s .depth - 1) + y < length ls
       go (assigning a b r o q z u) =
           let F = top-frame (tower d) in
           frame-room d y (omega (arith, F .long, code-named (d .loaded .same) (d .loaded .sound) (F .found) o .0))
 
-  pub read-room : {y l i n : ℕ} {v : Value} → Due t records js ls bs cs es s x → x ≡ Read y l i v n → frameWords * (s .depth - 1) + y < localWords
+  pub read-room : {y l i n : ℕ} {v : Value} → Due t records js ls bs cs es s x → x ≡ Read y l i v n → frameWords * (s .depth - 1) + y < length ls
   read-room {y} {l} {i} {n} {v} d e = go (done d e)
     where
-      go : Doing (d .loaded .program) (d .config) (d .frame) (s .at) (Read y l i v n) → frameWords * (s .depth - 1) + y < localWords
+      go : Doing (d .loaded .program) (d .config) (d .frame) (s .at) (Read y l i v n) → frameWords * (s .depth - 1) + y < length ls
       go (reading y′ a b r o q z u u′ u″) =
           let F = top-frame (tower d) in
           frame-room d y (omega (arith, F .long, code-named (d .loaded .same) (d .loaded .sound) (F .found) o .0))
 
   -- the number of a cell
-  pub write-room : {l i j n : ℕ} {v : Value} → Due t records js ls bs cs es s x → x ≡ Write l i j v n → j < cellWords
+  pub write-room : {l i j n : ℕ} {v : Value} → Due t records js ls bs cs es s x → x ≡ Write l i j v n → j < length cs
   write-room {l} {i} {j} {n} {v} d e = go (done d e)
     where
-      go : Doing (d .loaded .program) (d .config) (d .frame) (s .at) (Write l i j v n) → j < cellWords
+      go : Doing (d .loaded .program) (d .config) (d .frame) (s .at) (Write l i j v n) → j < length cs
       go (writing y a w b r u o q z u₀ u₁ u₂ u₃ f) = cell-word (d .present .memory) (cell-is (d .config .memory) l i u₃ f)
 
-  pub select-room : {j u n : ℕ} → Due t records js ls bs cs es s x → x ≡ Select j u n → j < cellWords
+  pub select-room : {j u n : ℕ} → Due t records js ls bs cs es s x → x ≡ Select j u n → j < length cs
   select-room {j} {u} {n} d e = go (done d e)
     where
-      go : Doing (d .loaded .program) (d .config) (d .frame) (s .at) (Select j u n) → j < cellWords
+      go : Doing (d .loaded .program) (d .config) (d .frame) (s .at) (Select j u n) → j < length cs
       go (selecting a b us b′ r v o q z u₀ u₁ u₂ f) = cell-word (d .present .memory) (select-cell d o f)
 
   -- the count of entries taken fits

@@ -138,7 +138,7 @@ module _ {t ts ss ls cs : List ℕ} {s : State} (f : Facing t ts ss ls cs s) whe
     j = j;
     here = h;
     narrow = frame-small (f .loaded .program .procs) (f .loaded .sound .locals) frame;
-    room = omega (arith, f .present .depth, stacked-few (f .loaded .sound .calls) (f .present .frames), f .loaded .sound .procs .high);
+    room = omega (arith, f .present .depth, f .present .long, stacked-few (f .loaded .sound .calls) (f .present .frames), f .loaded .sound .procs .high);
   }
 
 -- cells at work
@@ -228,8 +228,10 @@ present-above : {p : Program Plain} {lent ts ls ls′ bs cs es : List ℕ} {s : 
 present-above {p} sound P B h = record {
   depth = P .depth;
   frames = stacked-below (p .procs) (sound .locals) B (omega (arith, P .depth)) (P .frames);
+  long = B .long ∙ P .long;
   backs = P .backs;
   memory = P .memory;
+  full = P .full;
   sizes = P .sizes;
   todo = P .todo;
   taken = P .taken;

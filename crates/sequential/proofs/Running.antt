@@ -153,15 +153,17 @@ module _ {t : List ℕ} {records : ℕ} {js ss ls bs cs : List ℕ} (q : Startin
         found = first .1;
         long = length-replicate (first .0 .locals - 0) nothing ∙ omega arith;
         framed =
-            framed-entered {fb = frameWords * 0} {n = first .0 .locals} [] (framed-none (q .long) (omega arith)) (omega arith)
-            (omega (arith, few .locals)) (record { beside = beside-same; zero = λ k l m. q .zero k });
+            framed-entered {fb = frameWords * 0} {n = first .0 .locals} [] (framed-none (omega (arith, q .long))) (omega arith)
+            (omega (arith, few .locals, q .long)) (record { beside = beside-same; zero = λ k l m. q .zero k });
         code = settled-body (first .1) (e ∙ ap (numberAt 4 t) (sym here) ∙ H .start);
       } in
       record {
         depth = ap length (sym one);
         frames = rw one (more frame tt none);
+        long = q .long;
         backs = q .backs;
         memory = q .cells;
+        full = q .full;
         sizes = shape-fresh (p .sizes);
         todo = refl;
         taken = omega arith;
@@ -211,6 +213,7 @@ module _ {t : List ℕ} {records : ℕ} {ts js ss ls₀ bs₀ cs₀ : List ℕ} 
           same = g .same ∙ f q;
           end = refl;
           memory = g .present .memory;
+          full = g .present .full;
           sizes = g .present .sizes;
           todo = g .present .todo;
           taken = g .present .taken;

@@ -26,7 +26,7 @@ use Rattle.semantics.specs.Step.{Frame, Stack}
 use Rattle.semantics.specs.Threads.{End}
 use Rattle.semantics.specs.Copy as C
 use Rattle.semantics.specs.Calls.{endNumber, Outcome, sequentialOutcome}
-use Rattle.engine.specs.Work.{Clears, frameWords, localWords, Framed, Holds, Bases}
+use Rattle.engine.specs.Work.{Clears, frameWords, localWords, cellWords, Framed, Holds, Bases}
 use Rattle.engine.specs.Events.{Logged, wayOf}
 use Rattle.decide.specs.Decided.{Act, actOf, actEnd, decided, chosen}
 use Rattle.jumps.specs.Jumps.{positions, Jumps}
@@ -54,8 +54,10 @@ pub record Loaded (t : List ℕ) (records : ℕ) (js ss : List ℕ) : Type 0 whe
 pub record Present (p : Program Plain) (lent ts ls bs cs es : List ℕ) (s : State) (c : C.Config) : Type 0 where
   pub depth : s .depth ≡ length (c .stack)
   pub frames : Stacked (p .procs) ls bs (s .at) (c .stack)
+  pub long : length ls ≡ localWords
   pub backs : length bs ≡ stackFrames
   pub memory : Holds (c .memory) cs
+  pub full : length cs ≡ cellWords
   pub sizes : shape (c .memory) ≡ p .sizes
   pub todo : c .todo ≡ drop (s .taken) ts
   pub taken : s .taken ≤ length ts
@@ -187,6 +189,7 @@ pub record Starting (t : List ℕ) (records : ℕ) (js ss ls bs cs : List ℕ) :
   pub long : length ls ≡ localWords
   pub backs : length bs ≡ stackFrames
   pub cells : Holds (fresh (loaded .program .sizes)) cs
+  pub full : length cs ≡ cellWords
 
 -- the run of the definition, with budget n
 abbrev pub runOf : {t : List ℕ} {records : ℕ} {js ss ls bs cs : List ℕ} → Starting t records js ss ls bs cs → List ℕ → ℕ → ℕ → C.Ran
@@ -200,6 +203,7 @@ pub record RanAs {t : List ℕ} {records : ℕ} {js ss ls bs cs : List ℕ} (q :
   pub same : runOf q ts h n ≡ record { how = how; steps = r .steps; config = config }
   pub end : r .end ≡ endNumber how
   pub memory : Holds (config .memory) cs′
+  pub full : length cs′ ≡ cellWords
   pub sizes : shape (config .memory) ≡ q .loaded .program .sizes
   pub todo : config .todo ≡ drop (r .taken) ts
   pub taken : r .taken ≤ length ts

@@ -22,7 +22,7 @@ use Rattle.format.specs.Laws.Sound.{Sound}
 use Rattle.labels.specs.Laws.Spots.{Remains, remains-body}
 use Rattle.semantics.specs.Memory.{Env}
 use Rattle.semantics.specs.Step.{Frame, Stack, entered}
-use Rattle.engine.specs.Work.{frameWords, localWords, Beside, Framed}
+use Rattle.engine.specs.Work.{frameWords, Beside, Framed}
 use Rattle.atomic.specs.Threaded.{mostFrames, threadFrames, mostThreads, FrameAt, FramesAt, Link, Linked, ThreadAt, Threaded, allFrames}
 use Rattle.engine.specs.Laws.Work.{beside-same, beside-set}
 use Rattle.atomic.specs.Laws.Standing.{Labelled, labelled-at}
@@ -69,8 +69,7 @@ module _ {p : Program Plain} (sound : Sound concurrent p) where
     remains = h .remains;
     label = h .label;
     framed = record {
-      long = long ∙ h .framed .long;
-      room = h .framed .room;
+      room = omega (arith, long, h .framed .room);
       each = λ x m. rw (same (frameWords * k + x) (omega arith) (omega (arith, frame-small h))) (h .framed .each x m);
     };
     full = h .full;

@@ -17,7 +17,7 @@ use Rattle.value.specs.Laws.Lists.{at-set-same, at-set-other, at-replicate, at-
 use Rattle.format.specs.Encode.{each}
 use Rattle.semantics.specs.Memory.{Memory, cell, stored, fresh}
 use Rattle.engine.specs.Words.{held}
-use Rattle.engine.specs.Work.{Puts, flat, cellWords, Holds, IsCell}
+use Rattle.engine.specs.Work.{Puts, flat, Holds, IsCell}
 use Rattle.semantics.specs.Laws.Cells.{shape}
 
 -- ---- cells in one row
@@ -86,13 +86,13 @@ flat-fresh (n ∷ ns) = rw (flat-fresh ns) (replicate-append-replicate n (sum ns
 -- ---- words that hold them
 
 -- by the row of all cells
-holds-row : {η : Memory} {cs : List ℕ} (vs : List Value) → flat η ≡ vs → length cs ≡ cellWords → length vs ≤ cellWords
+holds-row : {η : Memory} {cs : List ℕ} (vs : List Value) → flat η ≡ vs → length vs ≤ length cs
     → ((k : ℕ) → k < length vs → held (getD cs k 0) ≡ at vs k) → Holds η cs
-holds-row vs e a b c = record { long = a; few = rw e b; each = rw e c }
+holds-row vs e a b = record { few = rw e a; each = rw e b }
 
 module _ {η : Memory} {cs : List ℕ} (h : Holds η cs) where
   -- a cell is one of the words
-  pub cell-word : {l i k : ℕ} → IsCell η l i k → k < cellWords
+  pub cell-word : {l i k : ℕ} → IsCell η l i k → k < length cs
   cell-word {l} {i} c = omega (arith, c .number, flat-below η l i (c .size), h .few)
 
   -- and the word holds what the cell does
@@ -106,11 +106,11 @@ module _ {η : Memory} {cs : List ℕ} (h : Holds η cs) where
       let inside : n < length (flat η) = flat-below η l i (c .size) in
       let same : length (set (flat η) n v) ≡ length (flat η) = length-set (flat η) n v in
       rw (p .stored, c .number)
-      (holds-row (set (flat η) n v) (flat-stored η l i v (c .size)) (length-set cs n (p .word) ∙ h .long) (omega (arith, h .few))
+      (holds-row (set (flat η) n v) (flat-stored η l i v (c .size)) (omega (arith, h .few, length-set cs n (p .word)))
       (λ j m. by-test (eqb j n)
       (λ e.
       let here : j ≡ n = eqb-true j n e in
-      rw (here, getD-set-same cs n (p .word) 0 (omega (arith, h .few, h .long)), at-set-same (flat η) n v inside) (p .holds))
+      rw (here, getD-set-same cs n (p .word) 0 (omega (arith, h .few)), at-set-same (flat η) n v inside) (p .holds))
       (λ e.
       let other = eqb-false j n e in
       ap held (getD-set-other cs n j (p .word) 0 other) ∙ h .each j (omega arith) ∙ sym (at-set-other (flat η) n j v other))))
@@ -121,10 +121,10 @@ unfolding held
 zero-held = refl
 
 -- "All cells start as number 0"
-pub holds-fresh : (ns : List ℕ) → sum ns ≤ cellWords → Holds (fresh ns) (replicate cellWords (2 ^ 32))
-holds-fresh ns h =
+pub holds-fresh : (ns : List ℕ) {n : ℕ} → sum ns ≤ n → Holds (fresh ns) (replicate n (2 ^ 32))
+holds-fresh ns {n} h =
     let all : length (replicate (sum ns) (Whole (pos 0))) ≡ sum ns = length-replicate (sum ns) (Whole (pos 0)) in
-    holds-row (replicate (sum ns) (Whole (pos 0))) (flat-fresh ns) (length-replicate cellWords (2 ^ 32)) (omega arith)
+    holds-row (replicate (sum ns) (Whole (pos 0))) (flat-fresh ns) (omega (arith, length-replicate n (2 ^ 32)))
     (λ k m.
     let low : k < sum ns = omega arith in
-    rw (getD-replicate cellWords k (2 ^ 32) 0 (omega arith), at-replicate (sum ns) k (Whole (pos 0)) low) zero-held)
+    rw (getD-replicate n k (2 ^ 32) 0 (omega arith), at-replicate (sum ns) k (Whole (pos 0)) low) zero-held)

@@ -13,7 +13,7 @@ use Rattle.value.specs.Laws.Tests.{by-test}
 use Rattle.value.specs.declared.Value.{Value}
 use Rattle.semantics.specs.Memory.{Env, lookup, bound}
 use Rattle.engine.specs.Words.{held}
-use Rattle.engine.specs.Work.{Puts, Beside, Clears, localWords, Framed}
+use Rattle.engine.specs.Work.{Puts, Beside, Clears, Framed}
 
 -- ---- words
 
@@ -74,27 +74,30 @@ clears-more {ws} {ws′} {a} {i} h s = record {
 pub clears-all : {ws ws′ : List ℕ} {a i b : ℕ} → i ≤ b → b ≤ i → Clears ws ws′ a i → Clears ws ws′ a b
 clears-all {ws} {ws′} {a} {i} {b} h l c = let same : i ≡ b = omega arith in rw (← same) c
 
+-- as many words as before
+pub clears-long : {ws ws′ : List ℕ} {a i : ℕ} → Clears ws ws′ a i → length ws′ ≡ length ws
+clears-long c = c .beside .long
+
 -- ---- locals
 
 -- a word of a frame is one of all, and holds its local
 pub framed-get : {ls : List ℕ} {fb : ℕ} {ρ : Env} → Framed ls fb ρ → (x : ℕ) → x < length ρ
-    → (fb + x < localWords) × (held (getD ls (fb + x) 0) ≡ lookup ρ x)
+    → (fb + x < length ls) × (held (getD ls (fb + x) 0) ≡ lookup ρ x)
 framed-get f x l = (omega (arith, f .room), f .each x l)
 
 -- a frame without locals
-pub framed-none : {ls : List ℕ} {fb : ℕ} → length ls ≡ localWords → fb ≤ localWords → Framed ls fb []
-framed-none e l = record { long = e; room = omega arith; each = λ x m. absurd (omega arith) }
+pub framed-none : {ls : List ℕ} {fb : ℕ} → fb ≤ length ls → Framed ls fb []
+framed-none l = record { room = omega arith; each = λ x m. absurd (omega arith) }
 
 -- a local is set
 pub framed-put : {ls ls′ : List ℕ} {fb x : ℕ} {ρ : Env} {v : Value} → Framed ls fb ρ → x < length ρ → Puts ls ls′ (fb + x) v
     → Framed ls′ fb (bound ρ x v)
 framed-put {ls} {fb = fb} {x} {ρ} {v} f l p = rw (p .stored) (record {
-  long = length-set ls (fb + x) (p .word) ∙ f .long;
-  room = omega (arith, f .room, length-set ρ x (is v));
+  room = omega (arith, f .room, length-set ls (fb + x) (p .word), length-set ρ x (is v));
   each = λ y m. by-test (eqb y x)
       (λ e.
       let same : y ≡ x = eqb-true y x e in
-      rw (same, getD-set-same ls (fb + x) (p .word) 0 (omega (arith, f .room, f .long)), getD-set-same ρ x (is v) nothing l) (p .holds))
+      rw (same, getD-set-same ls (fb + x) (p .word) 0 (omega (arith, f .room)), getD-set-same ρ x (is v) nothing l) (p .holds))
       (λ e.
       let other = eqb-false y x e in
       let away : fb + y ≡ fb + x → ⊥ = λ q. other (omega arith) in
@@ -106,27 +109,24 @@ framed-put {ls} {fb = fb} {x} {ρ} {v} f l p = rw (p .stored) (record {
 -- stores elsewhere leave a frame: those above it
 pub framed-below : {ls ls′ : List ℕ} {fb a b : ℕ} {ρ : Env} → Beside ls ls′ a b → fb + length ρ ≤ a → Framed ls fb ρ → Framed ls′ fb ρ
 framed-below {fb = fb} s l f = record {
-  long = s .long ∙ f .long;
-  room = f .room;
+  room = omega (arith, f .room, s .long);
   each = λ x m. ap held (s .below (fb + x) (omega arith)) ∙ f .each x m;
 }
 
 -- and those below it
 pub framed-above : {ls ls′ : List ℕ} {fb a b : ℕ} {ρ : Env} → Beside ls ls′ a b → b ≤ fb → Framed ls fb ρ → Framed ls′ fb ρ
 framed-above {fb = fb} s l f = record {
-  long = s .long ∙ f .long;
-  room = f .room;
+  room = omega (arith, f .room, s .long);
   each = λ x m. ap held (s .above (fb + x) (omega arith)) ∙ f .each x m;
 }
 
 -- one more local, set
-pub framed-more : {ls ls′ : List ℕ} {fb : ℕ} (ρ : Env) {v : Value} → Framed ls fb ρ → fb + length ρ < localWords → Puts ls ls′ (fb + length ρ) v
+pub framed-more : {ls ls′ : List ℕ} {fb : ℕ} (ρ : Env) {v : Value} → Framed ls fb ρ → fb + length ρ < length ls → Puts ls ls′ (fb + length ρ) v
     → Framed ls′ fb (ρ ++ (is v ∷ []))
 framed-more {ls} {ls′} {fb} ρ {v} f l p =
     let more : length (ρ ++ (is v ∷ [])) ≡ length ρ + 1 = length-append ρ (is v ∷ []) in
     record {
-      long = beside-put p .long ∙ f .long;
-      room = omega arith;
+      room = omega (arith, beside-put p .long);
       each = λ x m. by-test (ltb x (length ρ))
           (λ e.
           let low = ltb-true x (length ρ) e in
@@ -134,8 +134,7 @@ framed-more {ls} {ls′} {fb} ρ {v} f l p =
           (λ e.
           let last : x ≡ length ρ + 0 = omega (arith, ltb-false x (length ρ) e) in
           let here : fb + (length ρ + 0) ≡ fb + length ρ = omega arith in
-          let there : fb + length ρ < length ls = omega (arith, f .long) in
-          rw (last, p .stored, getD-append-add ρ (is v ∷ []) 0 nothing, here, getD-set-same ls (fb + length ρ) (p .word) 0 there) (p .holds));
+          rw (last, p .stored, getD-append-add ρ (is v ∷ []) 0 nothing, here, getD-set-same ls (fb + length ρ) (p .word) 0 l) (p .holds));
     }
 
 -- the word 0 holds no value
@@ -144,15 +143,14 @@ unfolding held
 held-zero = refl
 
 -- a frame whose other words were cleared: those locals are not set
-pub framed-cleared : {ls ls′ : List ℕ} {fb n : ℕ} (ρ : Env) → Framed ls fb ρ → length ρ ≤ n → fb + n ≤ localWords
+pub framed-cleared : {ls ls′ : List ℕ} {fb n : ℕ} (ρ : Env) → Framed ls fb ρ → length ρ ≤ n → fb + n ≤ length ls
     → Clears ls ls′ (fb + length ρ) (fb + n) → Framed ls′ fb (ρ ++ replicate (n - length ρ) nothing)
 framed-cleared {ls} {ls′} {fb} {n} ρ f h l c =
     let left : Env = replicate (n - length ρ) nothing in
     let some : length left ≡ n - length ρ = length-replicate (n - length ρ) nothing in
     let all : length (ρ ++ left) ≡ n = omega (arith, length-append ρ left) in
     record {
-      long = c .beside .long ∙ f .long;
-      room = omega arith;
+      room = omega (arith, c .beside .long);
       each = λ x m. by-test (ltb x (length ρ))
           (λ e.
           let low = ltb-true x (length ρ) e in
@@ -169,11 +167,11 @@ framed-cleared {ls} {ls′} {fb} {n} ρ f h l c =
     }
 
 -- the frame of a call: its arguments, and its other locals not set
-pub framed-entered : {ls ls′ : List ℕ} {fb n : ℕ} (vs : List Value) → Framed ls fb (map is vs) → length vs ≤ n → fb + n ≤ localWords
+pub framed-entered : {ls ls′ : List ℕ} {fb n : ℕ} (vs : List Value) → Framed ls fb (map is vs) → length vs ≤ n → fb + n ≤ length ls
     → Clears ls ls′ (fb + length vs) (fb + n) → Framed ls′ fb (map is vs ++ replicate (n - length vs) nothing)
 framed-entered vs f h l c =
     let same : length (map is vs) ≡ length vs = length-map vs is in
     rw (← same) (framed-cleared (map is vs) f (omega arith) l (rw same c))
 
 -- one law for each way through the loop that clears
-pub ruleset clear-ways = (clears-none, clears-more, clears-all)
+pub ruleset clear-ways = (clears-none, clears-more, clears-all, clears-long)

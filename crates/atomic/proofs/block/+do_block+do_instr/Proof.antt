@@ -4,7 +4,7 @@ use Prim.Native.Nat.{ℕ, _+_, _-_, _<_}
 use native.Mathlib.Omega.{arith}
 use mathlib.Core.Path.{_≡_, _∙_}
 use lib.ListN.{length}
-use Rattle.atomic.proofs.Inside.{then-after, doing-else, does-else, instr-ways}
+use Rattle.atomic.proofs.Inside.{doing-then, then-after, doing-else, does-else, instr-ways}
 use Rattle.atomic.proofs.InsideBlock.{Going, going-deep, block-ways}
 use borrow.Fn.Kinds.{In}
 use borrow.Fn.PlainCycle.{Measures, is, falls, and}
@@ -42,7 +42,8 @@ do-instr-below t =
 
 abbrev do-block-Inv-loop : do-block-lts.InvT-loop
 do-block-Inv-loop t at depth thread base starts words₀ cells₀ events₀ count i₀ n₀ words cells events i n =
-    Going t thread base starts depth at words₀ cells₀ events₀ count i words cells events n × (length events ≡ length events₀)
+    Going t thread base starts depth at words₀ cells₀ events₀ count i words cells events n × (length words ≡ length words₀)
+    × (length cells ≡ length cells₀) × (length events ≡ length events₀)
 
 abbrev do-block-μ-loop : do-block-lts.MeasureT-loop
 do-block-μ-loop t at depth thread base starts words₀ cells₀ events₀ count i₀ n₀ words cells events i n = length t - i
@@ -70,34 +71,51 @@ pub +do-block+do-instr-spec : {M : Type 1} → statement M
     (λ c. search (block-ways, needs))
     (λ c κs.
     let start = c .before .before .before .before .before in
-    (omega (arith, going-deep (start .loop .inv .0), start .before .before .before .pre .0), search (block-ways, needs)))
+    (omega (arith, going-deep (start .loop .inv .0), start .before .before .before .before .before .pre .0), search (block-ways, needs)))
+    (λ c. search needs)
+    (λ c. search needs)
     (λ c. search needs)
     (λ c. search needs)
     (λ c. search needs)
     (λ c. search (block-ways, needs))
     (λ c. search (block-ways, needs))
     (λ c.
-    let done = c .before .before .before .before .before in
-    let start = done .before .before .before .before .before .before in
-    (search (block-ways, needs), done .do-instr .kept .1 .1 .1 .1 .1 .1 .1 .1 .0 ∙ start .loop .inv .1))
+    let done = c .before .before .before .before .before .before .before .before .before in
+    let start = done .before .before .before .before .before .before in (
+      search (block-ways, needs),
+      done .do-instr .kept .1 .1 .1 .1 .1 .1 .0 ∙ start .loop .inv .1,
+      done .do-instr .kept .1 .1 .1 .1 .1 .1 .1 .0 ∙ start .loop .inv .2,
+      done .do-instr .kept .1 .1 .1 .1 .1 .1 .1 .1 .0 ∙ start .loop .inv .3,
+    ))
     (λ c. search (block-ways, needs))
+    (λ c. search needs)
+    (λ c. search needs)
     (λ c. search needs)
     (λ c. search (block-ways, needs))) λ t. do-instr-lts.spec (do-instr-calls t) (do-instr-at t) do-instr.Post
     (λ c κs. (search instr-ways, search instr-ways))
     (λ c. search needs)
-    (λ c κs. (search needs, search (instr-ways, needs)))
+    (λ c κs.
+    let first = c .before .before .before in
+    let told = first .before .before in
+    let decided = told .before .before .before .before in
+    let entry = decided .before .before .before .before .before .before .before in
+    (search needs, doing-then (decided .decide .ensures) (told .step .given .1) (first .if1 .taken) (entry .pre .1)))
+    (λ c. search needs)
+    (λ c. search needs)
     (λ c. search needs)
     (λ c. search needs)
     (λ c. search needs)
     (λ c. search (instr-ways, needs))
     (λ c κs.
-    let inner = c .before .before .before .before .before in
+    let inner = c .before .before .before .before .before .before .before .before .before in
     let first = inner .before .before .before .before in
     let told = first .before .before in
-    let decided = told .before .before in
-    let entry = decided .before .before .before .before .before in
+    let decided = told .before .before .before .before in
+    let entry = decided .before .before .before .before .before .before .before in
     then-after (decided .decide .ensures) (told .step .given .1) (first .if1 .taken) (inner .do-block .ensures) (c .before .end .given .1)
     (entry .pre .1))
+    (λ c. search needs)
+    (λ c. search needs)
     (λ c. search needs)
     (λ c. search (instr-ways, needs))
     (λ c κs. search (instr-ways, needs))
@@ -105,19 +123,23 @@ pub +do-block+do-instr-spec : {M : Type 1} → statement M
     let counted = c .before .before .before in
     let first = counted .before in
     let told = first .before .before in
-    let decided = told .before .before in
-    let entry = decided .before .before .before .before .before in (
+    let decided = told .before .before .before .before in
+    let entry = decided .before .before .before .before .before .before .before in (
       search needs,
       doing-else (decided .decide .ensures) (told .step .given .1) (first .if1 .left) (counted .count-block2 .ensures) (entry .pre .1),
     ))
     (λ c. search needs)
+    (λ c. search needs)
+    (λ c. search needs)
     (λ c.
-    let inner = c .before .before in
+    let inner = c .before .before .before .before .before .before in
     let counted = inner .before .before .before .before in
     let first = counted .before in
     let told = first .before .before in
-    let decided = told .before .before in
+    let decided = told .before .before .before .before in
     does-else (decided .decide .ensures) (told .step .given .1) (first .if1 .left) (counted .count-block2 .ensures) (inner .do-block2 .ensures))
     (λ c κs. search (instr-ways, needs))
+    (λ c. search needs)
+    (λ c. search needs)
     (λ c. search needs)
     (λ c. search (instr-ways, needs))

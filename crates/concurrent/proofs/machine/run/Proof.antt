@@ -46,4 +46,4 @@ run-spec =
     let placed = begun .before .before .before .before in
     let labelled = placed .before .before in
     run-outcome (labelled .fill-labels .ensures) (placed .set-starts .ensures) (begun .begin .ensures) (ran .go .ensures)
-    (written .write-cells .ensures)))
+    (written .write-out .ensures)))

@@ -8,8 +8,8 @@ pub decide-read-spec : {M : Type 1} → statement M
 decide-read-spec =
     tie.close
     (tie.spec
-    (λ c. search (read-inside (c .before .pre .0), needs))
-    (λ c κs. search (read-inside (c .before .pre .0), needs))
+    (λ c. search (read-inside (c .before .before .before .pre .0), needs))
+    (λ c κs. search (read-inside (c .before .before .before .pre .0), needs))
     (λ c κs. search (read-ways, needs))
     (λ c κs. search needs)
     (λ c. search needs)
@@ -19,6 +19,6 @@ decide-read-spec =
     (λ c. search needs)
     (λ c. search needs)
     (λ c. search (read-ways, needs))
-    (λ c. search (read-inside (c .before .before .before .before .before .before .before .before .before .before .before .pre .0), needs))
-    (λ c κs. search (read-inside (c .before .before .before .before .before .before .before .before .before .before .before .pre .0), needs))
+    (λ c. search (read-inside (c .before .before .before .before .before .before .before .before .before .before .before .before .before .pre .0), needs))
+    (λ c κs. search (read-inside (c .before .before .before .before .before .before .before .before .before .before .before .before .before .pre .0), needs))
     (λ c. search (read-ways, needs)))

@@ -43,21 +43,21 @@ calls t = (
 
 -- the first operand, evaluated by either way
 first : (t : ℕ) (c : operation-lts.Joined1 (calls t) (operation-at t) operation.Post)
-    → let a = c .before .before .before .before .args in Evaluates (a .t .now) (a .locals .now) (a .base) (a .at + 1) (a .depth - 1) (c .if1 .a)
+    → let a = c .before .before .before .before .before .args in Evaluates (a .t .now) (a .locals .now) (a .base) (a .at + 1) (a .depth - 1) (c .if1 .a)
 first t c = ⊎-elim (λ w. rw (w .2) (as-leaf (w .0 .taken) (w .1 .ensures))) (λ w. rw (w .2) (w .1 .ensures)) (c .if1 .came)
 
 -- there is a second operand
 next : (t : ℕ) (c : operation-lts.Then2 (calls t) (operation-at t) operation.Post)
-    → let x = c .before .before .before in let a = x .before .before .before .before .args in
+    → let x = c .before .before .before in let a = x .before .before .before .before .before .args in
     Ready (a .t .now) (a .locals .now) (a .base) (x .if1 .a .next) (a .depth - 1)
 next t c =
     let x = c .before .before .before in
-    let h = x .before .before .before .before .pre .1 in
+    let h = x .before .before .before .before .before .pre .1 in
     right (h .0) (h .1) (c .before .before .row-of .ensures .0) (c .if2 .taken) (first t x)
 
 -- it is evaluated by either way too
 second : (t : ℕ) (c : operation-lts.Joined3 (calls t) (operation-at t) operation.Post)
-    → let x = c .before .before .before .before .before in let a = x .before .before .before .before .args in
+    → let x = c .before .before .before .before .before in let a = x .before .before .before .before .before .args in
     Evaluates (a .t .now) (a .locals .now) (a .base) (x .if1 .a .next) (a .depth - 1) (c .if3 .b)
 second t c = ⊎-elim (λ w. rw (w .2) (as-leaf (w .0 .taken) (w .1 .ensures))) (λ w. rw (w .2) (w .1 .ensures)) (c .if3 .came)
 
@@ -67,16 +67,16 @@ pub +operation-spec : {M : Type 1} → statement M
     operation.Post
     (λ c. search (eval-ways, needs))
     (λ c. search (eval-ways, needs))
-    (λ c. let h = c .before .before .before .pre .1 in inside (operand (h .0) (h .1)))
-    (λ c κs. let h = c .before .before .before .before .pre .1 in shallow (c .if1 .taken) (operand (h .0) (h .1)))
-    (λ c. deep (c .before .before .before .before .pre .1 .0))
-    (λ c κs. let h = c .before .before .before .before .pre in (omega (arith, deep (h .1 .0), h .0), (operand (h .1 .0) (h .1 .1), c .if1 .left)))
-    (λ c κs. let h = c .before .before .before .before .pre .1 in listed (h .0) (h .1))
+    (λ c. let h = c .before .before .before .before .pre .1 in inside (operand (h .0) (h .1)))
+    (λ c κs. let h = c .before .before .before .before .before .pre .1 in shallow (c .if1 .taken) (operand (h .0) (h .1)))
+    (λ c. deep (c .before .before .before .before .before .pre .1 .0))
+    (λ c κs. let h = c .before .before .before .before .before .pre in (omega (arith, deep (h .1 .0), h .0), (operand (h .1 .0) (h .1 .1), c .if1 .left)))
+    (λ c κs. let h = c .before .before .before .before .before .pre .1 in listed (h .0) (h .1))
     (λ c. inside (next t (c .before)))
     (λ c κs. shallow (c .if3 .taken) (next t (c .before .before)))
-    (λ c. deep (c .before .before .before .before .before .before .before .before .before .pre .1 .0))
+    (λ c. deep (c .before .before .before .before .before .before .before .before .before .before .pre .1 .0))
     (λ c κs.
-    let h = c .before .before .before .before .before .before .before .before .before .pre in
+    let h = c .before .before .before .before .before .before .before .before .before .before .pre in
     (omega (arith, deep (h .1 .0), h .0), (next t (c .before .before), c .if3 .left)))
     (λ c κs. search needs)
     (λ c κs. search needs)

@@ -22,7 +22,7 @@ leaf-spec =
     (λ c. search needs)
     (λ c. search needs)
     (λ c. search (leaf-ways, needs))
-    (λ c. omega (arith, c .shared-slice-known3 .given (c .before .before .before .before .args .at + 1)))
+    (λ c. omega (arith, c .shared-slice-known4 .given (c .before .before .before .before .before .args .at + 1)))
     (λ c κs. search (leaf-ways, needs))
     (λ c. search needs)
     (λ c. search (leaf-ways, needs))

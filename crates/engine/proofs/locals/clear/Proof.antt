@@ -24,4 +24,5 @@ clear-spec =
     (λ c. search needs)
     (λ c. search needs)
     (λ c. search (clear-ways, needs))
+    (λ c. search (clear-ways, needs))
     (λ c. search (clear-ways, needs)))
