@@ -12,6 +12,9 @@ static const uint8_t B[] = {0x20, 0, 0x02, 0, 0, 0x22, 1, 0, 0x01, 0, 0, 0, 0, 0
 
 static const uint8_t LOST[] = {0, 0, 1, 1, 0, 1, 0, 1};
 
+/* Thread 0 is finished after four entries; the fifth chooses it again. */
+static const uint8_t AGAIN[] = {0, 0, 0, 0, 0, 1};
+
 static int failures = 0;
 
 static void expect(const char *what, uint64_t got, uint64_t wanted)
@@ -80,6 +83,7 @@ static void runs(size_t length)
     expect("steps of B", answer[2], 8);
     expect("unused entries", answer[3], 0);
     expect("shared events", answer[4], 4);
+    expect("no reason", answer[5], ZARU_REASON_NONE);
     expect("a number", cells[0], 1);
     expect("the cell's end value: one share is lost", cells[1], 1);
     untouched("behind B's cell", cells, 5, sizeof cells);
@@ -94,9 +98,18 @@ static void runs(size_t length)
     expect("the copy's shared events", answer[4], 4);
     expect("the copy's cell", cells[1], 1);
     expect("equal events", (uint64_t)memcmp(events, other, sizeof events), 0);
+    zaru_run_concurrent(B, sizeof B, AGAIN, sizeof AGAIN, cells, 5, events, sizeof events, answer, ZARU_RUN_NUMBERS);
+    expect("blocked", answer[1], ZARU_BLOCKED);
+    expect("steps before it", answer[2], 4);
+    expect("a finished thread", answer[5], ZARU_REASON_FINISHED_THREAD);
+    zaru_run_sequential(copy, length, AGAIN, sizeof AGAIN, ZARU_BUDGET, 1, cells, sizeof cells, other, sizeof other, answer,
+                        ZARU_RUN_NUMBERS);
+    expect("the copy is blocked", answer[1], ZARU_BLOCKED);
+    expect("the copy's reason", answer[5], ZARU_REASON_FINISHED_THREAD);
     uint8_t late[] = {0, 2};
     zaru_run_concurrent(B, sizeof B, late, 2, cells, 5, events, sizeof events, answer, ZARU_RUN_NUMBERS);
     expect("an entry that names no thread", answer[0], 11);
+    expect("a refusal has no reason", answer[5], ZARU_REASON_NONE);
     zaru_run_concurrent(B, sizeof B, LOST, sizeof LOST, cells, 4, events, sizeof events, answer, ZARU_RUN_NUMBERS);
     expect("four bytes for a cell", answer[0], 12);
 }

@@ -19,8 +19,19 @@ extern "C" {
 /* Ends of a run. */
 enum { ZARU_FINISHED = 0, ZARU_USED_UP = 1, ZARU_BLOCKED = 2, ZARU_AT_BUDGET = 3 };
 
+/* Why a run blocked; 0 if it did not. Of several faults the first to be judged is told: operands from left to right, each with its
+ * kind, then the range of the result; a write's value, its index expression, its pointer, then the index against the size; a call's
+ * arguments in order. In an atomic block it is that of the first instruction inside that blocks. */
+enum {
+    ZARU_REASON_NONE = 0,
+    ZARU_REASON_OUTSIDE_RANGE = 1,   /* a number outside -2,147,483,648 to 2,147,483,647 */
+    ZARU_REASON_WRONG_KIND = 2,      /* a value of the wrong kind; a select's cell that is no number */
+    ZARU_REASON_INDEX_OUTSIDE = 3,   /* an index that is negative or not below the size; a select's entry outside its location */
+    ZARU_REASON_FINISHED_THREAD = 4  /* the entry names a finished thread; a select's cell that is 0 */
+};
+
 /* How many numbers the answers have. */
-enum { ZARU_READ_NUMBERS = 6, ZARU_TRANSLATE_NUMBERS = 2, ZARU_RUN_NUMBERS = 5 };
+enum { ZARU_READ_NUMBERS = 6, ZARU_TRANSLATE_NUMBERS = 2, ZARU_RUN_NUMBERS = 6 };
 
 /* The most steps that a translated program's copy may need, and the longest copy. */
 #define ZARU_BUDGET UINT64_C(140000000)
@@ -42,7 +53,7 @@ void zaru_read_sequential(const uint8_t *table, size_t table_length, uint64_t *a
 void zaru_translate(const uint8_t *table, size_t table_length, uint8_t *out, size_t out_length, uint64_t *answer,
                     size_t answer_length);
 
-/* answer: number, end, steps, unused entries, events (those not written included). An event has 11 bytes, a cell 5. */
+/* answer: number, end, steps, unused entries, events (those not written included), reason. An event has 11 bytes, a cell 5. */
 void zaru_run_concurrent(const uint8_t *table, size_t table_length, const uint8_t *schedule, size_t schedule_length,
                          uint8_t *cells, size_t cells_length, uint8_t *events, size_t events_length, uint64_t *answer,
                          size_t answer_length);

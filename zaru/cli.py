@@ -9,16 +9,18 @@ from dataclasses import dataclass
 from pathlib import Path
 from typing import Callable, Dict, List, Optional, Sequence, Tuple
 
-from zaru import arguments, asm, engine, refusals
+from zaru import arguments, asm, blocked, engine, refusals
 from zaru.accepted import READ_OPS, accepted_program
 from zaru.arguments import UsageError, Words
+from zaru.blocked import BUDGET
 from zaru.copy_names import copy_names
 from zaru.engine import Request
 from zaru.fault import Fault
 from zaru.names import Names, plain_names
+from zaru.reasons import REASONS
 from zaru.table import CONCURRENT, SEQUENTIAL, Program, decode
 from zaru.text import table_of, text_of
-from zaru.trace import BUDGET, LONGEST_ORDER, trace
+from zaru.trace import LONGEST_ORDER, trace
 from zaru.values import cell_lines
 
 DONE, REFUSED, WRONG_USE, NO_ENGINE, FAULT = 0, 1, 2, 3, 4
@@ -180,11 +182,13 @@ def command_run(words: Words) -> List[str]:
     source, schedule = table_and_order(words)
     program = accepted_program(CONCURRENT, source.table)
     # A table without a copy (9) is refused before its order is judged (11), as the run program does it.
-    engine.translate(source.table)
+    copy = engine.translate(source.table)
     request = Request(engine.RUN_CONCURRENT, source.table, schedule, cells=engine.CELL_ROOM)
     run = engine.run(request)
-    line = engine.run_line(source.table, schedule)
-    return [line] + cell_lines(run.cell_bytes, program.sizes, source.names_for(program).locations)
+    lines = [engine.run_line(source.table, schedule)]
+    if run.end == "blocked":
+        lines.append(blocked.why(program, copy, schedule, run))
+    return lines + cell_lines(run.cell_bytes, program.sizes, source.names_for(program).locations)
 
 
 def command_trace(words: Words) -> List[str]:
@@ -200,8 +204,10 @@ def command_copy(words: Words) -> List[str]:
     program = accepted_program(SEQUENTIAL, source.table)
     request = Request(engine.RUN_SEQUENTIAL, source.table, schedule, budget, h, cells=engine.CELL_ROOM)
     run = engine.run(request)
-    line = f"{run.end} {run.steps} {run.unused} {run.events}"
-    return [line] + cell_lines(run.cell_bytes, program.sizes, source.names_for(program).locations)
+    lines = [f"{run.end} {run.steps} {run.unused} {run.events} {run.reason}"]
+    if run.end == "blocked":
+        lines.append(f"blocked after {blocked.plural(run.steps, 'step')}: {REASONS[run.reason]}")
+    return lines + cell_lines(run.cell_bytes, program.sizes, source.names_for(program).locations)
 
 
 def command_show(words: Words) -> List[str]:
@@ -260,7 +266,9 @@ Writes the sequential copy of a concurrent table to the file COPY: its bytes or,
 Runs a concurrent table and its copy in this order of its threads (`0 0 1 1` or `0,0,1,1`).
 
 The first line is the run program's: the end (finished, used: the order has no entry left, or blocked), the program's
-steps, the copy's steps, the entries that were not used, the shared reads and writes. Then come the final cells.
+steps, the copy's steps, the entries that were not used, the shared reads and writes, and why it blocked: 1 outside the
+number range, 2 wrong kind, 3 index outside, 4 finished thread chosen, 0 not blocked. A blocked run has a second line,
+which says in words where it stopped and why. Then come the final cells.
 """,
     ),
     "trace": Command(
@@ -268,7 +276,8 @@ steps, the copy's steps, the entries that were not used, the shared reads and wr
         command_trace,
         f"""
 Prints a line for each step of a run: its thread, its label, the instruction, what it set and read and wrote, where a
-test or call led. The last line says how the run ended and, if it was blocked, at which instruction.
+test or call led. Then it says how the run ended and, if it was blocked, where and why. Of an instruction it names the
+parts that can block so: which of several it was is not known.
 An order has at most {LONGEST_ORDER} entries here.
 """,
     ),
@@ -279,7 +288,8 @@ An order has at most {LONGEST_ORDER} entries here.
 Runs a sequential table alone, in this order.
 
 The first line has the end (finished, used, blocked, or budget: as many steps as the budget allows), the steps, the
-entries that were not used and the events. Then come the final cells.
+entries that were not used, the events and why it blocked, by the numbers of `zaru run` (3 also for a select whose entry
+is outside, 2 and 4 for one whose cell is no number or 0). Then come the final cells.
 The budget is {BUDGET:,} steps unless it is given. Events of locations below h are counted; all, unless h is given.
 """,
         ("--budget", "--h"),

@@ -20,7 +20,7 @@ from zaru.built import newer_source
 READ_CONCURRENT, READ_SEQUENTIAL, TRANSLATE, RUN_CONCURRENT, RUN_SEQUENTIAL, RUN_LINE = range(1, 7)
 GREETING = 90
 # The version of requests and lines; crates/cases/src/main.rt has it too.
-VERSION = 1
+VERSION = 2
 
 HEADER = 36
 # What the program is ready for.
@@ -38,6 +38,7 @@ DEFAULT = ROOT / "target" / "bin" / PROGRAM
 BUILD = "`make zaru` builds it"
 
 ENDS = ("finished", "used", "blocked", "budget")
+LAST_REASON = 4
 
 
 class EngineError(Exception):
@@ -104,6 +105,8 @@ class Run:
     steps: int
     unused: int
     events: int
+    # Why it blocked, 1 to 4; 0 if it did not.
+    reason: int
     cell_bytes: bytes
     event_bytes: bytes
 
@@ -210,10 +213,12 @@ def translate(table: bytes) -> bytes:
 
 def run_of(request: Request, answer: Answer) -> Run:
     accepted(answer)
-    end, steps, unused, events = (answer.number(place) for place in range(1, 5))
+    end, steps, unused, events, reason = (answer.number(place) for place in range(1, 6))
+    if not 0 <= end < len(ENDS) or not 0 <= reason <= LAST_REASON or (ENDS[end] == "blocked") != (reason != 0):
+        raise EngineError(f"{engine_path()} answered `{' '.join(answer.words)}`: {BUILD}")
     cells, rest = answer.lent[: request.cells], answer.lent[request.cells :]
     written = rest[: 11 * min(events, request.events // 11)]
-    return Run(ENDS[end], steps, unused, events, cells, written)
+    return Run(ENDS[end], steps, unused, events, reason, cells, written)
 
 
 def run(request: Request) -> Run:

@@ -13,6 +13,7 @@ from typing import List, Sequence, Tuple
 
 from zaru import engine
 from zaru import table as t
+from zaru.blocked import BUDGET, plural, sentence
 from zaru.engine import Request, Run
 from zaru.follow import Follower
 from zaru.labels import Spot, spots
@@ -21,7 +22,6 @@ from zaru.show import Shower
 from zaru.state import State, state_of
 from zaru.values import Event, events_of, value_text
 
-BUDGET = 140_000_000
 LONGEST_ORDER = 512
 # The widest instruction that is printed whole.
 WIDEST = 40
@@ -32,6 +32,7 @@ class Steps:
     """What the proved program says of a run: the states around its steps, and the events up to each state."""
 
     run: Run
+    copy: bytes
     states: Tuple[State, ...]
     event_counts: Tuple[int, ...]
 
@@ -51,13 +52,14 @@ def steps_of(program: t.Program, table: bytes, schedule: bytes) -> Steps:
     answers = engine.ask(ours + theirs)
     runs = [engine.run_of(request, answer) for request, answer in zip(ours + theirs, answers)]
     states = tuple(state_of(program, one.cell_bytes) for one in runs[len(prefixes) :])
-    return Steps(run, states, tuple(one.events for one in runs[: len(prefixes)]))
+    return Steps(run, copy, states, tuple(one.events for one in runs[: len(prefixes)]))
 
 
 class Teller:
     """Tells the steps of a run in words."""
 
     def __init__(self, program: t.Program, names: Names, steps: Steps, schedule: bytes) -> None:
+        self.program = program
         self.names = names
         self.steps = steps
         self.schedule = schedule
@@ -73,7 +75,7 @@ class Teller:
             f"{number:>4}  {thread:>6}  {label:>5}  {text:<{width}}  {did}".rstrip()
             for number, thread, label, text, did in rows
         ]
-        return heading + lines + [self.ending()]
+        return heading + lines + self.ending()
 
     def row(self, number: int) -> Tuple[int, int, int, str, str]:
         """The step from state `number` to the next; the rows before it have been told."""
@@ -131,29 +133,23 @@ class Teller:
         written = self.events[first:last]
         return written, last - first - len(written)
 
-    def ending(self) -> str:
+    def ending(self) -> List[str]:
         run = self.steps.run
-        count = f"after {plural(run.steps, 'step')}"
+        count, unused = f"after {plural(run.steps, 'step')}", f"{plural(run.unused, 'entry', 'entries')} unused"
         if run.end == "finished":
-            return f"finished {count}, {plural(run.unused, 'entry', 'entries')} unused"
+            return [f"finished {count}, {unused}"]
         if run.end == "used":
-            return f"used: the order ends {count}"
+            return [f"used: the order ends {count}"]
         thread = self.schedule[run.steps]
-        return f"blocked {count}, {plural(run.unused, 'entry', 'entries')} unused: {self.blocked_at(thread)}"
-
-    def blocked_at(self, thread: int) -> str:
         label = self.follower.labels[thread]
+        why = sentence(self.program, self.steps.copy, run, thread, label)
         if label == 0:
-            return f"thread {thread} is finished"
-        return f"thread {thread} at label {label}, {self.text(self.follower.spot(thread))}"
+            return [why, unused]
+        return [why, f"{unused}; not done: {self.text(self.follower.spot(thread))}"]
 
 
 def cut(text: str) -> str:
     return text if len(text) <= WIDEST else text[: WIDEST - 2] + ".."
-
-
-def plural(count: int, one: str, more: str = "") -> str:
-    return f"{count} {one if count == 1 else more or one + 's'}"
 
 
 def trace(program: t.Program, names: Names, table: bytes, schedule: bytes) -> List[str]:

@@ -19,7 +19,9 @@ pub const LINE: u8 = 6;
 pub const GREETING: u8 = 90;
 
 /// One more whenever a case or a line changes its form.
-pub const VERSION: u64 = 1;
+pub const VERSION: u64 = 2;
+
+const HEADER: usize = 36;
 
 /// The lengths that a program without a heap has to be ready for.
 pub const LONGEST_TABLE: usize = 66_000;
@@ -71,6 +73,28 @@ impl Case {
         bytes
     }
 
+    /// The first case of a batch, and what follows it; `None` at the end of the batch, where it is
+    /// cut off, or at an op that there is none of.
+    pub fn first_of(batch: &[u8]) -> Option<(Case, &[u8])> {
+        let (header, rest) = split(batch, HEADER)?;
+        let four = |at: usize| u32::from_le_bytes([0, 1, 2, 3].map(|i| header[at + i]));
+        let (table, rest) = split(rest, four(4) as usize)?;
+        let (schedule, rest) = split(rest, four(8) as usize)?;
+        let case = Case {
+            op: header[0],
+            shown: header[1] == 1,
+            table: table.to_vec(),
+            schedule: schedule.to_vec(),
+            budget: u64::from(four(12)) + (u64::from(four(16)) << 32),
+            h: four(20),
+            cells: four(24),
+            events: four(28),
+            out: four(32),
+        };
+        let is_known = matches!(case.op, READ_CONCURRENT..=LINE | GREETING);
+        is_known.then_some((case, rest))
+    }
+
     /// True if the case keeps to the lengths above.
     pub fn keeps_limits(&self) -> bool {
         self.table.len() <= LONGEST_TABLE
@@ -116,13 +140,14 @@ impl Case {
             )
         };
         let line = format!(
-            "{} {} {} {} {} {} {:016x} {:016x}",
+            "{} {} {} {} {} {} {} {:016x} {:016x}",
             self.op,
             answer.number,
             answer.end,
             answer.steps,
             answer.unused,
             answer.events,
+            answer.reason,
             fnv(&cells),
             fnv(&events)
         );
@@ -142,6 +167,11 @@ impl Case {
 /// The header that ends a batch.
 pub fn last_header() -> Vec<u8> {
     Case::default().bytes()
+}
+
+/// The first bytes, so many of them, and the others.
+fn split(bytes: &[u8], length: usize) -> Option<(&[u8], &[u8])> {
+    (length <= bytes.len()).then(|| bytes.split_at(length))
 }
 
 fn read_line(op: u8, answer: ReadAnswer) -> String {
@@ -205,6 +235,23 @@ mod tests {
         assert_eq!(last_header(), [0; 36]);
     }
 
+    #[test]
+    fn a_batch_is_read_again() {
+        let second = Case {
+            budget: 0x0102_0304_0506_0708,
+            shown: true,
+            ..case_of_a(RUN_CONCURRENT)
+        };
+        let batch = [case_of_a(GREETING).bytes(), second.bytes(), last_header()].concat();
+        let (first, rest) = Case::first_of(&batch).unwrap();
+        assert_eq!(first, case_of_a(GREETING));
+        let (again, rest) = Case::first_of(rest).unwrap();
+        assert_eq!(again, second);
+        assert_eq!(Case::first_of(rest), None);
+        assert_eq!(Case::first_of(&batch[..35]), None);
+        assert_eq!(Case::first_of(&batch[..37]), None);
+    }
+
     fn case_of_a(op: u8) -> Case {
         Case {
             op,
@@ -221,10 +268,16 @@ mod tests {
         assert_eq!(line(READ_CONCURRENT), "1 0 1 0 1 1 0");
         assert_eq!(line(READ_SEQUENTIAL), "2 1 0 0 0 0 0");
         assert_eq!(line(TRANSLATE), format!("3 10 0 {empty}"));
-        assert_eq!(line(RUN_CONCURRENT), format!("4 0 0 1 0 0 {empty} {empty}"));
-        assert_eq!(line(RUN_SEQUENTIAL), format!("5 1 0 0 0 0 {empty} {empty}"));
+        assert_eq!(
+            line(RUN_CONCURRENT),
+            format!("4 0 0 1 0 0 0 {empty} {empty}")
+        );
+        assert_eq!(
+            line(RUN_SEQUENTIAL),
+            format!("5 1 0 0 0 0 0 {empty} {empty}")
+        );
         assert_eq!(line(LINE), "6 refused 1");
-        assert_eq!(line(GREETING), "90 1");
+        assert_eq!(line(GREETING), "90 2");
     }
 
     #[test]

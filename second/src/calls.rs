@@ -2,7 +2,6 @@
 //!
 //! "A refusal returns its number and zeros and writes nothing."
 
-use crate::machine::End;
 use crate::program::{Kind, Program};
 use crate::record::{write_cells, Events, Run};
 use crate::verdict::verdict;
@@ -27,7 +26,7 @@ pub struct TranslateAnswer {
 }
 
 /// "A run answers 0 with its end, its steps, its unused entries and its events, those not written
-/// included."
+/// included." Last is the reason why it blocked, 0 if it did not.
 #[derive(Clone, Copy, PartialEq, Eq, Debug, Default)]
 pub struct RunAnswer {
     pub number: u8,
@@ -35,6 +34,7 @@ pub struct RunAnswer {
     pub steps: u64,
     pub unused: u64,
     pub events: u64,
+    pub reason: u8,
 }
 
 pub fn read_concurrent(table: &[u8]) -> ReadAnswer {
@@ -159,15 +159,12 @@ fn run_answer(run: Result<Run, u8>, cells: &mut [u8]) -> RunAnswer {
             write_cells(&run.heap, cells);
             RunAnswer {
                 number: 0,
-                end: end_number(run.end),
+                end: run.end.number(),
                 steps: run.steps,
                 unused: run.unused,
                 events: run.events,
+                reason: run.end.reason(),
             }
         }
     }
-}
-
-fn end_number(end: End) -> u8 {
-    end as u8
 }

@@ -2,6 +2,7 @@
 
 use crate::machine::{run_in_place, step, Effect, End, Event, Frame, Heap, Stack, Touch};
 use crate::program::{Block, Instruction, Program};
+use crate::reason::Reason;
 use crate::record::{Events, Run};
 
 /// The state of a concurrent program.
@@ -44,15 +45,16 @@ impl<'a> Concurrent<'a> {
         self.threads.iter().all(Vec::is_empty)
     }
 
-    /// One step of a thread, `None` where it blocks: "the state stays as before the step".
-    pub fn step(&mut self, thread: usize) -> Option<Step<'a>> {
-        let stack = self.threads.get_mut(thread)?;
-        let next = stack.last()?.next();
+    /// One step of a thread, or the reason why it blocks: "the state stays as before the step".
+    pub fn step(&mut self, thread: usize) -> Result<Step<'a>, Reason> {
+        let stack = self.threads.get_mut(thread);
+        let stack = stack.ok_or(Reason::FinishedThread)?;
+        let next = stack.last().ok_or(Reason::FinishedThread)?.next();
         if let Some(Instruction::Atomic { body }) = next {
             return self.atomic_step(thread, body);
         }
         let effect = step(self.program, stack, &mut self.heap)?;
-        Some(Step {
+        Ok(Step {
             done: next.map_or(Done::Return, Done::One),
             touches: match effect {
                 Effect::Silent => Vec::new(),
@@ -63,8 +65,9 @@ impl<'a> Concurrent<'a> {
 
     /// A "whole atomic block" is one step: it works on copies, which replace the state only when
     /// the block has come to its end.
-    fn atomic_step(&mut self, thread: usize, body: &'a Block) -> Option<Step<'a>> {
-        let frame = self.threads.get_mut(thread)?.last_mut()?;
+    fn atomic_step(&mut self, thread: usize, body: &'a Block) -> Result<Step<'a>, Reason> {
+        let frame = self.threads.get_mut(thread).and_then(|s| s.last_mut());
+        let frame = frame.ok_or(Reason::FinishedThread)?;
         let mut locals = frame.locals.clone();
         let mut heap = self.heap.clone();
         let mut done = Vec::new();
@@ -73,7 +76,7 @@ impl<'a> Concurrent<'a> {
         frame.locals = locals;
         frame.go_past();
         self.heap = heap;
-        Some(Step {
+        Ok(Step {
             done: Done::Atomic(done),
             touches,
         })
@@ -94,8 +97,9 @@ pub fn run(program: &Program, schedule: &[u8], events: &mut Events) -> Run {
         let Some(thread) = schedule.get(taken) else {
             break End::Used;
         };
-        let Some(step) = machine.step(usize::from(*thread)) else {
-            break End::Blocked;
+        let step = match machine.step(usize::from(*thread)) {
+            Ok(step) => step,
+            Err(reason) => break End::Blocked(reason),
         };
         taken += 1;
         for touch in step.touches {

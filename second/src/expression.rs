@@ -1,5 +1,6 @@
 //! Expressions: trees, their values and their variables.
 
+use crate::reason::Reason;
 use crate::value::Value;
 use std::collections::BTreeSet;
 
@@ -33,20 +34,22 @@ pub enum Two {
 }
 
 impl Expression {
-    /// The value of an expression, `None` where it has none.
+    /// The value of an expression, or the reason why it has none.
     ///
     /// "An operator with an operand that has no value, or of the wrong kind, has none itself".
-    /// Both operands are always evaluated: "and (both sides are evaluated)".
-    pub fn value(&self, locals: &Locals) -> Option<Value> {
+    /// Both operands are always evaluated: "and (both sides are evaluated)". "The left operand, its
+    /// kind included, is judged before the right, and the range of the result last".
+    pub fn value(&self, locals: &Locals) -> Result<Value, Reason> {
         match self {
-            Expression::Constant(value) => Some(*value),
-            Expression::Local(x) => *locals.get(usize::from(*x))?,
+            Expression::Constant(value) => Ok(*value),
+            Expression::Local(x) => local(*x, locals),
             Expression::One(operator, operand) => {
                 let operand = operand.value(locals)?;
                 one(*operator, operand)
             }
             Expression::Two(operator, left, right) => {
                 let left = left.value(locals)?;
+                takes_on_its_left(*operator, left)?;
                 let right = right.value(locals)?;
                 two(*operator, left, right)
             }
@@ -77,33 +80,54 @@ impl Expression {
     }
 }
 
-fn one(operator: One, operand: Value) -> Option<Value> {
+/// A variable that is not set has no kind at all. Number 8 keeps it out of every run.
+pub fn local(x: u8, locals: &Locals) -> Result<Value, Reason> {
+    let value = locals.get(usize::from(x)).copied().flatten();
+    value.ok_or(Reason::WrongKind)
+}
+
+/// A result, `None` where it is outside the range: "a result outside the range is no value: nothing
+/// wraps and nothing is clamped".
+fn in_range(result: Option<i32>) -> Result<Value, Reason> {
+    result.map(Value::Whole).ok_or(Reason::OutOfRange)
+}
+
+fn one(operator: One, operand: Value) -> Result<Value, Reason> {
     match (operator, operand) {
-        (One::Not, Value::Truth(truth)) => Some(Value::Truth(!truth)),
-        (One::Negate, Value::Whole(number)) => number.checked_neg().map(Value::Whole),
-        _ => None,
+        (One::Not, Value::Truth(truth)) => Ok(Value::Truth(!truth)),
+        (One::Negate, Value::Whole(number)) => in_range(number.checked_neg()),
+        _ => Err(Reason::WrongKind),
     }
 }
 
-/// "a result outside the range is no value: nothing wraps and nothing is clamped".
-fn two(operator: Two, left: Value, right: Value) -> Option<Value> {
+/// The kind of the left operand, which is judged before the right one is looked at. Equal takes any.
+fn takes_on_its_left(operator: Two, left: Value) -> Result<(), Reason> {
+    match (operator, left) {
+        (Two::Add | Two::Subtract | Two::Multiply | Two::Less, Value::Whole(_)) => Ok(()),
+        (Two::And, Value::Truth(_)) => Ok(()),
+        (Two::Equal, _) => Ok(()),
+        _ => Err(Reason::WrongKind),
+    }
+}
+
+fn two(operator: Two, left: Value, right: Value) -> Result<Value, Reason> {
     match (operator, left, right) {
-        (Two::Add, Value::Whole(a), Value::Whole(b)) => a.checked_add(b).map(Value::Whole),
-        (Two::Subtract, Value::Whole(a), Value::Whole(b)) => a.checked_sub(b).map(Value::Whole),
-        (Two::Multiply, Value::Whole(a), Value::Whole(b)) => a.checked_mul(b).map(Value::Whole),
-        (Two::Less, Value::Whole(a), Value::Whole(b)) => Some(Value::Truth(a < b)),
+        (Two::Add, Value::Whole(a), Value::Whole(b)) => in_range(a.checked_add(b)),
+        (Two::Subtract, Value::Whole(a), Value::Whole(b)) => in_range(a.checked_sub(b)),
+        (Two::Multiply, Value::Whole(a), Value::Whole(b)) => in_range(a.checked_mul(b)),
+        (Two::Less, Value::Whole(a), Value::Whole(b)) => Ok(Value::Truth(a < b)),
         (Two::Equal, _, _) => equal(left, right),
-        (Two::And, Value::Truth(a), Value::Truth(b)) => Some(Value::Truth(a && b)),
-        _ => None,
+        (Two::And, Value::Truth(a), Value::Truth(b)) => Ok(Value::Truth(a && b)),
+        _ => Err(Reason::WrongKind),
     }
 }
 
 /// "equal (two of one kind)".
-fn equal(left: Value, right: Value) -> Option<Value> {
+fn equal(left: Value, right: Value) -> Result<Value, Reason> {
     match (left, right) {
-        (Value::Whole(a), Value::Whole(b)) => Some(Value::Truth(a == b)),
-        (Value::Location(a), Value::Location(b)) => Some(Value::Truth(a == b)),
-        (Value::Truth(a), Value::Truth(b)) => Some(Value::Truth(a == b)),
-        _ => None,
+        (Value::Whole(a), Value::Whole(b)) => Ok(Value::Truth(a == b)),
+        (Value::Location(a), Value::Location(b)) => Ok(Value::Truth(a == b)),
+        (Value::Truth(a), Value::Truth(b)) => Ok(Value::Truth(a == b)),
+        _ => Err(Reason::WrongKind),
     }
 }

@@ -14,6 +14,8 @@ pub mod machine;
 pub mod price;
 pub mod program;
 pub mod random;
+pub mod reason;
+pub mod reason_samples;
 pub mod record;
 pub mod rules;
 pub mod run_samples;

@@ -16,14 +16,15 @@ pub fn line(input: &[u8]) -> String {
         // "A refusal prints `refused N`."
         Err(number) => format!("refused {number}"),
         // "the program's end and steps, the copy's steps, the program's unused entries and shared
-        // events"
+        // events"; the reason is "a sixth field (0 when not blocked)"
         Ok((program, copy)) => format!(
-            "{} {} {} {} {}",
+            "{} {} {} {} {} {}",
             word(program.end),
             program.steps,
             copy.steps,
             program.unused,
-            program.events
+            program.events,
+            program.reason
         ),
     }
 }

@@ -3,17 +3,38 @@
 //! As in the report, a frame is a procedure, its locals and the code that remains to be done. The
 //! remaining code is held as rows of instructions, the innermost block's row last.
 
-use crate::expression::{Expression, Locals};
+use crate::expression::{local, Expression, Locals};
 use crate::program::{Block, Instruction, Program};
+use crate::reason::Reason;
 use crate::value::Value;
 
-/// How a run ends. The numbers are the ones the calls answer.
+/// How a run ends; a blocked one says why.
 #[derive(Clone, Copy, PartialEq, Eq, Debug)]
 pub enum End {
-    Finished = 0,
-    Used = 1,
-    Blocked = 2,
-    Budget = 3,
+    Finished,
+    Used,
+    Blocked(Reason),
+    Budget,
+}
+
+impl End {
+    /// The number that the calls answer.
+    pub fn number(self) -> u8 {
+        match self {
+            End::Finished => 0,
+            End::Used => 1,
+            End::Blocked(_) => 2,
+            End::Budget => 3,
+        }
+    }
+
+    /// The reason that the calls answer, "(0 when not blocked)".
+    pub fn reason(self) -> u8 {
+        match self {
+            End::Blocked(reason) => reason as u8,
+            End::Finished | End::Used | End::Budget => 0,
+        }
+    }
 }
 
 #[derive(Clone, Copy, PartialEq, Eq, Debug)]
@@ -157,20 +178,25 @@ pub enum Effect {
     Touched(Touch),
 }
 
-/// "One step is one assign, read, write, test, call, return". `None` is a step that blocks: "the
-/// state stays as before the step". Select and atomic belong to one machine each and block here.
-pub fn step<'a>(program: &'a Program, stack: &mut Stack<'a>, heap: &mut Heap) -> Option<Effect> {
-    let frame = stack.last_mut()?;
+/// "One step is one assign, read, write, test, call, return". A reason is a step that blocks: "the
+/// state stays as before the step". "Every caller of the evaluator passes the reason on". Select and
+/// atomic belong to one machine each, which does not come here with them.
+pub fn step<'a>(
+    program: &'a Program,
+    stack: &mut Stack<'a>,
+    heap: &mut Heap,
+) -> Result<Effect, Reason> {
+    let frame = stack.last_mut().ok_or(Reason::FinishedThread)?;
     let Some(instruction) = frame.next() else {
         stack.pop();
-        return Some(Effect::Silent);
+        return Ok(Effect::Silent);
     };
     match instruction {
         Instruction::Assign { target, value } => {
             let value = value.value(&frame.locals)?;
             frame.set(*target, value);
             frame.go_past();
-            Some(Effect::Silent)
+            Ok(Effect::Silent)
         }
         Instruction::Read {
             target,
@@ -180,7 +206,7 @@ pub fn step<'a>(program: &'a Program, stack: &mut Stack<'a>, heap: &mut Heap) ->
             let touch = read(heap, &frame.locals, *pointer, index)?;
             frame.set(*target, touch.value);
             frame.go_past();
-            Some(Effect::Touched(touch))
+            Ok(Effect::Touched(touch))
         }
         Instruction::Write {
             pointer,
@@ -189,7 +215,7 @@ pub fn step<'a>(program: &'a Program, stack: &mut Stack<'a>, heap: &mut Heap) ->
         } => {
             let touch = write(heap, &frame.locals, *pointer, index, value)?;
             frame.go_past();
-            Some(Effect::Touched(touch))
+            Ok(Effect::Touched(touch))
         }
         Instruction::While { test, body } => {
             if truth(test, &frame.locals)? {
@@ -197,7 +223,7 @@ pub fn step<'a>(program: &'a Program, stack: &mut Stack<'a>, heap: &mut Heap) ->
             } else {
                 frame.go_past();
             }
-            Some(Effect::Silent)
+            Ok(Effect::Silent)
         }
         Instruction::If {
             test,
@@ -211,31 +237,32 @@ pub fn step<'a>(program: &'a Program, stack: &mut Stack<'a>, heap: &mut Heap) ->
             };
             frame.go_past();
             frame.go_into(branch);
-            Some(Effect::Silent)
+            Ok(Effect::Silent)
         }
         Instruction::Call {
             procedure,
             arguments,
         } => {
+            // "a call judges its arguments in order"
             let values = arguments.iter().map(|e| e.value(&frame.locals));
-            let values: Vec<Value> = values.collect::<Option<_>>()?;
+            let values: Vec<Value> = values.collect::<Result<_, _>>()?;
             frame.go_past();
             stack.push(Frame::enter(program, usize::from(*procedure), &values));
-            Some(Effect::Silent)
+            Ok(Effect::Silent)
         }
-        Instruction::Atomic { .. } | Instruction::Select { .. } => None,
+        Instruction::Atomic { .. } | Instruction::Select { .. } => Err(Reason::WrongKind),
     }
 }
 
 /// Runs the block of an atomic instruction to its end. It pushes each instruction done and each
-/// touch. `None` where an inner step blocks; locals and heap may have changed then.
+/// touch. The first inner step that blocks gives its reason; locals and heap may have changed then.
 pub fn run_in_place<'a>(
     block: &'a Block,
     locals: &mut [Option<Value>],
     heap: &mut Heap,
     done: &mut Vec<&'a Instruction>,
     touches: &mut Vec<Touch>,
-) -> Option<()> {
+) -> Result<(), Reason> {
     for instruction in block {
         done.push(instruction);
         match instruction {
@@ -270,38 +297,42 @@ pub fn run_in_place<'a>(
                 run_in_place(branch, locals, heap, done, touches)?;
             }
             // "within it no while, call or atomic" (number 4).
-            _ => return None,
+            _ => return Err(Reason::WrongKind),
         }
     }
-    Some(())
+    Ok(())
 }
 
-/// x := y[o], but for the change of x.
-fn read(heap: &Heap, locals: &Locals, pointer: u8, index: &Expression) -> Option<Touch> {
-    let index = cell_index(index, locals)?;
+/// x := y[o], but for the change of x. "a read does the same without a value".
+fn read(heap: &Heap, locals: &Locals, pointer: u8, index: &Expression) -> Result<Touch, Reason> {
+    let index = whole(index, locals)?;
     let location = location(pointer, locals)?;
-    let value = heap.get(location, usize::from(index))?;
-    Some(Touch {
+    let index = cell_index(index)?;
+    let value = heap.get(location, usize::from(index));
+    Ok(Touch {
         access: Access::Read,
         location,
         index,
-        value,
+        value: value.ok_or(Reason::IndexOutside)?,
     })
 }
 
-/// y[o] := e
+/// y[o] := e. "a write judges the value, then the index expression, then the pointer, then the
+/// index against the size".
 fn write(
     heap: &mut Heap,
     locals: &Locals,
     pointer: u8,
     index: &Expression,
     value: &Expression,
-) -> Option<Touch> {
+) -> Result<Touch, Reason> {
     let value = value.value(locals)?;
-    let index = cell_index(index, locals)?;
+    let index = whole(index, locals)?;
     let location = location(pointer, locals)?;
-    heap.set(location, usize::from(index), value)?;
-    Some(Touch {
+    let index = cell_index(index)?;
+    let written = heap.set(location, usize::from(index), value);
+    written.ok_or(Reason::IndexOutside)?;
+    Ok(Touch {
         access: Access::Write,
         location,
         index,
@@ -310,24 +341,30 @@ fn write(
 }
 
 /// The truth of a test; a number or a location is the wrong kind.
-fn truth(test: &Expression, locals: &Locals) -> Option<bool> {
+fn truth(test: &Expression, locals: &Locals) -> Result<bool, Reason> {
     match test.value(locals)? {
-        Value::Truth(truth) => Some(truth),
-        Value::Whole(_) | Value::Location(_) => None,
+        Value::Truth(truth) => Ok(truth),
+        Value::Whole(_) | Value::Location(_) => Err(Reason::WrongKind),
     }
 }
 
-/// An index as a number of two bytes. No size is over 256, so a larger one is outside anyway.
-fn cell_index(index: &Expression, locals: &Locals) -> Option<u16> {
+/// The number of an index expression; a location or a truth value is the wrong kind.
+fn whole(index: &Expression, locals: &Locals) -> Result<i32, Reason> {
     match index.value(locals)? {
-        Value::Whole(index) => u16::try_from(index).ok(),
-        Value::Location(_) | Value::Truth(_) => None,
+        Value::Whole(index) => Ok(index),
+        Value::Location(_) | Value::Truth(_) => Err(Reason::WrongKind),
     }
 }
 
-fn location(pointer: u8, locals: &Locals) -> Option<u16> {
-    match (*locals.get(usize::from(pointer))?)? {
-        Value::Location(location) => Some(location),
-        Value::Whole(_) | Value::Truth(_) => None,
+/// An index as a number of two bytes. No size is over 256, so any other is outside, a negative one
+/// too.
+fn cell_index(index: i32) -> Result<u16, Reason> {
+    u16::try_from(index).map_err(|_| Reason::IndexOutside)
+}
+
+fn location(pointer: u8, locals: &Locals) -> Result<u16, Reason> {
+    match local(pointer, locals)? {
+        Value::Location(location) => Ok(location),
+        Value::Whole(_) | Value::Truth(_) => Err(Reason::WrongKind),
     }
 }

@@ -550,7 +550,7 @@ pub fn schedule_for(program: &Program, most: usize, random: &mut Random) -> Vec<
             false => random.pick(&going),
         };
         schedule.push(thread as u8);
-        if machine.step(thread).is_none() {
+        if machine.step(thread).is_err() {
             break;
         }
     }

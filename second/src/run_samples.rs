@@ -4,6 +4,7 @@ use crate::builder::*;
 use crate::calls::{translate, RunAnswer};
 use crate::machine::End;
 use crate::program::{Block, Kind, Program};
+use crate::reason::Reason::{self, *};
 use crate::samples::{b, one_thread, sequential, A};
 
 /// A run and its answer. Budget and h are for sequential runs.
@@ -46,10 +47,11 @@ impl Ran {
         Ran {
             answer: RunAnswer {
                 number: 0,
-                end: end as u8,
+                end: end.number(),
                 steps,
                 unused,
                 events,
+                reason: end.reason(),
             },
             ..self
         }
@@ -68,22 +70,30 @@ pub fn ran() -> Vec<Ran> {
     all
 }
 
-/// Bodies over 3 locals and one location of size 2 whose last step blocks, with the number of
-/// steps and of events before it.
-fn blocking_bodies() -> Vec<(&'static str, u64, u64, Block)> {
+/// Bodies over 3 locals and one location of size 2 whose last step blocks, with its reason and the
+/// number of steps and of events before it.
+fn blocking_bodies() -> Vec<(&'static str, Reason, u64, u64, Block)> {
     let most = || number(i32::MAX);
     let point = || assign(0, location(0));
     let nothing = || add(most(), number(1));
     vec![
-        ("assign: sum too large", 0, 0, vec![assign(0, nothing())]),
+        (
+            "assign: sum too large",
+            OutOfRange,
+            0,
+            0,
+            vec![assign(0, nothing())],
+        ),
         (
             "assign: negate of the least number",
+            OutOfRange,
             0,
             0,
             vec![assign(0, negate(number(i32::MIN)))],
         ),
         (
             "assign: product too large",
+            OutOfRange,
             1,
             0,
             vec![
@@ -93,96 +103,112 @@ fn blocking_bodies() -> Vec<(&'static str, u64, u64, Block)> {
         ),
         (
             "assign: not of a number",
+            WrongKind,
             0,
             0,
             vec![assign(0, not(number(1)))],
         ),
         (
             "assign: less of truths",
+            WrongKind,
             0,
             0,
             vec![assign(0, less(truth(false), truth(true)))],
         ),
         (
             "assign: equal of two kinds",
+            WrongKind,
             0,
             0,
             vec![assign(0, equal(number(0), truth(false)))],
         ),
         (
             "assign: right side of and",
+            WrongKind,
             0,
             0,
             vec![assign(0, and(truth(false), number(1)))],
         ),
         (
             "assign: location plus number",
+            WrongKind,
             0,
             0,
             vec![assign(0, add(location(0), number(1)))],
         ),
         (
             "read: index is the size",
+            IndexOutside,
             1,
             0,
             vec![point(), read(1, 0, number(2))],
         ),
         (
             "read: index below 0",
+            IndexOutside,
             1,
             0,
             vec![point(), read(1, 0, number(-1))],
         ),
         (
             "read: index 65,536",
+            IndexOutside,
             1,
             0,
             vec![point(), read(1, 0, number(65_536))],
         ),
         (
             "read: index is a truth value",
+            WrongKind,
             1,
             0,
             vec![point(), read(1, 0, truth(false))],
         ),
         (
             "read: index has no value",
+            OutOfRange,
             1,
             0,
             vec![point(), read(1, 0, nothing())],
         ),
         (
             "read: pointer is a number",
+            WrongKind,
             1,
             0,
             vec![assign(0, number(0)), read(1, 0, number(0))],
         ),
         (
             "write: index is the size",
+            IndexOutside,
             1,
             0,
             vec![point(), write(0, number(2), number(1))],
         ),
         (
             "write: index below 0",
+            IndexOutside,
             1,
             0,
             vec![point(), write(0, number(-1), number(1))],
         ),
         (
             "write: index is a location",
+            WrongKind,
             1,
             0,
             vec![point(), write(0, location(0), number(1))],
         ),
         (
             "write: pointer is a truth value",
+            WrongKind,
             1,
             0,
             vec![assign(0, truth(true)), write(0, number(0), number(1))],
         ),
         (
             "write: value has no value",
+            OutOfRange,
             3,
             1,
             vec![
@@ -194,24 +220,28 @@ fn blocking_bodies() -> Vec<(&'static str, u64, u64, Block)> {
         ),
         (
             "if: test is a number",
+            WrongKind,
             0,
             0,
             vec![if_else(number(1), vec![], vec![])],
         ),
         (
             "if: test has no value",
+            OutOfRange,
             0,
             0,
             vec![if_else(equal(nothing(), number(1)), vec![], vec![])],
         ),
         (
             "while: test is a location",
+            WrongKind,
             0,
             0,
             vec![while_do(location(0), vec![])],
         ),
         (
             "while: test turns into a number",
+            WrongKind,
             3,
             0,
             vec![
@@ -221,6 +251,7 @@ fn blocking_bodies() -> Vec<(&'static str, u64, u64, Block)> {
         ),
         (
             "if: test is the number 0 of a cell",
+            WrongKind,
             2,
             1,
             vec![
@@ -231,6 +262,7 @@ fn blocking_bodies() -> Vec<(&'static str, u64, u64, Block)> {
         ),
         (
             "call: second argument has no value",
+            OutOfRange,
             0,
             0,
             vec![call(1, vec![number(1), nothing()])],
@@ -246,16 +278,13 @@ fn with_helper(body: Block, mains: &[u16]) -> Program {
 
 fn blocked_in_both() -> Vec<Ran> {
     let mut all = Vec::new();
-    for (name, steps, events, body) in blocking_bodies() {
+    for (name, reason, steps, events, body) in blocking_bodies() {
+        let blocked = End::Blocked(reason);
         let concurrent = with_helper(body.clone(), &[0]);
-        all.push(Ran::new(name, &concurrent, &[0; 10]).gives(
-            End::Blocked,
-            steps,
-            10 - steps,
-            events,
-        ));
+        let ran = Ran::new(name, &concurrent, &[0; 10]);
+        all.push(ran.gives(blocked, steps, 10 - steps, events));
         let sequential = with_helper(body, &[]);
-        all.push(Ran::new(name, &sequential, &[0; 10]).gives(End::Blocked, steps, 10, events));
+        all.push(Ran::new(name, &sequential, &[0; 10]).gives(blocked, steps, 10, events));
     }
     all
 }
@@ -275,30 +304,44 @@ fn blocked_concurrent() -> Vec<Ran> {
             vec![point(), write(0, number(1), number(3)), atomic(inner)],
         )
     };
-    let blocked = |name, last| {
+    let blocked = |name, reason, last| {
         let program = spoil(last);
-        Ran::new(name, &program, &[0; 5]).gives(End::Blocked, 2, 3, 1)
+        Ran::new(name, &program, &[0; 5]).gives(End::Blocked(reason), 2, 3, 1)
     };
     vec![
-        blocked("atomic: assign blocks", assign(2, not(local(1)))),
-        blocked("atomic: read blocks", read(2, 0, local(1))),
-        blocked("atomic: write blocks", write(0, number(2), local(1))),
-        blocked("atomic: test blocks", if_else(local(1), vec![], vec![])),
+        blocked("atomic: assign blocks", WrongKind, assign(2, not(local(1)))),
+        blocked("atomic: read blocks", IndexOutside, read(2, 0, local(1))),
+        blocked(
+            "atomic: write blocks",
+            IndexOutside,
+            write(0, number(2), local(1)),
+        ),
+        blocked(
+            "atomic: test blocks",
+            WrongKind,
+            if_else(local(1), vec![], vec![]),
+        ),
         blocked(
             "atomic: a branch blocks",
+            WrongKind,
             if_else(
                 equal(local(1), number(7)),
                 vec![write(0, number(0), truth(true)), assign(0, not(number(1)))],
                 vec![],
             ),
         ),
-        Ran::new("a finished thread", &b(), &[1, 1, 1, 1, 1, 0]).gives(End::Blocked, 4, 2, 2),
+        Ran::new("a finished thread", &b(), &[1, 1, 1, 1, 1, 0]).gives(
+            End::Blocked(FinishedThread),
+            4,
+            2,
+            2,
+        ),
         Ran::new(
             "a finished thread at once",
             &with_helper(vec![], &[0, 0]),
             &[0, 0, 1],
         )
-        .gives(End::Blocked, 1, 2, 0),
+        .gives(End::Blocked(FinishedThread), 1, 2, 0),
     ]
 }
 
@@ -382,9 +425,9 @@ fn selects() -> Vec<Ran> {
             vec![assign(0, location(0)), read(1, 0, number(0))],
         )
     };
-    let blocked = |name, program: &Program, schedule: &[u8], steps| {
-        let events = steps - 1;
-        Ran::new(name, program, schedule).gives(End::Blocked, steps, schedule.len() as u64, events)
+    let blocked = |name, reason, program: &Program, schedule: &[u8], steps| {
+        let (unused, events) = (schedule.len() as u64, steps - 1);
+        Ran::new(name, program, schedule).gives(End::Blocked(reason), steps, unused, events)
     };
     let truths = selecting(vec![put(1, truth(true))], vec![]);
     let places = selecting(vec![put(1, location(0))], vec![]);
@@ -408,11 +451,17 @@ fn selects() -> Vec<Ran> {
         Ran::new("select", &open(), &[0, 9]).gives(End::Finished, 7, 1, 3),
         Ran::new("select a negative number", &open(), &[2]).gives(End::Finished, 7, 0, 3),
         Ran::new("select without an entry", &open(), &[]).gives(End::Used, 3, 0, 2),
-        blocked("select a cell with 0", &open(), &[1, 0], 3),
-        blocked("select an index that is the size", &open(), &[3], 3),
-        blocked("select entry 255", &open(), &[255, 0, 0], 3),
-        blocked("select a truth value", &truths, &[1], 2),
-        blocked("select a location", &places, &[1], 2),
+        blocked("select a cell with 0", FinishedThread, &open(), &[1, 0], 3),
+        blocked(
+            "select an index that is the size",
+            IndexOutside,
+            &open(),
+            &[3],
+            3,
+        ),
+        blocked("select entry 255", IndexOutside, &open(), &[255, 0, 0], 3),
+        blocked("select a truth value", WrongKind, &truths, &[1], 2),
+        blocked("select a location", WrongKind, &places, &[1], 2),
         // Cell 0 is 1 when the third select takes entry 0.
         Ran::new("select into its own cells", &onto_itself, &[1, 1, 0]).gives(
             End::Finished,
@@ -421,7 +470,7 @@ fn selects() -> Vec<Ran> {
             2,
         ),
         Ran::new("select shuts its own door", &onto_itself, &[1, 0, 0]).gives(
-            End::Blocked,
+            End::Blocked(FinishedThread),
             5,
             1,
             2,
@@ -435,6 +484,7 @@ fn judged_in_order() -> Vec<Ran> {
     let empty = sequential(0, vec![]);
     let only_select = sequential(0, vec![select(0, 0)]);
     let blocks = sequential(1, vec![assign(0, not(number(1)))]);
+    let blocks_in_a_thread = one_thread(1, vec![assign(0, number(1)), assign(0, not(number(1)))]);
     vec![
         Ran::new("empty body, budget 0", &empty, &[1])
             .budget(0)
@@ -453,13 +503,25 @@ fn judged_in_order() -> Vec<Ran> {
             .gives(End::Budget, 0, 1, 0),
         Ran::new("select blocks, budget 1", &only_select, &[0])
             .budget(1)
-            .gives(End::Blocked, 0, 1, 0),
+            .gives(End::Blocked(FinishedThread), 0, 1, 0),
         Ran::new("assign blocks, budget 0", &blocks, &[])
             .budget(0)
             .gives(End::Budget, 0, 0, 0),
+        Ran::new(
+            "used up before a step that blocks",
+            &blocks_in_a_thread,
+            &[0],
+        )
+        .gives(End::Used, 1, 0, 0),
+        Ran::new("a step that blocks", &blocks_in_a_thread, &[0, 0]).gives(
+            End::Blocked(WrongKind),
+            1,
+            1,
+            0,
+        ),
         Ran::new("assign blocks, largest budget", &blocks, &[])
             .budget(u64::MAX)
-            .gives(End::Blocked, 0, 0, 0),
+            .gives(End::Blocked(WrongKind), 0, 0, 0),
     ]
 }
 
@@ -502,7 +564,7 @@ fn budgets() -> Vec<Ran> {
             .budget(6)
             .gives(End::Budget, 6, 0, 0),
         copy("copy of A, an entry left", &A, 0, &[0, 0]).gives(End::Finished, 24, 1, 0),
-        copy("copy of A, entry 1", &A, 0, &[1]).gives(End::Blocked, 6, 1, 0),
+        copy("copy of A, entry 1", &A, 0, &[1]).gives(End::Blocked(IndexOutside), 6, 1, 0),
         b("copy of B").gives(End::Finished, 198, 0, 4),
         b("copy of B, budget 198")
             .budget(198)

@@ -2,6 +2,7 @@
 
 use crate::machine::{step, Effect, End, Event, Frame, Heap, Stack};
 use crate::program::{Instruction, Program};
+use crate::reason::Reason;
 use crate::record::{Events, Run};
 use crate::value::Value;
 
@@ -64,8 +65,8 @@ impl<'a> Sequential<'a> {
             _ => step(self.program, &mut self.stack, &mut self.heap),
         };
         match effect {
-            None => Next::Ended(End::Blocked),
-            Some(effect) => {
+            Err(reason) => Next::Ended(End::Blocked(reason)),
+            Ok(effect) => {
                 self.steps += 1;
                 Next::Stepped(self.event(effect))
             }
@@ -73,17 +74,23 @@ impl<'a> Sequential<'a> {
     }
 
     /// "Select takes the next entry t and writes t into a[0], without an event, if b[t] exists and
-    /// is a number other than 0; else it blocks and takes none."
-    fn select(&mut self, a: u16, b: u16, entry: u8) -> Option<Effect> {
-        match self.heap.get(b, usize::from(entry))? {
-            Value::Whole(0) | Value::Location(_) | Value::Truth(_) => return None,
-            Value::Whole(_) => {}
+    /// is a number other than 0; else it blocks and takes none." "A sequential select whose entry
+    /// lies outside b gives 3, one whose cell isn't a number 2, one whose cell is 0 gives 4."
+    fn select(&mut self, a: u16, b: u16, entry: u8) -> Result<Effect, Reason> {
+        match self.heap.get(b, usize::from(entry)) {
+            None => return Err(Reason::IndexOutside),
+            Some(Value::Location(_) | Value::Truth(_)) => return Err(Reason::WrongKind),
+            Some(Value::Whole(0)) => return Err(Reason::FinishedThread),
+            Some(Value::Whole(_)) => {}
         }
-        self.heap.set(a, 0, Value::Whole(i32::from(entry)))?;
-        self.stack.last_mut()?.go_past();
+        // No size is 0, so there is an a[0].
+        let written = self.heap.set(a, 0, Value::Whole(i32::from(entry)));
+        written.ok_or(Reason::IndexOutside)?;
+        let frame = self.stack.last_mut().ok_or(Reason::FinishedThread)?;
+        frame.go_past();
         self.taken += 1;
         self.selected = entry;
-        Some(Effect::Silent)
+        Ok(Effect::Silent)
     }
 
     fn event(&self, effect: Effect) -> Option<Event> {

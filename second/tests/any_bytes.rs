@@ -26,6 +26,7 @@ fn give_to_all_calls(bytes: &[u8], schedule: &[u8]) -> bool {
     }
 
     let ran = run_concurrent(bytes, schedule, &mut cells, &mut events);
+    only_blocked_runs_have_a_reason(&ran);
     if concurrent.number != 0 {
         assert_eq!(ran.number, concurrent.number);
         assert_eq!(translated.number, concurrent.number);
@@ -36,6 +37,7 @@ fn give_to_all_calls(bytes: &[u8], schedule: &[u8]) -> bool {
 
     let (mut cells, mut events) = (vec![3; 45_000], vec![3; 500]);
     let ran = run_sequential(bytes, schedule, 2_000, 3, &mut cells, &mut events);
+    only_blocked_runs_have_a_reason(&ran);
     if ran.number != 0 {
         assert!(cells.iter().chain(&events).all(|byte| *byte == 3));
     }
@@ -45,6 +47,11 @@ fn give_to_all_calls(bytes: &[u8], schedule: &[u8]) -> bool {
         }
     }
     concurrent.number == 0 || sequential.number == 0
+}
+
+fn only_blocked_runs_have_a_reason(answer: &RunAnswer) {
+    assert_eq!(answer.end == 2, answer.reason != 0);
+    assert!(answer.reason <= 4);
 }
 
 #[test]

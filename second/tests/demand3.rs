@@ -11,6 +11,7 @@ use second::machine::{End, Event, Frame, Heap};
 use second::price;
 use second::program::{Instruction, Kind, Program};
 use second::random::{program_of, schedule_for, Random, Scale};
+use second::reason_samples::{self, blocks};
 use second::samples::{deepest, DEEPEST_STEPS};
 use second::sequential::{Next, Sequential};
 use second::translate::translate as translate_tree;
@@ -82,9 +83,12 @@ fn story_of_program(program: &Program, schedule: &[u8], table_length: u64) -> St
         };
         let before = machine.clone();
         check_rule_8(&machine.threads[usize::from(*thread)]);
-        let Some(step) = machine.step(usize::from(*thread)) else {
-            assert_eq!(before.heap, machine.heap, "a blocked step changed a cell");
-            break End::Blocked;
+        let step = match machine.step(usize::from(*thread)) {
+            Ok(step) => step,
+            Err(reason) => {
+                assert_eq!(before.heap, machine.heap, "a blocked step changed a cell");
+                break End::Blocked(reason);
+            }
         };
         let price = price::of_step(&step.done);
         assert!(
@@ -217,6 +221,7 @@ fn check(program: &Program, schedule: &[u8]) -> End {
     let story = story_of_program(program, schedule, table.len() as u64);
     let copy_story = story_of_copy(program, &copy, schedule);
     assert_eq!(story.moments, copy_story.moments);
+    // "demand 3 now includes equal reasons"
     assert_eq!(story.end, copy_story.end);
     let last = story.moments.last().unwrap();
     match story.end {
@@ -229,7 +234,7 @@ fn check(program: &Program, schedule: &[u8]) -> End {
             assert_eq!(story.events, copy_story.events);
         }
         // A block that is blocked inside may have been done in part by the copy.
-        End::Blocked => {
+        End::Blocked(_) => {
             assert!(copy_story.steps > last.steps);
             assert!(copy_story.events.starts_with(&story.events));
         }
@@ -246,7 +251,8 @@ fn check_calls(table: &[u8], copy: &[u8], schedule: &[u8], story: &Story, copy_s
     let mut cells = vec![0; 5 * read.cells as usize];
     let mut events = vec![0; 11 * story.events.len()];
     let run = run_concurrent(table, schedule, &mut cells, &mut events);
-    assert_eq!((run.number, run.end), (0, story.end as u8));
+    assert_eq!((run.number, run.end), (0, story.end.number()));
+    assert_eq!(run.reason, story.end.reason());
     assert_eq!(run.steps, story.steps);
     assert_eq!(run.steps + run.unused, schedule.len() as u64);
     assert_eq!(run.events, story.events.len() as u64);
@@ -256,10 +262,11 @@ fn check_calls(table: &[u8], copy: &[u8], schedule: &[u8], story: &Story, copy_s
     let h = read.locations as u32;
     let copy_run = run_sequential(copy, schedule, BUDGET, h, &mut copy_cells, &mut copy_events);
     assert_eq!((copy_run.number, copy_run.end), (0, run.end));
+    assert_eq!(copy_run.reason, run.reason);
     assert_eq!(copy_run.steps, copy_story.steps);
     assert_eq!(copy_run.events, copy_story.events.len() as u64);
     assert!(copy_events.starts_with(&events));
-    if story.end != End::Blocked {
+    if run.reason == 0 {
         assert!(copy_cells.starts_with(&cells));
         assert_eq!(copy_run.unused, run.unused);
     }
@@ -270,50 +277,81 @@ fn check_calls(table: &[u8], copy: &[u8], schedule: &[u8], story: &Story, copy_s
     let exact = copy_run.steps;
     let again = run_sequential(copy, schedule, exact, h, &mut copy_cells, &mut []);
     if story.end == End::Finished {
-        assert_eq!((again.end, again.steps), (End::Finished as u8, exact));
+        assert_eq!((again.end, again.steps), (End::Finished.number(), exact));
     } else {
-        assert_eq!((again.end, again.steps), (End::Budget as u8, exact));
+        assert_eq!((again.end, again.steps), (End::Budget.number(), exact));
     }
+    // At its budget a run has no reason, also where the next step would block.
+    assert_eq!(again.reason, 0);
     let again = run_sequential(copy, schedule, exact - 1, h, &mut copy_cells, &mut []);
-    assert_eq!((again.end, again.steps), (End::Budget as u8, exact - 1));
+    assert_eq!(
+        (again.end, again.steps, again.reason),
+        (End::Budget.number(), exact - 1, 0)
+    );
 }
 
-/// Random programs under random schedules. Answers how many ended in each way and how many tables
+/// How many runs ended in each way, how many by each reason (0: not blocked), and how many tables
 /// were refused.
-fn check_many(count: usize, scale: Scale, seed: u64, longest: usize) -> ([usize; 4], usize) {
+#[derive(Default, Debug)]
+struct Counts {
+    ends: [usize; 4],
+    reasons: [usize; 5],
+    refused: usize,
+}
+
+/// Random programs under random schedules.
+fn check_many(count: usize, scale: Scale, seed: u64, longest: usize) -> Counts {
     let mut random = Random::new(seed);
-    let mut ends = [0; 4];
-    let mut refused = 0;
+    let mut counts = Counts::default();
     for _ in 0..count {
         let made = program_of(Kind::Concurrent, scale, &mut random);
         let table = write::table(&made, Kind::Concurrent);
         match verdict(&table, Kind::Concurrent) {
-            Err(_) => refused += 1,
+            Err(_) => counts.refused += 1,
             Ok(program) => {
                 assert_eq!(program, made);
                 let schedule = schedule_for(&program, longest, &mut random);
-                ends[check(&program, &schedule) as usize] += 1;
+                let end = check(&program, &schedule);
+                counts.ends[usize::from(end.number())] += 1;
+                counts.reasons[usize::from(end.reason())] += 1;
             }
         }
     }
-    println!("{scale:?}: finished, used, blocked, budget {ends:?}; refused {refused}");
-    (ends, refused)
+    println!("{scale:?}: {counts:?}");
+    counts
 }
 
 #[test]
 fn demand_3_on_random_programs() {
-    let (ends, refused) = check_many(12_000, Scale::Small, 3, 150);
-    assert!(ends[0] > 5_000);
-    assert!(ends[1] > 1_000);
-    assert!(ends[2] > 1_000);
-    assert!(refused < 1_000);
+    let counts = check_many(12_000, Scale::Small, 3, 150);
+    assert!(counts.ends[0] > 5_000);
+    assert!(counts.ends[1] > 1_000);
+    assert!(counts.ends[2] > 1_000);
+    assert!(counts.reasons.iter().all(|count| *count > 200));
+    assert!(counts.refused < 1_000);
 }
 
 #[test]
 fn demand_3_on_large_random_programs() {
-    let (ends, refused) = check_many(200, Scale::Large, 4, 400);
-    assert!(ends[..3].iter().all(|count| *count > 20));
-    assert!(refused < 40);
+    let counts = check_many(200, Scale::Large, 4, 400);
+    assert!(counts.ends[..3].iter().all(|count| *count > 20));
+    assert!(counts.refused < 40);
+}
+
+/// Every instruction that blocks, also inside atomic blocks: the copy blocks by the same reason.
+#[test]
+fn demand_3_on_each_reason() {
+    for sample in blocks() {
+        let mut programs = vec![reason_samples::concurrent(&sample)];
+        if sample.may_be_in_atomic() {
+            programs.push(reason_samples::in_atomic(&sample));
+            programs.push(reason_samples::in_a_branch(&sample));
+        }
+        for program in programs {
+            let end = check(&program, &[0; 5]);
+            assert_eq!(end, End::Blocked(sample.reason), "{}", sample.name);
+        }
+    }
 }
 
 /// A longer hunt; takes some minutes.

@@ -189,7 +189,7 @@ fn long_inputs() {
     assert_eq!(bytes.len(), 20_482);
     // An atomic block of 5,451 assignments, then the return.
     let copy = 5 + (14 + 2 * 5_451 + 2) + (14 + 4) + 2;
-    assert_eq!(line(&bytes), format!("finished 2 {copy} 4094 0"));
+    assert_eq!(line(&bytes), format!("finished 2 {copy} 4094 0 0"));
     assert_eq!(line(&[bytes.clone(), vec![0]].concat()), "refused 2");
     assert_eq!(line(&vec![0; 20_482]), "refused 1");
     assert_eq!(line(&vec![0; 20_483]), "refused 2");
@@ -221,7 +221,7 @@ fn a_blocked_line() {
     let text = line(&input(&[0, 0, 0, 0, 0, 1], &table(&b())));
     // Four rounds, then the test; the select blocks.
     let copy = 8 + 4 * 18 + 4 + 7 + 7 + 4 + 1;
-    assert_eq!(text, format!("blocked 4 {copy} 2 2"));
+    assert_eq!(text, format!("blocked 4 {copy} 2 2 4"));
     // Inside an atomic block the copy does one write before it blocks; the program none.
     let program = one_thread(
         1,
@@ -236,5 +236,5 @@ fn a_blocked_line() {
     let text = line(&input(&[0, 0], &table(&program)));
     // Test, select, four, label 1's test and label 2's, the call, load and write, load.
     let copy = 5 + (3 + 2 + 10 + 4) + 1 + 1 + 4 + 2 + 1 + 3 + 2;
-    assert_eq!(text, format!("blocked 1 {copy} 1 0"));
+    assert_eq!(text, format!("blocked 1 {copy} 1 0 3"));
 }

@@ -11,8 +11,8 @@ use second::sequential::{Next, Sequential};
 use second::value::Value;
 use second::verdict::verdict;
 
-const FINISHED: u8 = End::Finished as u8;
-const USED: u8 = End::Used as u8;
+const FINISHED: End = End::Finished;
+const USED: End = End::Used;
 
 fn translation(table: &[u8]) -> Vec<u8> {
     let mut out = vec![0; 65_536];
@@ -36,13 +36,14 @@ fn run_copy(table: &[u8], schedule: &[u8]) -> RunAnswer {
     )
 }
 
-fn answer(end: u8, steps: u64, unused: u64, events: u64) -> RunAnswer {
+fn answer(end: End, steps: u64, unused: u64, events: u64) -> RunAnswer {
     RunAnswer {
         number: 0,
-        end,
+        end: end.number(),
         steps,
         unused,
         events,
+        reason: end.reason(),
     }
 }
 
@@ -123,7 +124,7 @@ fn a_runs() {
     let run = run_concurrent(&A, &[0], &mut [], &mut []);
     assert_eq!(run, answer(FINISHED, 1, 0, 0));
     assert_eq!(run_copy(&A, &[0]), answer(FINISHED, 24, 0, 0));
-    assert_eq!(line(&input(&[0], &A)), "finished 1 24 0 0");
+    assert_eq!(line(&input(&[0], &A)), "finished 1 24 0 0 0");
 }
 
 /// "A, schedule 0 0: finished, one entry unused."
@@ -132,7 +133,7 @@ fn a_leaves_an_entry_unused() {
     let run = run_concurrent(&A, &[0, 0], &mut [], &mut []);
     assert_eq!(run, answer(FINISHED, 1, 1, 0));
     assert_eq!(run_copy(&A, &[0, 0]), answer(FINISHED, 24, 1, 0));
-    assert_eq!(line(&input(&[0, 0], &A)), "finished 1 24 1 0");
+    assert_eq!(line(&input(&[0, 0], &A)), "finished 1 24 1 0 0");
 }
 
 #[test]
@@ -158,7 +159,7 @@ fn b_ends_with(schedule: &[u8], value: u8) {
     assert_eq!(run, answer(FINISHED, 8, 0, 4));
     assert_eq!(cells, [1, value, 0, 0, 0]);
     assert_eq!(run_copy(&table, schedule), answer(FINISHED, 198, 0, 4));
-    assert_eq!(line(&input(schedule, &table)), "finished 8 198 0 4");
+    assert_eq!(line(&input(schedule, &table)), "finished 8 198 0 4 0");
 }
 
 #[test]
@@ -177,7 +178,7 @@ fn b_with_an_empty_schedule() {
     let run = run_concurrent(&table, &[], &mut [0; 5], &mut []);
     assert_eq!(run, answer(USED, 0, 0, 0));
     assert_eq!(run_copy(&table, &[]), answer(USED, 9, 0, 0));
-    assert_eq!(line(&input(&[], &table)), "used 0 9 0 0");
+    assert_eq!(line(&input(&[], &table)), "used 0 9 0 0 0");
 }
 
 /// B's events under 0 0 1 1 0 1 0 1, byte for byte.
@@ -266,7 +267,7 @@ fn prices_of_each_instruction() {
 }
 
 fn value(expression: Expression) -> Option<Value> {
-    expression.value(&[])
+    expression.value(&[]).ok()
 }
 
 /// "2,147,483,647 + 1 and negate of -2,147,483,648 have no value; -2,147,483,648 itself has."
@@ -378,7 +379,7 @@ fn schedule_4096_and_4097() {
     let answer = run_sequential(&copy, &[0; 4_097], 1, 1, &mut [0; 1_000], &mut []);
     assert_eq!(answer.number, 11);
     let line_of = |length: usize| line(&input(&vec![0; length], &endless));
-    assert_eq!(line_of(4_096), format!("used 4096 {copy_steps} 0 0"));
+    assert_eq!(line_of(4_096), format!("used 4096 {copy_steps} 0 0 0"));
     assert_eq!(line_of(4_097), "refused 11");
 }
 

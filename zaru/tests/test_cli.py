@@ -17,6 +17,7 @@ import samples
 from zaru import cli
 from zaru import engine as engine_module
 from zaru import table as t
+from zaru.engine import Request
 from zaru.labels import spots
 from zaru.refusals import REFUSALS
 from zaru.show import show
@@ -131,21 +132,30 @@ class WrongEngine(Command):
         self.check(path, f"cannot be run: [Errno 13] Permission denied: '{path}'")
 
     def test_no_greeting(self) -> None:
-        for said in ("true", "echo 90", "echo 90 0", "echo 90 11", "echo 1 0 1 1 2 4 1"):
-            self.check_script(said, "does not greet with version 1: `make zaru` builds it")
+        for said in ("true", "echo 90", "echo 90 1", "echo 90 22", "echo 1 0 1 1 2 4 1"):
+            self.check_script(said, "does not greet with version 2: `make zaru` builds it")
 
     def test_no_answer(self) -> None:
-        self.check_script("echo 90 1", "did not answer call 1: `make zaru` builds it")
-        self.check_script("echo 90 1; echo 2 0 1 1 0 0 1", "did not answer call 1: `make zaru` builds it")
-        self.check_script("echo 90 1; echo 1 0 1 x", "answered `0 1 x`: `make zaru` builds it")
-        self.check_script("echo 90 1; echo 1", "answered ``: `make zaru` builds it")
+        self.check_script("echo 90 2", "did not answer call 1: `make zaru` builds it")
+        self.check_script("echo 90 2; echo 2 0 1 1 0 0 1", "did not answer call 1: `make zaru` builds it")
+        self.check_script("echo 90 2; echo 1 0 1 x", "answered `0 1 x`: `make zaru` builds it")
+        self.check_script("echo 90 2; echo 1", "answered ``: `make zaru` builds it")
+
+    def test_a_reason_that_does_not_fit(self) -> None:
+        """A reason without a blocked run, a blocked run without one, and numbers that there are none of."""
+        for numbers in ("0 0 8 0 4 1", "0 2 8 0 4 0", "0 2 8 0 4 5", "0 4 8 0 4 0", "0 1 8 0 4"):
+            answer = engine_module.Answer(numbers.split(), b"")
+            with self.assertRaises(engine_module.EngineError):
+                engine_module.run_of(Request(engine_module.RUN_CONCURRENT, samples.B), answer)
+        answer = engine_module.Answer("0 2 8 0 4 3".split(), b"")
+        self.assertEqual(engine_module.run_of(Request(engine_module.RUN_CONCURRENT, samples.B), answer).reason, 3)
 
     def test_more_than_an_answer(self) -> None:
-        lines = "echo 90 1; echo 1 0 1 1 2 4 1"
+        lines = "echo 90 2; echo 1 0 1 1 2 4 1"
         self.check_script(f"{lines}; echo", "answered more than it was asked: `make zaru` builds it")
 
     def test_bad_ends(self) -> None:
-        lines = "echo 90 1; echo 1 0 1 1 2 4 1"
+        lines = "echo 90 2; echo 1 0 1 1 2 4 1"
         self.check_script(f"{lines}; exit 7", "ended with status 7: `make zaru` builds it")
         self.check_script(f"{lines}; kill -SEGV $$", "was ended by signal SIGSEGV: `make zaru` builds it")
 
@@ -194,6 +204,18 @@ class Faults(Command):
             self.check(message, "trace", "b.zaru", "0", "0")
         with mock.patch("zaru.trace.spots", lambda program: spots(program)[1:]):
             self.check(f"{told} the next step has events that do not fit label 1", "trace", "b.zaru", "0", "0")
+
+    @samples.needs_engine
+    def test_a_blocked_instruction_that_is_taken_for_another(self) -> None:
+        text = "concurrent\nprocedure w()\nlocals v\nv := 2147483647\nv := v + 1\nv := v * 2\nend\nthread w\n"
+        self.file("sum.zaru", text.encode())
+        message = "a fault of zaru: label 2 is another instruction in the copy than in the text"
+        with mock.patch("zaru.blocked.spots", lambda program: spots(program)[1:]):
+            self.check(message, "run", "sum.zaru", "0", "0")
+            self.check(message, "trace", "sum.zaru", "0", "0")
+        message = "a fault of zaru: thread 0 is at label 2; the text has 1"
+        with mock.patch("zaru.blocked.spots", lambda program: spots(program)[:1]):
+            self.check(message, "run", "sum.zaru", "0", "0")
 
 
 class WithoutEngine(Command):
@@ -244,20 +266,30 @@ class WithEngine(Command):
         self.assertEqual(self.good("read", "s", "b.copy"), expected)
 
     def test_worked_runs(self) -> None:
-        self.assertEqual(self.good("run", "b.table", *"00110101"), "finished 8 198 0 4\nm0[0] = 1\n")
-        self.assertEqual(self.good("run", "b.zaru", "0,0,0,0", "1,1,1,1"), "finished 8 198 0 4\ncell[0] = 2\n")
-        self.assertEqual(self.good("run", "b.zaru"), "used 0 9 0 0\ncell[0] = 0\n")
-        self.assertEqual(self.good("run", "a.table", "0", "0"), "finished 1 24 1 0\n")
+        self.assertEqual(self.good("run", "b.table", *"00110101"), "finished 8 198 0 4 0\nm0[0] = 1\n")
+        self.assertEqual(self.good("run", "b.zaru", "0,0,0,0", "1,1,1,1"), "finished 8 198 0 4 0\ncell[0] = 2\n")
+        self.assertEqual(self.good("run", "b.zaru"), "used 0 9 0 0 0\ncell[0] = 0\n")
+        self.assertEqual(self.good("run", "a.table", "0", "0"), "finished 1 24 1 0 0\n")
+
+    def test_blocked_runs(self) -> None:
+        """The sentence stands between the line and the cells."""
+        lines = ["blocked 4 103 2 2 4", "blocked after 4 steps: thread 0 is finished", "cell[0] = 1"]
+        self.assertEqual(self.good("run", "b.zaru", *"000001").splitlines(), lines)
+        text = "concurrent\nprocedure w()\nlocals v\nv := 2147483647\nv := v + 1\nend\nthread w\n"
+        self.file("sum.zaru", text.encode())
+        sentence = "blocked after 1 step: thread 0 at label 2: the sum is outside the number range"
+        self.assertEqual(self.good("run", "sum.zaru", *"000").splitlines()[1:], [sentence])
 
     def test_translate_and_copy(self) -> None:
         self.assertEqual(self.good("translate", "a.table", "-o", "a.copy"), "a.copy: 173 bytes\n")
         self.assertEqual(self.good("translate", "b.zaru", "-o", "b.copy"), "b.copy: 419 bytes\n")
         self.assertEqual(len((self.folder / "b.copy").read_bytes()), 419)
         order = list("00110101")
-        self.assertEqual(self.good("copy", "b.copy", *order, "--h", "1").splitlines()[:2], ["finished 198 0 4", "m0[0] = 1"])
-        self.assertEqual(self.good("copy", "b.copy", *order, "--budget=5").split("\n")[0], "budget 5 8 3")
-        self.assertEqual(self.good("copy", "b.copy", "0", "7").split("\n")[0].split()[0], "blocked")
-        self.assertEqual(self.good("copy", "b.copy", "--h", "0").split("\n")[0], "used 9 0 0")
+        self.assertEqual(self.good("copy", "b.copy", *order, "--h", "1").splitlines()[:2], ["finished 198 0 4 0", "m0[0] = 1"])
+        self.assertEqual(self.good("copy", "b.copy", *order, "--budget=5").split("\n")[0], "budget 5 8 3 0")
+        lines = self.good("copy", "b.copy", "0", "7").splitlines()[:2]
+        self.assertEqual(lines, ["blocked 31 1 10 3", "blocked after 31 steps: index outside"])
+        self.assertEqual(self.good("copy", "b.copy", "--h", "0").split("\n")[0], "used 9 0 0 0")
 
     def test_the_text_of_a_copy(self) -> None:
         self.good("translate", "b.zaru", "-o", "b.copy")

@@ -33,7 +33,7 @@ class Checker(unittest.TestCase):
     def test_wrong_lines(self) -> None:
         status, lines = self.check("echo refused 1")
         self.assertEqual((status, len(lines)), (1, 4), lines)
-        self.assertEqual(lines[0], "an input of 28 bytes: printed 'refused 1\\n', not 'finished 1 24 0 0\\n'")
+        self.assertEqual(lines[0], "an input of 28 bytes: printed 'refused 1\\n', not 'finished 1 24 0 0 0\\n'")
         self.assertTrue(lines[3].endswith("; answered wrongly: 3"), lines[3])
 
     def test_no_program_or_a_bad_end(self) -> None:

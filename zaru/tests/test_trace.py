@@ -83,13 +83,15 @@ class Traces(unittest.TestCase):
         inner = ["v := 1", "if v = 1", "v := 2", "else", "v := 3", "v := 4", "end", "if true", "end", "v := -v - true"]
         lines = told(body("atomic", *inner, "end"), "0")
         text = "atomic: v := 1; if v = 1: v := 2 else: v := 3; v := 4 end; if true: end; v := -v - true end"
-        self.assertEqual(lines, [f"blocked after 0 steps, 1 entry unused: thread 0 at label 1, {text}"])
+        why = "blocked after 0 steps: thread 0 at label 1, inside the atomic block: an operand has the wrong kind"
+        self.assertEqual(lines, [why, f"1 entry unused; not done: {text}"])
 
     def test_blocked(self) -> None:
         lines = told(body("v := 2147483647", "v := v + 1"), "000")
-        self.assertEqual(lines[-1], "blocked after 1 step, 2 entries unused: thread 0 at label 2, v := v + 1")
+        why = "blocked after 1 step: thread 0 at label 2: the sum is outside the number range"
+        self.assertEqual(lines[-2:], [why, "2 entries unused; not done: v := v + 1"])
         lines = told(body(threads=2), "00")
-        self.assertEqual(lines[-1], "blocked after 1 step, 1 entry unused: thread 0 is finished")
+        self.assertEqual(lines[-2:], ["blocked after 1 step: thread 0 is finished", "1 entry unused"])
 
     def test_longest_order(self) -> None:
         lines = told(body("while true", "end", threads=2), "01" * 256)

@@ -36,5 +36,5 @@ copyAnswer t ts h = answerAs sequential (verdict sequential t) (λ p.
 -- the run program's figures, from the answers of the program's run and of its copy's
 unfoldable pub compared : RunAnswer → RunAnswer → Figures
 compared r s = pick (eqb (r .number) 0)
-    (record { number = 0; end = r .end; steps = r .steps; copy = s .steps; unused = r .unused; events = r .events })
+    (record { number = 0; end = r .end; steps = r .steps; copy = s .steps; unused = r .unused; events = r .events; reason = r .reason })
     (Told.refusal (r .number))

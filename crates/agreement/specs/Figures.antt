@@ -10,17 +10,26 @@ use Rattle.format.specs.Rules.{Verdict, refused, accepted, verdict, limits}
 use Rattle.translation.specs.Translate.{translate}
 use Rattle.semantics.specs.Threads as P
 use Rattle.semantics.specs.Copy as C
-use Rattle.semantics.specs.Calls.{endNumber, scheduled}
+use Rattle.semantics.specs.Calls.{endNumber, reasonOf, scheduled}
 use Rattle.agreement.specs.declared.Figures.{Figures}
 use Rattle.agreement.specs.Agreement.{programRun, copyRun, budget}
 
 -- "A refusal prints refused N"
 abbrev pub refusal : ℕ → Figures
-refusal n = record { number = n; end = 0; steps = 0; copy = 0; unused = 0; events = 0 }
+refusal n = record { number = n; end = 0; steps = 0; copy = 0; unused = 0; events = 0; reason = 0 }
 
--- "the program's end and steps, the copy's steps, the program's unused entries and shared events"
+-- "the program's end and steps, the copy's steps, the program's unused entries and shared events"; request #101: the program's reason, "0 when not
+-- blocked"
 abbrev pub figures : P.Ran → C.Ran → Figures
-figures r c = record { number = 0; end = endNumber (r .how); steps = r .steps; copy = c .steps; unused = r .unused; events = length (r .events) }
+figures r c = record {
+  number = 0;
+  end = endNumber (r .how);
+  steps = r .steps;
+  copy = c .steps;
+  unused = r .unused;
+  events = length (r .events);
+  reason = reasonOf (r .how);
+}
 
 -- of an accepted program: 9, then 11. "It lends buffers that are large enough and gives the copy demand 3's budget."
 abbrev pub figuresOf : Program Plain → List ℕ → Figures

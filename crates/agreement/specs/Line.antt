@@ -62,15 +62,16 @@ newline = 10 ∷ []
 abbrev pub refusedLine : ℕ → List ℕ
 refusedLine n = refusedWord ++ (spaced n ++ newline)
 
--- four numbers end a line
-unfoldable pub numbers : ℕ → ℕ → ℕ → ℕ → List ℕ
-numbers a b c d = spaced a ++ (spaced b ++ (spaced c ++ (spaced d ++ newline)))
+-- five numbers end a line
+unfoldable pub numbers : ℕ → ℕ → ℕ → ℕ → ℕ → List ℕ
+numbers a b c d e = spaced a ++ (spaced b ++ (spaced c ++ (spaced d ++ (spaced e ++ newline))))
 
--- "It prints one line: the program's end and steps, the copy's steps, the program's unused entries and shared events"
+-- "It prints one line: the program's end and steps, the copy's steps, the program's unused entries and shared events"; request #101, of
+-- the reason: "the printed line gets it as a sixth field (0 when not blocked)"
 unfoldable pub line : Figures → List ℕ
 line f =
     pick (eqb (f .number) 0)
-    (endWord (f .end) ++ numbers (f .steps) (f .copy) (f .unused) (f .events))
+    (endWord (f .end) ++ numbers (f .steps) (f .copy) (f .unused) (f .events) (f .reason))
     (refusedLine (f .number))
 
 -- ---- the input

@@ -7,7 +7,9 @@ use mathlib.Core.Bool.{true, false}
 use lib.ListN.{length, length-set}
 use types.Run.{OneOf, miss}
 use denote.Enum.Declared.{tagOf}
-use Rattle.value.specs.Maybe.{is, nothing}
+use Rattle.value.specs.Maybe.{is}
+use Rattle.value.specs.declared.Reason.{Reason}
+use Rattle.value.specs.declared.Reason.the-variants.{WrongKind}
 use Rattle.value.specs.declared.Value.{Value}
 use Rattle.decide.proofs.step.Step.{the-type}
 use Rattle.decide.specs.declared.step.Step.{Step}
@@ -25,7 +27,7 @@ use Rattle.engine.specs.Laws.Logging.{logged-more}
 use Rattle.atomic.specs.Laws.Threading.{beside-wide}
 
 -- an end is no block
-pub never-blocked : {G : Type 0} {j k : ℕ} → To j k ≡ Blocked → G
+pub never-blocked : {G : Type 0} {j k : ℕ} {q : Reason} → To j k ≡ Blocked q → G
 never-blocked e = let z : _≡_ {A = ℕ} 0 1 = cc in absurd (omega arith)
 
 module _ {fb : ℕ} {s : Step} {ls cs o : List ℕ} {n : ℕ} where
@@ -64,7 +66,7 @@ module _ {fb : ℕ} {s : Step} {ls cs o : List ℕ} {n : ℕ} where
           beside = beside-wide (beside-put p) (omega arith) (omega (arith, h .fits, w .small));
           few = omega arith;
         });
-    still = never-blocked;
+    still = λ q e. never-blocked e;
   })
 
   -- a read
@@ -88,7 +90,7 @@ module _ {fb : ℕ} {s : Step} {ls cs o : List ℕ} {n : ℕ} where
           beside = beside-wide (beside-put p) (omega arith) (omega (arith, h .fits, w .small));
           few = omega arith;
         });
-    still = never-blocked;
+    still = λ q e. never-blocked e;
   })
 
   -- a write
@@ -111,25 +113,29 @@ module _ {fb : ℕ} {s : Step} {ls cs o : List ℕ} {n : ℕ} where
           beside = beside-same;
           few = omega arith;
         });
-    still = never-blocked;
+    still = λ q e. never-blocked e;
   })
 
+-- a step that blocks
+pub carries-blocked : {thread fb : ℕ} {s : Step} {ls cs o : List ℕ} {n : ℕ} {q : Reason} → s ≡ S.Blocked q → Carries thread fb s ls cs o n ls cs o (Blocked q)
+carries-blocked {q = q} e = rw e (record { carries = λ w i l. stops q refl refl; still = λ q e. (refl, refl, refl) })
+
 -- no other step is carried out
-other-blocks : (thread fb : ℕ) (s : Step) (ls cs o : List ℕ) (n : ℕ) → OneOf (0 ∷ 4 ∷ 5 ∷ 6 ∷ 7 ∷ []) (tagOf the-type s)
-    → Carries thread fb s ls cs o n ls cs o Blocked
-other-blocks thread fb S.Return ls cs o n h = record { carries = λ w i l. stops refl refl; still = λ e. (refl, refl, refl) }
-other-blocks thread fb (S.Assign x v j) ls cs o n h = absurd (miss (0 ∷ 4 ∷ 5 ∷ 6 ∷ 7 ∷ []) 1 tt h)
-other-blocks thread fb (S.Read x l i v j) ls cs o n h = absurd (miss (0 ∷ 4 ∷ 5 ∷ 6 ∷ 7 ∷ []) 2 tt h)
-other-blocks thread fb (S.Write l i k v j) ls cs o n h = absurd (miss (0 ∷ 4 ∷ 5 ∷ 6 ∷ 7 ∷ []) 3 tt h)
-other-blocks thread fb (S.Test q j) ls cs o n h = record { carries = λ w i l. stops refl refl; still = λ e. (refl, refl, refl) }
-other-blocks thread fb (S.Call m j) ls cs o n h = record { carries = λ w i l. stops refl refl; still = λ e. (refl, refl, refl) }
-other-blocks thread fb (S.Select k u j) ls cs o n h = record { carries = λ w i l. stops refl refl; still = λ e. (refl, refl, refl) }
-other-blocks thread fb S.Blocked ls cs o n h = record { carries = λ w i l. stops refl refl; still = λ e. (refl, refl, refl) }
+other-blocks : (thread fb : ℕ) (s : Step) (ls cs o : List ℕ) (n : ℕ) → OneOf (0 ∷ 4 ∷ 5 ∷ 6 ∷ []) (tagOf the-type s)
+    → Carries thread fb s ls cs o n ls cs o (Blocked WrongKind)
+other-blocks thread fb S.Return ls cs o n h = record { carries = λ w i l. stops WrongKind refl refl; still = λ q e. (refl, refl, refl) }
+other-blocks thread fb (S.Assign x v j) ls cs o n h = absurd (miss (0 ∷ 4 ∷ 5 ∷ 6 ∷ []) 1 tt h)
+other-blocks thread fb (S.Read x l i v j) ls cs o n h = absurd (miss (0 ∷ 4 ∷ 5 ∷ 6 ∷ []) 2 tt h)
+other-blocks thread fb (S.Write l i k v j) ls cs o n h = absurd (miss (0 ∷ 4 ∷ 5 ∷ 6 ∷ []) 3 tt h)
+other-blocks thread fb (S.Test q j) ls cs o n h = record { carries = λ w i l. stops WrongKind refl refl; still = λ q e. (refl, refl, refl) }
+other-blocks thread fb (S.Call m j) ls cs o n h = record { carries = λ w i l. stops WrongKind refl refl; still = λ q e. (refl, refl, refl) }
+other-blocks thread fb (S.Select k u j) ls cs o n h = record { carries = λ w i l. stops WrongKind refl refl; still = λ q e. (refl, refl, refl) }
+other-blocks thread fb (S.Blocked q) ls cs o n h = absurd (miss (0 ∷ 4 ∷ 5 ∷ 6 ∷ []) 7 tt h)
 
 -- so it blocks
-pub carries-other : {thread fb : ℕ} {s : Step} {ls cs o : List ℕ} {n : ℕ} → OneOf (0 ∷ 4 ∷ 5 ∷ 6 ∷ 7 ∷ []) (tagOf the-type s)
-    → Carries thread fb s ls cs o n ls cs o Blocked
+pub carries-other : {thread fb : ℕ} {s : Step} {ls cs o : List ℕ} {n : ℕ} → OneOf (0 ∷ 4 ∷ 5 ∷ 6 ∷ []) (tagOf the-type s)
+    → Carries thread fb s ls cs o n ls cs o (Blocked WrongKind)
 carries-other {thread} {fb} {s} {ls} {cs} {o} {n} h = other-blocks thread fb s ls cs o n h
 
 -- one law for each way
-pub ruleset carry-ways = (assign-room, read-room, write-room, carries-assign, carries-read, carries-write, carries-other)
+pub ruleset carry-ways = (assign-room, read-room, write-room, carries-assign, carries-read, carries-write, carries-blocked, carries-other)

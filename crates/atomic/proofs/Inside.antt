@@ -7,14 +7,16 @@ use mathlib.Core.Bool.{Bool, true, false}
 use lib.ListN.{length}
 use types.Run.{OneOf, miss}
 use denote.Enum.Declared.{tagOf}
-use Rattle.value.specs.Maybe.{Maybe, is, nothing}
-use Rattle.value.specs.Laws.Maybes.{missing}
+use Rattle.value.specs.Try.{Try, has, lacks}
+use Rattle.value.specs.declared.Reason.{Reason}
+use Rattle.value.specs.Laws.Tries.{lacks-inj, lacking}
 use Rattle.format.specs.Syntax.{Instr, Block, Program}
 use Rattle.format.specs.Labels.{tag}
 use Rattle.labels.specs.Walks.{BlockIn, CountsBlock}
 use Rattle.labels.specs.declared.count.Counted.{Counted}
 use Rattle.format.specs.Laws.Grammar.{BlockAt, instr-inside, block-inside, block-deep}
 use Rattle.decide.proofs.step.Step.{the-type}
+use Rattle.atomic.proofs.block.Done.{the-type as done-type}
 use Rattle.decide.specs.declared.step.Step.{Step}
 use Rattle.decide.specs.declared.step.Step.the-variants as S
 use Rattle.atomic.specs.declared.block.Done.{Done}
@@ -41,11 +43,11 @@ beside-again p q = record {
   above = λ k m. q .above k m ∙ p .above k m;
 }
 
-module _ {fb : ℕ} {bs es ls ls₁ : List ℕ} {n X : ℕ} {ls′ cs′ o′ : List ℕ} {m : Maybe Atomic} {r : Done} where
+module _ {fb : ℕ} {bs es ls ls₁ : List ℕ} {n X : ℕ} {ls′ cs′ o′ : List ℕ} {m : Try Atomic} {r : Done} where
   -- over a part, from words of which those of the frame were others before
   wider : {i i₁ j : ℕ} → Beside ls ls₁ fb (fb + frameWords) → i ≤ i₁ → Went fb i₁ j bs es ls₁ n X ls′ cs′ o′ m r
       → Went fb i j bs es ls n X ls′ cs′ o′ m r
-  wider B h (stops e q) = stops e q
+  wider B h (stops x e q) = stops x e q
   wider B h (goes a k e q w) = goes a k e q (record {
     works = w .works;
     same = w .same;
@@ -54,43 +56,52 @@ module _ {fb : ℕ} {bs es ls ls₁ : List ℕ} {n X : ℕ} {ls′ cs′ o′ : 
   })
 
 -- what blocks, blocks anywhere
-pub none : {fb i j i₁ j₁ : ℕ} {bs es ls ls₁ : List ℕ} {n X : ℕ} {ls′ cs′ o′ ls″ cs″ o″ : List ℕ} {r : Done}
-    → Went fb i₁ j₁ bs es ls₁ n X ls″ cs″ o″ nothing r → Went fb i j bs es ls n X ls′ cs′ o′ nothing r
-none (stops e q) = stops e q
-none (goes a k e q w) = missing e
+pub none : {fb i j i₁ j₁ : ℕ} {bs es ls ls₁ : List ℕ} {n X : ℕ} {ls′ cs′ o′ ls″ cs″ o″ : List ℕ} {r : Done} {u : Reason}
+    → Went fb i₁ j₁ bs es ls₁ n X ls″ cs″ o″ (lacks u) r → Went fb i j bs es ls n X ls′ cs′ o′ (lacks u) r
+none (stops x e q) = stops x e q
+none (goes a k e q w) = lacking e
 
 -- and nothing else does
-pub blocks : {fb i j : ℕ} {bs es ls : List ℕ} {n X : ℕ} {ls′ cs′ o′ : List ℕ} {m : Maybe Atomic} {r : Done} → m ≡ nothing
-    → Went fb i j bs es ls n X ls′ cs′ o′ m r → r ≡ Blocked
-blocks e (stops f q) = q
-blocks e (goes a k f q w) = missing (sym e ∙ f)
+pub blocks : {fb i j : ℕ} {bs es ls : List ℕ} {n X : ℕ} {ls′ cs′ o′ : List ℕ} {m : Try Atomic} {r : Done} {u : Reason} → m ≡ lacks u
+    → Went fb i j bs es ls n X ls′ cs′ o′ m r → r ≡ Blocked u
+blocks e (stops x f q) = q ∙ ap Blocked (lacks-inj (sym f ∙ e))
+blocks e (goes a k f q w) = lacking (sym e ∙ f)
+
+-- it did not come to an end
+abbrev pub Stopped : Done → Type 0
+Stopped r = OneOf (1 ∷ []) (tagOf done-type r)
+
+-- so it blocked, for some reason
+pub blocked-by : (r : Done) → Stopped r → (u : Reason) × (r ≡ Blocked u)
+blocked-by (Blocked u) h = (u, refl)
+blocked-by (To j k) h = absurd (miss (1 ∷ []) 0 tt h)
 
 -- what it means to come to an end
-pub record Came (fb i j : ℕ) (bs es ls : List ℕ) (n X : ℕ) (ls′ cs′ o′ : List ℕ) (m : Maybe Atomic) (e k : ℕ) : Type 0 where
+pub record Came (fb i j : ℕ) (bs es ls : List ℕ) (n X : ℕ) (ls′ cs′ o′ : List ℕ) (m : Try Atomic) (e k : ℕ) : Type 0 where
   pub a : Atomic
-  pub is : m ≡ is a
+  pub is : m ≡ has a
   pub ends : e ≡ j
   pub worked : Worked fb i j bs es ls n X a ls′ cs′ o′ k
 
-module _ {fb i j : ℕ} {bs es ls : List ℕ} {n X : ℕ} {ls′ cs′ o′ : List ℕ} {m : Maybe Atomic} {r : Done} where
+module _ {fb i j : ℕ} {bs es ls : List ℕ} {n X : ℕ} {ls′ cs′ o′ : List ℕ} {m : Try Atomic} {r : Done} where
   -- it came to an end
   pub came : {e k : ℕ} → r ≡ To e k → Went fb i j bs es ls n X ls′ cs′ o′ m r → Came fb i j bs es ls n X ls′ cs′ o′ m e k
-  came q (stops e b) = never-blocked (sym q ∙ b)
+  came q (stops x e b) = never-blocked (sym q ∙ b)
   came {e} {k} q (goes a l x b w) =
       let end : e ≡ j = cc in
       let same : k ≡ l = cc in
       record { a = a; is = x; ends = end; worked = rw same w }
 
   -- it blocked
-  pub stopped : r ≡ Blocked → Went fb i j bs es ls n X ls′ cs′ o′ m r → m ≡ nothing
-  stopped q (stops e b) = e
+  pub stopped : {u : Reason} → r ≡ Blocked u → Went fb i j bs es ls n X ls′ cs′ o′ m r → m ≡ lacks u
+  stopped {u} q (stops x e b) = let same : x ≡ u = cc in e ∙ ap lacks same
   stopped q (goes a k e b w) = never-blocked (sym b ∙ q)
 
 -- something was done before
-pub before : {fb i j k e m n X : ℕ} {bs es ls ls₁ cs₁ o₁ ls′ cs′ o′ : List ℕ} {a : Atomic} {M : Maybe Atomic} {r : Done}
+pub before : {fb i j k e m n X : ℕ} {bs es ls ls₁ cs₁ o₁ ls′ cs′ o′ : List ℕ} {a : Atomic} {M : Try Atomic} {r : Done}
     → Worked fb i e bs es ls n X a ls₁ cs₁ o₁ m → k ≡ e → Went fb k j bs es ls₁ m (length (a .env)) ls′ cs′ o′ M r
     → Went fb i j bs es ls n X ls′ cs′ o′ M r
-before w q (stops e b) = stops e b
+before w q (stops x e b) = stops x e b
 before w q (goes a k e b v) = goes a k e b (record {
   works = v .works;
   same = v .same ∙ w .same;
@@ -116,7 +127,7 @@ ends thread a S.Return e w = none w
 ends thread a (S.Test q k) e w = none w
 ends thread a (S.Call m k) e w = none w
 ends thread a (S.Select c u k) e w = none w
-ends thread a S.Blocked e w = none w
+ends thread a (S.Blocked q) e w = none w
 
 -- it ends behind where it begins
 past : {i j : ℕ} (u : Step) → EndsAt u j → i < j → Past i u
@@ -127,7 +138,7 @@ past S.Return e l = tt
 past (S.Test q k) e l = tt
 past (S.Call m k) e l = tt
 past (S.Select c u k) e l = tt
-past S.Blocked e l = tt
+past (S.Blocked q) e l = tt
 
 -- all steps but a test
 abbrev NoTest : Step → Type 0
@@ -143,7 +154,7 @@ simple t i d p X m S.Return h f = f
 simple t i d p X m (S.Test q k) h f = absurd (miss (0 ∷ 1 ∷ 2 ∷ 3 ∷ 5 ∷ 6 ∷ 7 ∷ []) 4 tt h)
 simple t i d p X m (S.Call q k) h f = f
 simple t i d p X m (S.Select c u k) h f = f
-simple t i d p X m S.Blocked h f = f
+simple t i d p X m (S.Blocked q) h f = f
 
 -- a test that is known
 told : {u : Step} {q v : Bool} {k : ℕ} → u ≡ S.Test q k → q ≡ v → u ≡ S.Test v k
@@ -266,9 +277,13 @@ module _ {t : List ℕ} {thread fb : ℕ} {bs : List ℕ} {i d : ℕ} {ls cs o :
 
     -- the first block blocks
     pub does-then-blocked : {q : Bool} {k : ℕ} {ls′ cs′ o′ : List ℕ} {r : Done} → u ≡ S.Test q k → q ≡ true
-        → Does t thread fb bs k d ls₁ cs o n ls′ cs′ o′ r → r ≡ Blocked → DoesI t thread fb bs i d ls cs o n ls′ cs′ o′ Blocked
+        → Does t thread fb bs k d ls₁ cs o n ls′ cs′ o′ r → Stopped r → DoesI t thread fb bs i d ls cs o n ls′ cs′ o′ r
     unfolding doing-then
-    does-then-blocked e f D r = record { does = λ h. stops (branching (told e f) h .same ∙ stopped r (D .does (doing-then e f h))) refl }
+    does-then-blocked {r = r} e f D z = record {
+      does = λ h.
+          let b = blocked-by r z in
+          stops (b .0) (branching (told e f) h .same ∙ stopped (b .1) (D .does (doing-then e f h))) (b .1);
+    }
 
     -- the first block is done, and the second passed over
     pub does-then : {q : Bool} {k e m : ℕ} {ls′ cs′ o′ : List ℕ} {r : Done} {c : Counted} → u ≡ S.Test q k → q ≡ true

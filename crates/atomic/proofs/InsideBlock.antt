@@ -10,8 +10,9 @@ use lib.Dec.{eqb}
 use borrow.Author.Tests.{eqb-true, eqb-false}
 use types.Run.{OneOf, miss}
 use denote.Enum.Declared.{tagOf}
-use Rattle.value.specs.Maybe.{Maybe, is, nothing, _>>=_}
-use Rattle.value.specs.Laws.Maybes.{missing}
+use Rattle.value.specs.Try.{Try, has, lacks, _⟫_}
+use Rattle.value.specs.declared.Reason.{Reason}
+use Rattle.value.specs.Laws.Tries.{lacks-inj, lacking}
 use Rattle.value.specs.Laws.Tests.{by-test, both-passed}
 use Rattle.format.specs.Syntax.{Block}
 use Rattle.format.specs.Rules.{allowed, allowedI, named, namedI}
@@ -29,7 +30,7 @@ use Rattle.atomic.proofs.Carrying.{never-blocked}
 use Rattle.engine.specs.Laws.Work.{beside-same}
 use Rattle.engine.specs.Laws.Logging.{logged-none}
 use Rattle.atomic.specs.Laws.Acting.{later, act-later}
-use Rattle.atomic.proofs.Inside.{blocks, came, stopped, before}
+use Rattle.atomic.proofs.Inside.{Stopped, blocked-by, blocks, came, stopped, before}
 
 -- ---- a block
 
@@ -101,12 +102,13 @@ module _ {t : List ℕ} {thread fb : ℕ} {bs : List ℕ} {d : ℕ} where
           }
 
       -- the instruction blocks
-      pub does-stop : r ≡ Blocked → Does t thread fb bs i d ls cs o n ls₁ cs₁ o₁ Blocked
+      pub does-stop : Stopped r → Does t thread fb bs i d ls cs o n ls₁ cs₁ o₁ r
       unfolding doing-one
-      does-stop q = record {
+      does-stop s = record {
         does = λ h.
             let w : StepAt t i d (h .block) (h .j) = step-here (h .here) z in
-            stops (ap (λ b. act thread b (h .a)) (w .is) ∙ ap (λ m. m >>= act thread (w .rest)) (stopped q (E .does (doing-one z h)))) refl;
+            let b = blocked-by r s in
+            stops (b .0) (ap (λ b. act thread b (h .a)) (w .is) ∙ ap (λ m. m ⟫ act thread (w .rest)) (stopped (b .1) (E .does (doing-one z h)))) (b .1);
       }
 
       -- the rest is done
@@ -118,7 +120,7 @@ module _ {t : List ℕ} {thread fb : ℕ} {bs : List ℕ} {d : ℕ} where
             let w : StepAt t i d (h .block) (h .j) = step-here (h .here) z in
             let v = came q (E .does (doing-one z h)) in
             let same : act thread (h .block) (h .a) ≡ act thread (w .rest) (v .a) =
-            ap (λ b. act thread b (h .a)) (w .is) ∙ ap (λ m. m >>= act thread (w .rest)) (v .is)
+            ap (λ b. act thread b (h .a)) (w .is) ∙ ap (λ m. m ⟫ act thread (w .rest)) (v .is)
             in
             rw same (before (v .worked) (v .ends) (D .does (doing-rest q h)));
       }
@@ -167,9 +169,9 @@ module _ {t : List ℕ} {thread fb : ℕ} {bs : List ℕ} {d : ℕ} where
     going-less z E q = omega (arith, rest-less z E q (G .ready), block-inside (G .ready .here))
 
     -- it blocks
-    pub going-stop : {ls₁ cs₁ o₁ : List ℕ} {r : Done} → (getD t i 0 ≡ 0 → ⊥) → DoesI t thread fb bs i (d - 1) ls cs o n ls₁ cs₁ o₁ r → r ≡ Blocked
-        → Does t thread fb bs i₀ d ls₀ cs₀ o₀ n₀ ls₁ cs₁ o₁ Blocked
-    going-stop {ls₁} {cs₁} {o₁} z E q = G .back ls₁ cs₁ o₁ Blocked (does-stop z E q)
+    pub going-stop : {ls₁ cs₁ o₁ : List ℕ} {r : Done} → (getD t i 0 ≡ 0 → ⊥) → DoesI t thread fb bs i (d - 1) ls cs o n ls₁ cs₁ o₁ r → Stopped r
+        → Does t thread fb bs i₀ d ls₀ cs₀ o₀ n₀ ls₁ cs₁ o₁ r
+    going-stop {ls₁} {cs₁} {o₁} {r} z E q = G .back ls₁ cs₁ o₁ r (does-stop z E q)
 
     -- the block ends
     pub going-end : getD t i 0 ≡ 0 → Does t thread fb bs i₀ d ls₀ cs₀ o₀ n₀ ls cs o (To (i + 1) n)
@@ -185,24 +187,24 @@ abbrev Ended : Done → Type 0
 Ended r = OneOf (0 ∷ []) (tagOf done-type r)
 
 -- and so did not block
-not-blocked : {G : Type 0} (r : Done) → Ended r → r ≡ Blocked → G
+not-blocked : {G : Type 0} (r : Done) {u : Reason} → Ended r → r ≡ Blocked u → G
 not-blocked (To j k) h e = never-blocked e
-not-blocked Blocked h e = absurd (miss (0 ∷ []) 1 tt h)
+not-blocked (Blocked q) h e = absurd (miss (0 ∷ []) 1 tt h)
 
 -- before any event
 abbrev pub bare : Atomic → Atomic
 bare a = record { env = a .env; memory = a .memory; events = [] }
 
 -- the same with the events before
-pub same-later : (thread : ℕ) (b : Block ℕ) (a : Atomic) → act thread b a ≡ (act thread b (bare a) >>= λ r. is (later (a .events) r))
+pub same-later : (thread : ℕ) (b : Block ℕ) (a : Atomic) → act thread b a ≡ (act thread b (bare a) ⟫ λ r. has (later (a .events) r))
 same-later thread b a =
     let same : later (a .events) (bare a) ≡ a = ap (λ evs. record { env = a .env; memory = a .memory; events = evs }) (append-nil (a .events)) in
     ap (act thread b) (sym same) ∙ act-later thread (a .events) b (bare a)
 
 -- a chain that stops before its last link
-pub bind-none : {A B : Type 0} (m : Maybe A) (f : A → B) → (m >>= λ x. is (f x)) ≡ nothing → m ≡ nothing
-bind-none (is x) f e = missing (sym e)
-bind-none nothing f e = refl
+pub chain-none : {A B : Type 0} (m : Try A) (f : A → B) {u : Reason} → (m ⟫ λ x. has (f x)) ≡ lacks u → m ≡ lacks u
+chain-none (has x) f e = lacking (sym e)
+chain-none (lacks q) f e = ap lacks (lacks-inj e)
 
 -- the words of its frame are copied: none yet
 pub copies-none : {ls ws : List ℕ} {fb : ℕ} → Copies ls fb 0 ws
@@ -262,15 +264,16 @@ module _ {t : List ℕ} {thread fb : ℕ} {bs : List ℕ} {i d : ℕ} {ls cs o :
 
   module _ {e ls₁ cs₁ e₁ : List ℕ} {r₁ : Done} (T : Does t thread 0 bs i d ws cs e 0 ls₁ cs₁ e₁ r₁) where
     -- it blocked when it was tried
-    pub whole-blocked : r₁ ≡ Blocked → DoesWhole t thread fb bs i d ls cs o n ls cs o Blocked
+    pub whole-blocked : Stopped r₁ → DoesWhole t thread fb bs i d ls cs o n ls cs o r₁
     unfolding doing-tried
-    whole-blocked q = record {
+    whole-blocked z = record {
       does = record {
         does = λ h.
-            let none = stopped q (T .does (doing-tried e h)) in
-            stops (same-later thread (h .block) (h .a) ∙ ap (_>>= λ r. is (later (h .a .events) r)) none) refl;
+            let b = blocked-by r₁ z in
+            let none = stopped (b .1) (T .does (doing-tried e h)) in
+            stops (b .0) (same-later thread (h .block) (h .a) ∙ ap (_⟫ λ r. has (later (h .a .events) r)) none) (b .1);
       };
-      still = λ h b. (refl, refl, refl);
+      still = λ h x b. (refl, refl, refl);
     }
 
     -- it did not
@@ -279,7 +282,7 @@ module _ {t : List ℕ} {thread fb : ℕ} {bs : List ℕ} {i d : ℕ} {ls cs o :
     unfolding doing-tried
     whole-done q D = record {
       does = D;
-      still = λ h b.
-          let none = bind-none (act thread (h .block) (bare (h .a))) _ (sym (same-later thread (h .block) (h .a)) ∙ stopped b (D .does h)) in
+      still = λ h x b.
+          let none = chain-none (act thread (h .block) (bare (h .a))) _ (sym (same-later thread (h .block) (h .a)) ∙ stopped b (D .does h)) in
           not-blocked r₁ q (blocks none (T .does (doing-tried e h)));
     }

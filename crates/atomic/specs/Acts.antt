@@ -2,11 +2,12 @@
 use Prim.Native.Nat.{ℕ}
 use mathlib.Core.List.{List, [], _∷_, _++_}
 use mathlib.Core.Bool.{true, false}
-use Rattle.value.specs.Maybe.{Maybe, is, nothing, _>>=_}
-use Rattle.format.specs.Syntax.{Instr, assign, write, read, while, if, call, atomic, select, Block, end, step, concurrent}
+use Rattle.value.specs.Try.{Try, has, lacks, _⟫_}
+use Rattle.format.specs.Syntax.{local, Instr, assign, write, read, while, if, call, atomic, select, Block, end, step, concurrent}
 use Rattle.format.specs.Rules.{Here}
-use Rattle.semantics.specs.Memory.{lookup, bound, eval, index, cell, stored, reading, writing}
-use Rattle.value.specs.Values.{place, truth}
+use Rattle.semantics.specs.Memory.{bound, eval, index, cell, stored, reading, writing}
+use Rattle.value.specs.Values.{number, place, truth}
+use Rattle.value.specs.declared.Reason.the-variants.{WrongKind}
 use Rattle.semantics.specs.Threads.{Atomic}
 
 -- inside an atomic block of procedure m
@@ -17,36 +18,38 @@ within m = record { kind = concurrent; proc = m; inside = true }
 module _ (t : ℕ) where
   abbrev mutual
     -- an instruction
-    pub actI : Instr ℕ → Atomic → Maybe Atomic
+    pub actI : Instr ℕ → Atomic → Try Atomic
     actI (assign x e) a =
-        eval (a .env) e >>= λ v.
-        is (record { env = bound (a .env) x v; memory = a .memory; events = a .events })
+        eval (a .env) e ⟫ λ v.
+        has (record { env = bound (a .env) x v; memory = a .memory; events = a .events })
     actI (write y o e) a =
-        eval (a .env) e >>= λ v.
-        eval (a .env) o >>= index >>= λ i.
-        lookup (a .env) y >>= place >>= λ l.
-        cell (a .memory) l i >>= λ _.
-        is (record {
+        eval (a .env) e ⟫ λ v.
+        eval (a .env) o ⟫ number ⟫ λ z.
+        eval (a .env) (local y) ⟫ place ⟫ λ l.
+        index z ⟫ λ i.
+        cell (a .memory) l i ⟫ λ _.
+        has (record {
           env = a .env;
           memory = stored (a .memory) l i v;
           events = a .events ++ (record { thread = t; way = writing; place = l; index = i; value = v } ∷ []);
         })
     actI (read x y o) a =
-        eval (a .env) o >>= index >>= λ i.
-        lookup (a .env) y >>= place >>= λ l.
-        cell (a .memory) l i >>= λ v.
-        is (record {
+        eval (a .env) o ⟫ number ⟫ λ z.
+        eval (a .env) (local y) ⟫ place ⟫ λ l.
+        index z ⟫ λ i.
+        cell (a .memory) l i ⟫ λ v.
+        has (record {
           env = bound (a .env) x v;
           memory = a .memory;
           events = a .events ++ (record { thread = t; way = reading; place = l; index = i; value = v } ∷ []);
         })
-    actI (if e b d) a = eval (a .env) e >>= truth >>= λ q. elim q [ true ↦ act b a | false ↦ act d a ]
-    actI (while e b) a = nothing
-    actI (call m es) a = nothing
-    actI (atomic b) a = nothing
-    actI (select x y) a = nothing
+    actI (if e b d) a = eval (a .env) e ⟫ truth ⟫ λ q. elim q [ true ↦ act b a | false ↦ act d a ]
+    actI (while e b) a = lacks WrongKind
+    actI (call m es) a = lacks WrongKind
+    actI (atomic b) a = lacks WrongKind
+    actI (select x y) a = lacks WrongKind
 
     -- a block
-    pub act : Block ℕ → Atomic → Maybe Atomic
-    act end a = is a
-    act (step l i b) a = actI i a >>= act b
+    pub act : Block ℕ → Atomic → Try Atomic
+    act end a = has a
+    act (step l i b) a = actI i a ⟫ act b

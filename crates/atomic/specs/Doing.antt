@@ -4,7 +4,9 @@ use Prim.Native.Nat.{ℕ, _+_, _^_, _≤_, _<_}
 use mathlib.Core.Path.{_≡_}
 use mathlib.Core.List.{List, [], _∷_, _++_}
 use lib.ListN.{length, getD}
-use Rattle.value.specs.Maybe.{Maybe, is, nothing}
+use Rattle.value.specs.Try.{Try, has, lacks}
+use Rattle.value.specs.declared.Reason.{Reason}
+use Rattle.value.specs.declared.Reason.the-variants.{WrongKind}
 use mathlib.Core.Bool.{true}
 use Rattle.format.specs.Syntax.{Instr, Block, Program}
 use Rattle.format.specs.Rules.{allowed, allowedI, named, namedI}
@@ -39,30 +41,30 @@ pub record Worked (fb i j : ℕ) (bs es ls : List ℕ) (n X : ℕ) (a : Atomic) 
   pub few : k + i ≤ n + j
 
 -- how it went: blocked, or to the end
-pub data Went (fb i j : ℕ) (bs es ls : List ℕ) (n X : ℕ) (ls′ cs′ o′ : List ℕ) (m : Maybe Atomic) (r : Done) : Type 0 where
-  stops : m ≡ nothing → r ≡ Blocked → Went fb i j bs es ls n X ls′ cs′ o′ m r
-  goes : (a : Atomic) (k : ℕ) → m ≡ is a → r ≡ To j k → Worked fb i j bs es ls n X a ls′ cs′ o′ k → Went fb i j bs es ls n X ls′ cs′ o′ m r
+pub data Went (fb i j : ℕ) (bs es ls : List ℕ) (n X : ℕ) (ls′ cs′ o′ : List ℕ) (m : Try Atomic) (r : Done) : Type 0 where
+  stops : (q : Reason) → m ≡ lacks q → r ≡ Blocked q → Went fb i j bs es ls n X ls′ cs′ o′ m r
+  goes : (a : Atomic) (k : ℕ) → m ≡ has a → r ≡ To j k → Worked fb i j bs es ls n X a ls′ cs′ o′ k → Went fb i j bs es ls n X ls′ cs′ o′ m r
 
 -- ---- a step that was decided
 
 -- it is carried out
-abbrev pub carried : ℕ → Step → Atomic → Maybe Atomic
-carried t (S.Assign x v j) a = is (record { env = bound (a .env) x v; memory = a .memory; events = a .events })
-carried t (S.Read x l i v j) a = is (record {
+abbrev pub carried : ℕ → Step → Atomic → Try Atomic
+carried t (S.Assign x v j) a = has (record { env = bound (a .env) x v; memory = a .memory; events = a .events })
+carried t (S.Read x l i v j) a = has (record {
   env = bound (a .env) x v;
   memory = a .memory;
   events = a .events ++ (record { thread = t; way = reading; place = l; index = i; value = v } ∷ []);
 })
-carried t (S.Write l i k v j) a = is (record {
+carried t (S.Write l i k v j) a = has (record {
   env = a .env;
   memory = stored (a .memory) l i v;
   events = a .events ++ (record { thread = t; way = writing; place = l; index = i; value = v } ∷ []);
 })
-carried t S.Return a = nothing
-carried t (S.Test q j) a = nothing
-carried t (S.Call m j) a = nothing
-carried t (S.Select k u j) a = nothing
-carried t S.Blocked a = nothing
+carried t S.Return a = lacks WrongKind
+carried t (S.Test q j) a = lacks WrongKind
+carried t (S.Call m j) a = lacks WrongKind
+carried t (S.Select k u j) a = lacks WrongKind
+carried t (S.Blocked q) a = lacks q
 
 -- its local or its cell is there
 abbrev pub StepFits : Atomic → Step → Type 0
@@ -73,7 +75,7 @@ StepFits a S.Return = Unit {0}
 StepFits a (S.Test q j) = Unit {0}
 StepFits a (S.Call m j) = Unit {0}
 StepFits a (S.Select k u j) = Unit {0}
-StepFits a S.Blocked = Unit {0}
+StepFits a (S.Blocked q) = Unit {0}
 
 -- where its instruction ends
 abbrev pub endOf : Step → ℕ
@@ -84,7 +86,7 @@ endOf S.Return = 0
 endOf (S.Test q j) = j
 endOf (S.Call m j) = j
 endOf (S.Select k u j) = j
-endOf S.Blocked = 0
+endOf (S.Blocked q) = 0
 
 -- it ends behind i
 abbrev pub Past : ℕ → Step → Type 0
@@ -95,7 +97,7 @@ Past i S.Return = Unit {0}
 Past i (S.Test q j) = Unit {0}
 Past i (S.Call m j) = Unit {0}
 Past i (S.Select k u j) = Unit {0}
-Past i S.Blocked = Unit {0}
+Past i (S.Blocked q) = Unit {0}
 
 -- it can be carried out
 pub record Carrying (fb : ℕ) (s : Step) (ls cs o : List ℕ) (n : ℕ) : Type 0 where
@@ -110,7 +112,7 @@ pub record Carrying (fb : ℕ) (s : Step) (ls cs o : List ℕ) (n : ℕ) : Type 
 pub record Carries (thread fb : ℕ) (s : Step) (ls cs o : List ℕ) (n : ℕ) (ls′ cs′ o′ : List ℕ) (r : Done) : Type 0 where
   pub carries : (h : Carrying fb s ls cs o n) (i : ℕ) → Past i s
       → Went fb i (endOf s) (h .bs) (h .es) ls n (length (h .a .env)) ls′ cs′ o′ (carried thread s (h .a)) r
-  pub still : r ≡ Blocked → (ls′ ≡ ls) × (cs′ ≡ cs) × (o′ ≡ o)
+  pub still : (q : Reason) → r ≡ Blocked q → (ls′ ≡ ls) × (cs′ ≡ cs) × (o′ ≡ o)
 
 -- ---- a block
 
@@ -158,4 +160,4 @@ module _ (t : List ℕ) (thread fb : ℕ) (bs : List ℕ) where
   -- the block is done as a whole: where it blocks, all is as before
   pub record DoesWhole (i d : ℕ) (ls cs o : List ℕ) (n : ℕ) (ls′ cs′ o′ : List ℕ) (r : Done) : Type 0 where
     pub does : Does i d ls cs o n ls′ cs′ o′ r
-    pub still : Doing i d ls cs o n → r ≡ Blocked → (ls′ ≡ ls) × (cs′ ≡ cs) × (o′ ≡ o)
+    pub still : Doing i d ls cs o n → (q : Reason) → r ≡ Blocked q → (ls′ ≡ ls) × (cs′ ≡ cs) × (o′ ≡ o)

@@ -11,6 +11,7 @@ use engine::event::Event;
 use engine::locals;
 use engine::memory;
 use labels::count::count_block;
+use value::Reason;
 ghost use mathlib.Core.Path.{_≡_};
 ghost use Prim.Native.Nat.{_+_, _≤_};
 ghost use lib.ListN.{length};
@@ -18,10 +19,10 @@ ghost use Rattle.engine.specs.Work.{frameWords};
 ghost use Rattle.format.specs.Decode.{maxNesting};
 ghost use Rattle.atomic.specs.Doing.{Carrying, Carries, Doing, Does, DoingI, DoesI, Copies, DoesWhole};
 
-// How a block or an instruction goes: where it ends and how many events there are then, or it blocks.
+// How a block or an instruction goes: where it ends and how many events there are then, or why it blocks.
 pub enum Done {
     To { next: usize, events: usize },
-    Blocked,
+    Blocked(Reason),
 }
 
 // Carries out an assignment, a read or a write that was decided.
@@ -94,7 +95,9 @@ pub fn carry_out(
                 events: count + 1,
             }
         }
-        _ => Done::Blocked,
+        Step::Blocked(reason) => Done::Blocked(reason),
+        // no other step stands in an atomic block
+        _ => Done::Blocked(Reason::WrongKind),
     }
 }
 
@@ -119,7 +122,7 @@ fn do_block(
     let mut i = at;
     let mut n = count;
     while t[i] != END {
-        let Done::To { next, events: k } = do_instr(
+        let done = do_instr(
             t,
             i,
             depth - 1,
@@ -130,8 +133,9 @@ fn do_block(
             cells,
             events,
             n,
-        ) else {
-            return Done::Blocked;
+        );
+        let Done::To { next, events: k } = done else {
+            return done;
         };
         i = next;
         n = k;
@@ -163,10 +167,7 @@ fn do_instr(
     let step = decide(t, words, base, starts, cells, at);
     if let Step::Test { truth, next } = step {
         if truth {
-            let Done::To {
-                next: end,
-                events: n,
-            } = do_block(
+            let done = do_block(
                 t,
                 next,
                 depth,
@@ -177,9 +178,13 @@ fn do_instr(
                 cells,
                 events,
                 count,
-            )
+            );
+            let Done::To {
+                next: end,
+                events: n,
+            } = done
             else {
-                return Done::Blocked;
+                return done;
             };
             return Done::To {
                 next: count_block(t, end, depth).next,
@@ -282,8 +287,8 @@ pub fn do_atomic(
         &mut no_events,
         0,
     );
-    if let Done::Blocked = tried {
-        return Done::Blocked;
+    if let Done::Blocked(_) = tried {
+        return tried;
     }
     do_all(t, at, thread, base, starts, words, cells, events, count)
 }

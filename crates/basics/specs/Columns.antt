@@ -1,9 +1,10 @@
 -- The table by mark byte, as the code uses it. Document 01: "constant table by mark byte 00 to 17: operand count, operand kind and result kind".
 use Prim.Native.Nat.{ℕ, _+_, _*_}
-use Rattle.value.specs.Maybe.{Maybe, nothing}
+use Rattle.value.specs.Try.{Try, lacks}
 use Rattle.value.specs.Values.{not, neg, add, sub, mul, less, equal, and, apply₁, apply₂}
 use Rattle.value.specs.Marks.{Mark, wholeMark, locationMark, noMark, yesMark, localMark, oneMark, twoMark, noExpr, markOf}
 use Rattle.value.specs.declared.Value.{Value}
+use Rattle.value.specs.declared.Reason.the-variants.{WrongKind}
 
 -- a mark's operands, their kind, the kind of the result, and the bytes that follow the mark before any operand
 pub record Row : Type 0 where
@@ -56,23 +57,23 @@ packedOf m = packed (rowOf (markOf m))
 -- ---- the operators by their marks
 
 -- what the operator of a mark gives of one value
-abbrev pub applied₁ : Mark → Value → Maybe Value
+abbrev pub applied₁ : Mark → Value → Try Value
 applied₁ (oneMark o) v = apply₁ o v
-applied₁ (twoMark o) v = nothing
-applied₁ wholeMark v = nothing
-applied₁ locationMark v = nothing
-applied₁ noMark v = nothing
-applied₁ yesMark v = nothing
-applied₁ localMark v = nothing
-applied₁ noExpr v = nothing
+applied₁ (twoMark o) v = lacks WrongKind
+applied₁ wholeMark v = lacks WrongKind
+applied₁ locationMark v = lacks WrongKind
+applied₁ noMark v = lacks WrongKind
+applied₁ yesMark v = lacks WrongKind
+applied₁ localMark v = lacks WrongKind
+applied₁ noExpr v = lacks WrongKind
 
 -- and of two
-abbrev pub applied₂ : Mark → Value → Value → Maybe Value
+abbrev pub applied₂ : Mark → Value → Value → Try Value
 applied₂ (twoMark o) v w = apply₂ o v w
-applied₂ (oneMark o) v w = nothing
-applied₂ wholeMark v w = nothing
-applied₂ locationMark v w = nothing
-applied₂ noMark v w = nothing
-applied₂ yesMark v w = nothing
-applied₂ localMark v w = nothing
-applied₂ noExpr v w = nothing
+applied₂ (oneMark o) v w = lacks WrongKind
+applied₂ wholeMark v w = lacks WrongKind
+applied₂ locationMark v w = lacks WrongKind
+applied₂ noMark v w = lacks WrongKind
+applied₂ yesMark v w = lacks WrongKind
+applied₂ localMark v w = lacks WrongKind
+applied₂ noExpr v w = lacks WrongKind

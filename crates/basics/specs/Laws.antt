@@ -4,3 +4,5 @@
 pub mod Columns
 -- numbers and values at places
 pub mod Places
+-- an answer without a value
+pub mod Reasons

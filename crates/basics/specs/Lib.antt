@@ -4,6 +4,8 @@
 pub mod Columns
 -- numbers and values at places of a table or a buffer
 pub mod Places
+-- why an answer has no value
+pub mod Reasons
 -- sizes of arrays, made from the definitions' numbers
 pub mod Sizes
 -- what these are worth

@@ -6,6 +6,8 @@ ghost use mathlib.Core.Path.{_≡_};
 ghost use Prim.Native.Nat.{_+_, _*_, _≤_};
 ghost use lib.ListN.{length, getD};
 ghost use lib.Seq.{sets};
+ghost use Rattle.value.specs.Try.{orLacks};
+ghost use Rattle.value.specs.declared.Reason.the-variants.{WrongKind};
 ghost use Rattle.value.specs.Values.{given, bytes, word, unword, cellSize};
 ghost use Rattle.basics.specs.Places.{cellKind, cellNumber, valueOf, numberAt, room, withValue};
 
@@ -117,7 +119,7 @@ pub fn cell_number(v: Value) -> u32
 
 // The value of a kind byte and a number.
 pub fn value_of(kind: u8, n: u32) -> Answer
-    ensures { λ r. ⌜ given r ≡ valueOf kind n ⌝ }
+    ensures { λ r. ⌜ given r ≡ orLacks WrongKind (valueOf kind n) ⌝ }
 {
     if kind == 1 {
         return Answer::Is(Value::Whole(number_of(n)));
@@ -126,7 +128,7 @@ pub fn value_of(kind: u8, n: u32) -> Answer
         if n < 65536 {
             return Answer::Is(Value::Location(n as u16));
         }
-        return Answer::Nothing;
+        return Answer::WrongKind;
     }
     if n == 0 {
         if kind == 3 {
@@ -136,7 +138,7 @@ pub fn value_of(kind: u8, n: u32) -> Answer
             return Answer::Is(Value::Truth(true));
         }
     }
-    Answer::Nothing
+    Answer::WrongKind
 }
 
 // The four bytes of a number.

@@ -5,3 +5,4 @@ pub mod bytes;
 pub mod marks;
 pub mod numbers;
 pub mod operators;
+pub mod reasons;

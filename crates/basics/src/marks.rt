@@ -31,11 +31,11 @@ pub const NOT: u8 = 0x16;
 pub const NEGATE: u8 = 0x17;
 
 // The kinds of values. ANY is the operand kind of "equal (two of one kind)", and of a mark without operands.
-const ANY: u8 = 0;
+pub const ANY: u8 = 0;
 
 pub const WHOLE: u8 = 1;
 
-const LOCATION: u8 = 2;
+pub const LOCATION: u8 = 2;
 
 pub const TRUTH: u8 = 3;
 

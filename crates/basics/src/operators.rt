@@ -16,10 +16,10 @@ fn narrow(x: i64) -> Answer
     ensures { λ r. ⌜ given r ≡ whole x ⌝ }
 {
     if x < LOWEST {
-        return Answer::Nothing;
+        return Answer::OutOfRange;
     }
     if HIGHEST < x {
-        return Answer::Nothing; // not HIGHEST
+        return Answer::OutOfRange; // not HIGHEST
     }
     Answer::Is(Value::Whole(x as i32))
 }
@@ -28,10 +28,10 @@ pub fn add(left: Value, right: Value) -> Answer
     ensures { λ r. ⌜ given r ≡ apply₂ add left right ⌝ }
 {
     let Value::Whole(a) = left else {
-        return Answer::Nothing;
+        return Answer::WrongKind;
     };
     let Value::Whole(b) = right else {
-        return Answer::Nothing;
+        return Answer::WrongKind;
     };
     narrow((a as i64) + (b as i64))
 }
@@ -40,10 +40,10 @@ pub fn subtract(left: Value, right: Value) -> Answer
     ensures { λ r. ⌜ given r ≡ apply₂ sub left right ⌝ }
 {
     let Value::Whole(a) = left else {
-        return Answer::Nothing;
+        return Answer::WrongKind;
     };
     let Value::Whole(b) = right else {
-        return Answer::Nothing;
+        return Answer::WrongKind;
     };
     narrow((a as i64) - (b as i64))
 }
@@ -52,10 +52,10 @@ fn multiply(left: Value, right: Value) -> Answer
     ensures { λ r. ⌜ given r ≡ apply₂ mul left right ⌝ }
 {
     let Value::Whole(a) = left else {
-        return Answer::Nothing;
+        return Answer::WrongKind;
     };
     let Value::Whole(b) = right else {
-        return Answer::Nothing;
+        return Answer::WrongKind;
     };
     narrow((a as i64) * (b as i64))
 }
@@ -64,7 +64,7 @@ pub fn negate(operand: Value) -> Answer
     ensures { λ r. ⌜ given r ≡ apply₁ neg operand ⌝ }
 {
     let Value::Whole(a) = operand else {
-        return Answer::Nothing;
+        return Answer::WrongKind;
     };
     narrow(0 - (a as i64))
 }
@@ -73,10 +73,10 @@ fn less(left: Value, right: Value) -> Answer
     ensures { λ r. ⌜ given r ≡ apply₂ less left right ⌝ }
 {
     let Value::Whole(a) = left else {
-        return Answer::Nothing;
+        return Answer::WrongKind;
     };
     let Value::Whole(b) = right else {
-        return Answer::Nothing;
+        return Answer::WrongKind;
     };
     Answer::Is(Value::Truth(a < b))
 }
@@ -87,19 +87,19 @@ pub fn equal(left: Value, right: Value) -> Answer
     match left {
         Value::Whole(a) => {
             let Value::Whole(b) = right else {
-                return Answer::Nothing; // not false
+                return Answer::WrongKind; // not false
             };
             Answer::Is(Value::Truth(a == b))
         }
         Value::Location(a) => {
             let Value::Location(b) = right else {
-                return Answer::Nothing;
+                return Answer::WrongKind;
             };
             Answer::Is(Value::Truth(a == b))
         }
         Value::Truth(a) => {
             let Value::Truth(b) = right else {
-                return Answer::Nothing;
+                return Answer::WrongKind;
             };
             Answer::Is(Value::Truth(a == b))
         }
@@ -111,10 +111,10 @@ pub fn and(left: Value, right: Value) -> Answer
     ensures { λ r. ⌜ given r ≡ apply₂ and left right ⌝ }
 {
     let Value::Truth(a) = left else {
-        return Answer::Nothing;
+        return Answer::WrongKind;
     };
     let Value::Truth(b) = right else {
-        return Answer::Nothing;
+        return Answer::WrongKind;
     };
     Answer::Is(Value::Truth(a & b))
 }
@@ -123,19 +123,19 @@ fn not(operand: Value) -> Answer
     ensures { λ r. ⌜ given r ≡ apply₁ not operand ⌝ }
 {
     let Value::Truth(a) = operand else {
-        return Answer::Nothing;
+        return Answer::WrongKind;
     };
     Answer::Is(Value::Truth(!a))
 }
 
-// What the operator of a mark gives of one value: nothing, if it is no mark of such an operator.
+// What the operator of a mark gives of one value: no value, if it is no mark of such an operator.
 pub fn apply_one(mark: u8, operand: Value) -> Answer
     ensures { λ r. ⌜ given r ≡ applied₁ (markOf mark) operand ⌝ }
 {
     match mark {
         marks::NOT => not(operand),
         marks::NEGATE => negate(operand),
-        _ => Answer::Nothing,
+        _ => Answer::WrongKind,
     }
 }
 
@@ -150,6 +150,6 @@ pub fn apply_two(mark: u8, left: Value, right: Value) -> Answer
         marks::LESS => less(left, right),
         marks::EQUAL => equal(left, right),
         marks::AND => and(left, right),
-        _ => Answer::Nothing,
+        _ => Answer::WrongKind,
     }
 }

@@ -52,7 +52,7 @@ const RUN_PROGRAM: u8 = 6;
 const GREETING: u8 = 90;
 
 // One more whenever a request, or a line that answers one, changes its form. `zaru/engine.py` and `second/src/batch.rs` have it too.
-const VERSION: u64 = 1;
+const VERSION: u64 = 2;
 
 // What is asked for, beside the table and the schedule.
 struct Request {

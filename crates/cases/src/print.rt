@@ -48,6 +48,7 @@ pub fn run(call: u8, r: RunAnswer) {
     number(r.steps);
     number(r.unused as u64);
     number(r.events);
+    number(r.reason as u64);
 }
 
 // A line that has its newline.

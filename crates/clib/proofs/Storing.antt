@@ -32,9 +32,9 @@ pub write-stored : (r : WriteAnswer) (xs ys zs : List ℕ) → ys ≡ set xs 0 (
 write-stored r xs ys zs e f = f ∙ ap (λ us. set us 1 (r .length)) e
 
 -- of a run
-pub run-stored : (r : RunAnswer) (xs ys zs ws : List ℕ) → ys ≡ set (set (set xs 0 (r .number)) 1 (r .end)) 2 (r .steps)
-    → zs ≡ set ys 3 (r .unused) → ws ≡ set zs 4 (r .events) → ws ≡ stored 0 (runNumbers r) xs
-run-stored r xs ys zs ws e f g = g ∙ ap (λ us. set us 4 (r .events)) (f ∙ ap (λ us. set us 3 (r .unused)) e)
+pub run-stored : (r : RunAnswer) (xs ys zs : List ℕ) → ys ≡ set (set (set xs 0 (r .number)) 1 (r .end)) 2 (r .steps)
+    → zs ≡ set (set (set ys 3 (r .unused)) 4 (r .events)) 5 (r .reason) → zs ≡ stored 0 (runNumbers r) xs
+run-stored r xs ys zs e f = f ∙ ap (λ us. set (set (set us 3 (r .unused)) 4 (r .events)) 5 (r .reason)) e
 
 -- the answer of a read is what it is said to be
 pub read-told : (r s : ReadAnswer) (xs ys : List ℕ) → r ≡ s → ys ≡ stored 0 (readNumbers r) xs → ys ≡ stored 0 (readNumbers s) xs

@@ -21,9 +21,9 @@ readNumbers r = r .number ∷ r .procedures ∷ r .locations ∷ r .threads ∷ 
 abbrev pub writeNumbers : WriteAnswer → List ℕ
 writeNumbers r = r .number ∷ r .length ∷ []
 
--- "A run answers 0 with its end, its steps, its unused entries and its events"
+-- "A run answers 0 with its end, its steps, its unused entries and its events", and last its reason
 abbrev pub runNumbers : RunAnswer → List ℕ
-runNumbers r = r .number ∷ r .end ∷ r .steps ∷ r .unused ∷ r .events ∷ []
+runNumbers r = r .number ∷ r .end ∷ r .steps ∷ r .unused ∷ r .events ∷ r .reason ∷ []
 
 -- what a translation leaves in both lent arrays
 pub record Translated : Type 0 where

@@ -53,13 +53,12 @@ fn store_write(answer: &mut [u64], r: WriteAnswer)
     store(answer, 1, r.length as u64);
 }
 
-// The five numbers of a run.
+// The six numbers of a run.
 fn store_run(answer: &mut [u64], r: RunAnswer)
     ensures { λ _. ⌜ now (answer .exit) ≡ stored 0 (runNumbers r) (now (answer .entry)) ⌝ }
 {
     store_three(answer, 0, r.number as u64, r.end as u64, r.steps);
-    store(answer, 3, r.unused as u64);
-    store(answer, 4, r.events);
+    store_three(answer, 3, r.unused as u64, r.events, r.reason as u64);
 }
 
 // Reads a concurrent table.

@@ -155,7 +155,7 @@ run-taken q R = R .ran q .taken
 outcome-of : {p : Program Plain} {c : ℕ} {ts cs es ms os es′ : List ℕ} {r : Ran} → c ≡ sum (p .sizes) → cellSize * c ≤ length cs
     → RanAs p ts es ms es′ r → Writes ms c cs os
     → _≡_ {A = Outcome} (record {
-      answer = record { number = 0; end = r .end; steps = r .taken; unused = length ts - r .taken; events = r .events };
+      answer = record { number = 0; end = r .end; steps = r .taken; unused = length ts - r .taken; events = r .events; reason = r .reason };
       cells = os;
       events = es′;
     }) (concurrentOutcome ts cs es p)
@@ -163,7 +163,7 @@ outcome-of {p} {c} {ts} {cs} {es} {os = os} {es′} {r} size room z W =
     let η : Memory = z .state .memory in
     let all : c ≡ length (flat η) = size ∙ ap sum (sym (z .sizes)) ∙ sym (length-flat η) in
     let wrote : os ≡ over (cells η) cs = W .written η (z .memory) all room in
-    rw (z .end, z .events .count, wrote, z .events .bytes)
+    rw (z .end, z .reason, z .events .count, wrote, z .events .bytes)
     (sym (ap (λ (ran : P.Ran). result (ran .how) (ran .steps) (ran .unused) (ran .state .memory) (ran .events) cs es) (z .same)))
 
 -- of the whole call
@@ -171,7 +171,7 @@ pub run-outcome : {t : List ℕ} {P M T c n l : ℕ} {ts map bounds ss labels de
     → MapsLabels t P map bounds l → Starts (sizesAt t (length t - trailerSize - 2 * T - 2 * M) M) ss n
     → Begins t (length t - trailerSize - 2 * T) T bounds labels depths
     → Runs t T ts map bounds ss labels depths (replicate threadWords 0) (replicate programWords (2 ^ 32)) es ms es′ r → Writes ms c cs os
-    → Outcomes t P M T c ts cs es (record { number = 0; end = r .end; steps = r .taken; unused = length ts - r .taken; events = r .events }) os es′
+    → Outcomes t P M T c ts cs es (record { number = 0; end = r .end; steps = r .taken; unused = length ts - r .taken; events = r .events; reason = r .reason }) os es′
 unfolding accepted-starting
 run-outcome W S B R O = record { same = λ a e room. outcome-of (a .cells) room (R .ran (accepted-starting a e W S B)) O }
 

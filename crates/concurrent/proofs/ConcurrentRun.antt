@@ -7,6 +7,8 @@ use mathlib.Core.Bool.{Bool, true, false}
 use lib.ListN.{length, getD, drop, length-drop}
 use lib.Seq.{drop-length, drop-cons}
 use Rattle.value.specs.Maybe.{is}
+use Rattle.value.specs.Try.{reasonNumber}
+use Rattle.value.specs.declared.Reason.{Reason}
 use Rattle.format.specs.Syntax.{Program, Plain, concurrent}
 use Rattle.format.specs.Labels.{labelled}
 use Rattle.format.specs.Rules.{limits}
@@ -16,7 +18,7 @@ use Rattle.semantics.specs.Threads as P
 use Rattle.concurrent.specs.declared.threads.Stepped.{Stepped}
 use Rattle.concurrent.specs.declared.threads.Stepped.the-variants.{To, Blocked}
 use Rattle.concurrent.specs.declared.machine.Ran.{Ran}
-use Rattle.semantics.specs.Calls.{endNumber, concurrentRun}
+use Rattle.semantics.specs.Calls.{endNumber, reasonOf, concurrentRun}
 use Rattle.atomic.specs.Threaded.{mostThreads}
 use Rattle.concurrent.specs.Stepping.{Present, Stepping, Went, Stays, Answers, Steps}
 use Rattle.concurrent.specs.Concurrent.{AllDone, ranWith, Starting, Runs}
@@ -75,7 +77,7 @@ module _ {t : List ℕ} {T : ℕ} {ts map bounds ss labels₀ depths₀ ls₀ cs
   going-threads = omega (arith, G .start .count, G .start .loaded .sound .threads .high)
 
   -- how the run ends, with what the code answers
-  ended : {cs′ es′ : List ℕ} {r : Ran} (how : End) → r ≡ ranWith (endNumber how) k n
+  ended : {cs′ es′ : List ℕ} {r : Ran} (how : End) → r ≡ ranWith (endNumber how) (reasonOf how) k n
       → ((q : Starting t T ts map bounds ss labels₀ depths₀ ls₀ cs₀) → (labels′ : List ℕ) × (depths′ : List ℕ) × (ls′ : List ℕ) ×
       Present (q .loaded .program) lent labels′ depths′ ls′ cs′ es′ n (G .from q .state) (G .from q .so-far))
       → ((q : Starting t T ts map bounds ss labels₀ depths₀ ls₀ cs₀)
@@ -89,6 +91,7 @@ module _ {t : List ℕ} {T : ℕ} {ts map bounds ss labels₀ depths₀ ls₀ cs
       so-far = G .from q .so-far;
       same = G .from q .same ∙ f q;
       end = refl;
+      reason = refl;
       memory = h q .3 .memory;
       sizes = h q .3 .sizes;
       taken = G .low;
@@ -102,7 +105,7 @@ module _ {t : List ℕ} {T : ℕ} {ts map bounds ss labels₀ depths₀ ls₀ cs
     done q = done-of b (G .from q .present .threads) (q .count) D
 
     -- "A finished run is answered before the schedule is asked"
-    pub going-finished : {r : Ran} → b ≡ true → r ≡ ranWith 0 k n → Runs t T ts map bounds ss labels₀ depths₀ ls₀ cs₀ lent cs es r
+    pub going-finished : {r : Ran} → b ≡ true → r ≡ ranWith 0 0 k n → Runs t T ts map bounds ss labels₀ depths₀ ls₀ cs₀ lent cs es r
     going-finished e f =
         ended finished f (λ q. (labels, depths, ls, G .from q .present))
         (λ q.
@@ -111,7 +114,7 @@ module _ {t : List ℕ} {T : ℕ} {ts map bounds ss labels₀ depths₀ ls₀ cs
 
     module _ (e : b ≡ false) where
       -- the schedule is used up
-      pub going-used : {r : Ran} → k ≡ length ts → r ≡ ranWith 1 k n → Runs t T ts map bounds ss labels₀ depths₀ ls₀ cs₀ lent cs es r
+      pub going-used : {r : Ran} → k ≡ length ts → r ≡ ranWith 1 0 k n → Runs t T ts map bounds ss labels₀ depths₀ ls₀ cs₀ lent cs es r
       going-used w f =
           let none : drop k ts ≡ [] = rw (w, drop-length) in
           let all : 0 ≡ length ts - k = omega arith in
@@ -149,21 +152,21 @@ module _ {t : List ℕ} {T : ℕ} {ts map bounds ss labels₀ depths₀ ls₀ cs
             where
               by : (x : Stepped) → Answers (stepping-of (G .start)) labels′ depths′ ls′ cs′ es′ x → length es′ ≡ length lent
               by (To m) h = logged-long (h .present .events)
-              by Blocked h = logged-long (h .present .events)
+              by (Blocked why) h = logged-long (h .present .events)
 
           -- it blocks
-          pub going-blocked : {r : Ran} → x ≡ Blocked → r ≡ ranWith 2 k n → Runs t T ts map bounds ss labels₀ depths₀ ls₀ cs₀ lent cs′ es′ r
-          going-blocked z f =
-              let stays : (q : Starting t T ts map bounds ss labels₀ depths₀ ls₀ cs₀) → Stays (stepping-of q) labels′ depths′ ls′ cs′ es′ =
+          pub going-blocked : {r : Ran} {why : Reason} {m : ℕ} → x ≡ Blocked why → m ≡ reasonNumber why → r ≡ ranWith 2 m k n → Runs t T ts map bounds ss labels₀ depths₀ ls₀ cs₀ lent cs′ es′ r
+          going-blocked {why = why} z w f =
+              let stays : (q : Starting t T ts map bounds ss labels₀ depths₀ ls₀ cs₀) → Stays (stepping-of q) labels′ depths′ ls′ cs′ es′ why =
               λ q. subst (Answers (stepping-of q) labels′ depths′ ls′ cs′ es′) z (S .steps (stepping-of q))
               in
               let left : suc (length (drop (suc k) ts)) ≡ length ts - k = omega (arith, length-drop (suc k) ts, G .low) in
-              ended blocked f (λ q. (labels′, depths′, ls′, stays q .present))
+              ended (blocked why) (f ∙ ap (λ m. ranWith 2 m k n) w) (λ q. (labels′, depths′, ls′, stays q .present))
               (λ q.
               ap (λ us. P.run (labelled (q .loaded .program)) us (G .from q .state) k (G .from q .so-far)) next
               ∙ blocked-run (labelled (q .loaded .program)) (getD ts k 0) (drop (suc k) ts) (G .from q .state) k (G .from q .so-far)
               (done q ∙ e) (stays q .blocks)
-              ∙ ap (λ u. record { how = blocked; steps = k; unused = u; state = G .from q .state; events = G .from q .so-far }) left)
+              ∙ ap (λ u. record { how = blocked why; steps = k; unused = u; state = G .from q .state; events = G .from q .so-far }) left)
 
           -- it goes on
           pub going-on : {m : ℕ} → x ≡ To m → Going t T ts map bounds ss labels₀ depths₀ ls₀ cs₀ lent labels′ depths′ ls′ cs′ es′ (k + 1) m

@@ -5,6 +5,7 @@ use mathlib.Core.Path.{_≡_, subst}
 use mathlib.Core.List.{List}
 use mathlib.Core.Bool.{Bool, true, false}
 use lib.ListN.{getD, set}
+use Rattle.value.specs.declared.Reason.{Reason}
 use Rattle.format.specs.Rules.{limits}
 use Rattle.format.specs.Syntax.{concurrent}
 use Rattle.basics.specs.Sizes.{boundWords}
@@ -67,7 +68,7 @@ module _ {turn : Turn} {map bounds : List ℕ} {i top : ℕ} {labels depths : Li
   moves-back e = record { moved = rw e; deep = rw e; answer = rw e }
 
   -- it blocks
-  pub moves-not : turn ≡ T.Blocked → Moves turn map bounds i top labels depths n labels depths Blocked
+  pub moves-not : {why : Reason} → turn ≡ T.Blocked why → Moves turn map bounds i top labels depths n labels depths (Blocked why)
   moves-not e = record { moved = rw e; deep = rw e; answer = rw e }
 
 -- one law for each way

@@ -6,6 +6,9 @@ use mathlib.Core.List.{List, [], _∷_, _++_, append-nil, map}
 use mathlib.Core.Bool.{Bool, true, false}
 use lib.ListN.{length, getD, set, replicate, length-append, length-map, length-replicate}
 use Rattle.value.specs.Maybe.{is, nothing}
+use Rattle.value.specs.Try.{has, lacks}
+use Rattle.value.specs.declared.Reason.{Reason}
+use Rattle.value.specs.declared.Reason.the-variants.{FinishedThread}
 use Rattle.value.specs.Lists.{at}
 use Rattle.value.specs.declared.Value.{Value}
 use Rattle.value.specs.Laws.Maybes.{is-inj, missing}
@@ -42,16 +45,16 @@ use Rattle.atomic.specs.Laws.Threading.{threaded-on, threaded-back, threaded-ca
 
 module _ (p : Program ℕ) (t : ℕ) (z : P.State) {f : Frame ℕ} {s : Stack ℕ} (e : at (z .threads) t ≡ is (f ∷ s)) where
   -- what the code of the uppermost frame does, the thread does
-  step-is : (r : Moved ℕ) → P.code (p .procs) t (f .code) (f .proc) (f .env) s (z .memory) ≡ is r
-      → P.threadStep p t z ≡ is (record { state = record { threads = set (z .threads) t (r .stack); memory = r .memory }; events = r .events })
+  step-is : (r : Moved ℕ) → P.code (p .procs) t (f .code) (f .proc) (f .env) s (z .memory) ≡ has r
+      → P.threadStep p t z ≡ has (record { state = record { threads = set (z .threads) t (r .stack); memory = r .memory }; events = r .events })
   step-is r g = rw (e, g)
 
   -- and where it blocks, the thread does
-  step-blocks : P.code (p .procs) t (f .code) (f .proc) (f .env) s (z .memory) ≡ nothing → P.threadStep p t z ≡ nothing
+  step-blocks : {why : Reason} → P.code (p .procs) t (f .code) (f .proc) (f .env) s (z .memory) ≡ lacks why → P.threadStep p t z ≡ lacks why
   step-blocks g = rw (e, g)
 
 -- a finished thread blocks
-step-finished : (p : Program ℕ) (t : ℕ) (z : P.State) → at (z .threads) t ≡ is [] → P.threadStep p t z ≡ nothing
+step-finished : (p : Program ℕ) (t : ℕ) (z : P.State) → at (z .threads) t ≡ is [] → P.threadStep p t z ≡ lacks FinishedThread
 step-finished p t z e = rw e
 
 -- the body of procedure m
@@ -172,7 +175,7 @@ module _ {t map bounds ss : List ℕ} {thread : ℕ} {labels depths ls cs o : Li
 
   -- what the frame's code does above the frames below
   abbrev does : Moved ℕ → Type 0
-  does r = codeOf program thread (u .frame .proc) (u .frame .code) (handOf h u) (u .below) ≡ is r
+  does r = codeOf program thread (u .frame .proc) (u .frame .code) (handOf h u) (u .below) ≡ has r
 
   -- the words of its frame and of the one above
   wide : {ls′ : List ℕ} → Beside ls ls′ (frameWords * top) (frameWords * top + frameWords + frameWords)
@@ -237,8 +240,8 @@ module _ {t map bounds ss : List ℕ} {thread : ℕ} {labels depths ls cs o : Li
         (omega arith)
 
     -- nothing moves
-    stays : codeOf program thread (u .frame .proc) (u .frame .code) (handOf h u) (u .below) ≡ nothing
-        → Works (frameWords * top) ss (h .lent) ls′ cs′ o′ n (handOf h u) → Stays h labels depths ls′ cs′ o′
+    stays : {why : Reason} → codeOf program thread (u .frame .proc) (u .frame .code) (handOf h u) (u .below) ≡ lacks why
+        → Works (frameWords * top) ss (h .lent) ls′ cs′ o′ n (handOf h u) → Stays h labels depths ls′ cs′ o′ why
     stays e w = record {
       blocks = step-blocks (labelled program) thread (h .state) (u .found) e;
       present = record {
@@ -293,7 +296,7 @@ module _ {t map bounds ss : List ℕ} {thread : ℕ} {labels depths ls cs o : Li
   callee-few ls′ cs′ o′ (T.Call q) A =
       omega (arith, at-below (labelled program .procs) q (A .called .found), length-labels (program .procs) 1, h .loaded .sound .procs .high)
   callee-few ls′ cs′ o′ T.Return A = tt
-  callee-few ls′ cs′ o′ T.Blocked A = tt
+  callee-few ls′ cs′ o′ (T.Blocked why) A = tt
 
   -- where a test leads
   test-label : (q : Bool) → testLabel map (4 * getD labels top 0) q ≡ labelAfter q (endsOf program (u .frame .proc)) (u .frame .code)
@@ -330,13 +333,13 @@ module _ {t map bounds ss : List ℕ} {thread : ℕ} {labels depths ls cs o : Li
       by T.Return A L D =
           let less : getD depths thread 0 - 1 ≡ length (u .below) = omega (arith, u .depth) in
           rw L (comes-back W (A .code) (A .works) (D ∙ ap (set depths thread) less))
-      by T.Blocked A L D = rw (L, D) (stays W (A .code (u .below)) (A .works))
+      by (T.Blocked why) A L D = rw (L, D) (stays W (A .code (u .below)) (A .works))
 
 -- ---- the whole step
 
 module _ {t map bounds ss : List ℕ} {thread : ℕ} {labels depths ls cs o : List ℕ} {n : ℕ} where
   -- a finished thread blocks
-  pub step-still : getD depths thread 0 ≡ 0 → Steps t map bounds ss thread labels depths ls cs o n labels depths ls cs o Blocked
+  pub step-still : getD depths thread 0 ≡ 0 → Steps t map bounds ss thread labels depths ls cs o n labels depths ls cs o (Blocked FinishedThread)
   step-still z = record {
     steps = λ h. record {
       blocks = step-finished (labelled (h .loaded .program)) thread (h .state) (none h (stacked h .0) (stacked h .1));

@@ -7,9 +7,12 @@ use mathlib.Core.Bool.{Bool}
 use lib.ListN.{length, getD, replicate, length-append, replicate-append-replicate, List·getD-append}
 use types.Run.{OneOf, miss}
 use denote.Enum.Declared.{tagOf}
-use Rattle.value.specs.Maybe.{Maybe, is, nothing}
+use Rattle.value.specs.Maybe.{is, nothing}
+use Rattle.value.specs.Try.{Try, has, lacks}
+use Rattle.value.specs.declared.Reason.{Reason}
 use Rattle.value.specs.declared.Value.{Value}
 use Rattle.value.specs.Laws.Maybes.{is-inj, missing}
+use Rattle.value.specs.Laws.Tries.{has-inj, lacks-inj, lacking}
 use Rattle.format.specs.Syntax.{Instr, Block, step}
 use Rattle.format.specs.Labels.{labelled, first, endsOf}
 use Rattle.labels.specs.LabelMap as Map
@@ -49,7 +52,7 @@ step-fits t i a k j h (S.Test q m) r = tt
 step-fits t i a k j h (S.Call q m) r = tt
 step-fits t i a k j h S.Return r = tt
 step-fits t i a k j h (S.Select c e m) r = tt
-step-fits t i a k j h S.Blocked r = tt
+step-fits t i a k j h (S.Blocked why) r = tt
 
 -- it ends there
 step-past : (ρ : Env) (η : Memory) (k : Act) (j : ℕ) (u : Step) → 1 ≤ j → Right ρ η k j u → Past (endOf u - 1) u
@@ -60,7 +63,7 @@ step-past ρ η k j (S.Test q m) l r = tt
 step-past ρ η k j (S.Call q m) l r = tt
 step-past ρ η k j S.Return l r = tt
 step-past ρ η k j (S.Select c e m) l r = tt
-step-past ρ η k j S.Blocked l r = tt
+step-past ρ η k j (S.Blocked why) l r = tt
 
 -- the first locals of a frame
 framed-front : {ls : List ℕ} {fb : ℕ} (ρ σ : Env) → Framed ls fb (ρ ++ σ) → Framed ls fb ρ
@@ -103,51 +106,51 @@ module _ {t : List ℕ} {thread fb : ℕ} {bs : List ℕ} {i : ℕ} {ls cs o : L
     pub new : List Event
     pub log : b .events ≡ h .a .events ++ new
     pub code : (s : Stack ℕ) → D.carried (labelled (h .p) .procs) thread (h .m) (h .a .env) tag instr rest s (h .a .memory) u
-        ≡ is (record { stack = record { proc = h .m; env = b .env; code = rest } ∷ s; memory = b .memory; events = new })
+        ≡ has (record { stack = record { proc = h .m; env = b .env; code = rest } ∷ s; memory = b .memory; events = new })
     pub begins : h .c ≡ step tag instr rest
     pub label : first (endsOf (h .p) (h .m)) rest ≡ Map.next (endsOf (h .p) (h .m)) (step tag instr rest)
 
   carried-is : (h : Turning t thread fb bs i ls cs o n) (tag : ℕ) (instr : Instr ℕ) (rest : Block ℕ) (u : Step) {b : Atomic}
-      → Means h tag instr rest u → carried thread u (h .a) ≡ is b → Carried h tag instr rest u b
-  carried-is h tag instr rest (S.Assign x v j) m e = rw (← is-inj e) (record {
+      → Means h tag instr rest u → carried thread u (h .a) ≡ has b → Carried h tag instr rest u b
+  carried-is h tag instr rest (S.Assign x v j) m e = rw (← has-inj e) (record {
     new = [];
     log = sym (append-nil (h .a .events));
     code = λ s. refl;
     begins = m .0;
     label = m .1;
   })
-  carried-is h tag instr rest (S.Read x l k v j) m e = rw (← is-inj e) (record {
+  carried-is h tag instr rest (S.Read x l k v j) m e = rw (← has-inj e) (record {
     new = _;
     log = refl;
     code = λ s. refl;
     begins = m .0;
     label = m .1;
   })
-  carried-is h tag instr rest (S.Write l k d v j) m e = rw (← is-inj e) (record {
+  carried-is h tag instr rest (S.Write l k d v j) m e = rw (← has-inj e) (record {
     new = _;
     log = refl;
     code = λ s. refl;
     begins = m .0;
     label = m .1;
   })
-  carried-is h tag instr rest (S.Test q j) m e = missing e
-  carried-is h tag instr rest (S.Call q j) m e = missing e
-  carried-is h tag instr rest S.Return m e = missing e
-  carried-is h tag instr rest (S.Select k d j) m e = missing e
-  carried-is h tag instr rest S.Blocked m e = missing e
+  carried-is h tag instr rest (S.Test q j) m e = lacking e
+  carried-is h tag instr rest (S.Call q j) m e = lacking e
+  carried-is h tag instr rest S.Return m e = lacking e
+  carried-is h tag instr rest (S.Select k d j) m e = lacking e
+  carried-is h tag instr rest (S.Blocked why) m e = lacking e
 
   -- and one that was not
   carried-none : (h : Turning t thread fb bs i ls cs o n) (tag : ℕ) (instr : Instr ℕ) (rest : Block ℕ) (u : Step) → Plainly u
-      → carried thread u (h .a) ≡ nothing → (s : Stack ℕ)
-      → D.carried (labelled (h .p) .procs) thread (h .m) (h .a .env) tag instr rest s (h .a .memory) u ≡ nothing
-  carried-none h tag instr rest (S.Assign x v j) k e s = missing (sym e)
-  carried-none h tag instr rest (S.Read x l z v j) k e s = missing (sym e)
-  carried-none h tag instr rest (S.Write l z d v j) k e s = missing (sym e)
+      → {why : Reason} → carried thread u (h .a) ≡ lacks why → (s : Stack ℕ)
+      → D.carried (labelled (h .p) .procs) thread (h .m) (h .a .env) tag instr rest s (h .a .memory) u ≡ lacks why
+  carried-none h tag instr rest (S.Assign x v j) k e s = lacking (sym e)
+  carried-none h tag instr rest (S.Read x l z v j) k e s = lacking (sym e)
+  carried-none h tag instr rest (S.Write l z d v j) k e s = lacking (sym e)
   carried-none h tag instr rest (S.Test q j) k e s = absurd (miss (1 ∷ 2 ∷ 3 ∷ 6 ∷ 7 ∷ []) 4 tt k)
   carried-none h tag instr rest (S.Call q j) k e s = absurd (miss (1 ∷ 2 ∷ 3 ∷ 6 ∷ 7 ∷ []) 5 tt k)
   carried-none h tag instr rest S.Return k e s = absurd (miss (1 ∷ 2 ∷ 3 ∷ 6 ∷ 7 ∷ []) 0 tt k)
-  carried-none h tag instr rest (S.Select z d j) k e s = refl
-  carried-none h tag instr rest S.Blocked k e s = refl
+  carried-none h tag instr rest (S.Select z d j) k e s = ap lacks (lacks-inj e)
+  carried-none h tag instr rest (S.Blocked q) k e s = ap lacks (lacks-inj e)
 
   module _ (y : getD t i 0 ≡ 0x26 → ⊥) where
     -- it can be decided
@@ -172,7 +175,7 @@ module _ {t : List ℕ} {thread fb : ℕ} {bs : List ℕ} {i : ℕ} {ls cs o : L
     turn-kept h = record { memory = h .a .memory; lies = turn-lies h }
 
     -- what a step does with the code
-    abbrev acted : Turning t thread fb bs i ls cs o n → Stack ℕ → Step → Maybe (Moved ℕ)
+    abbrev acted : Turning t thread fb bs i ls cs o n → Stack ℕ → Step → Try (Moved ℕ)
     acted h s =
         D.carried (labelled (h .p) .procs) thread (h .m) (h .a .env) (asked h y .tag) (asked h y .instr) (asked h y .rest) s (h .a .memory)
 
@@ -269,7 +272,7 @@ module _ {t : List ℕ} {thread fb : ℕ} {bs : List ℕ} {i : ℕ} {ls cs o : L
             let m = subst (Means h (asked h y .tag) (asked h y .instr) (asked h y .rest)) e (meaning h) in
             let w : Called (h .p) (h .m) (h .a .env) (asked h y .instr) q = m .1 .1 in
             let vs : List Value = w .values in
-            let args : evals (h .a .env) (argsOf (asked h y .act)) ≡ is vs = ap (evals (h .a .env)) (asked h y .args) ∙ w .args in
+            let args : evals (h .a .env) (argsOf (asked h y .act)) ≡ has vs = ap (evals (h .a .env)) (asked h y .args) ∙ w .args in
             let small = h .params q (w .proc) (w .found) in
             record {
               tag = asked h y .tag;
@@ -298,7 +301,7 @@ module _ {t : List ℕ} {thread fb : ℕ} {bs : List ℕ} {i : ℕ} {ls cs o : L
           cleared : Turning t thread fb bs i ls cs o n → Beside ls₁ ls₂ (fb + frameWords) (fb + frameWords + frameWords)
           cleared h = beside-wide (C .beside) (omega arith) (omega arith)
 
-          count : (h : Turning t thread fb bs i ls cs o n) (vs : List Value) → evals (h .a .env) (argsOf (asked h y .act)) ≡ is vs
+          count : (h : Turning t thread fb bs i ls cs o n) (vs : List Value) → evals (h .a .env) (argsOf (asked h y .act)) ≡ has vs
               → Clears ls₁ ls₂ (fb + frameWords + length vs) (fb + frameWords + frameWords)
           count h vs g =
               let same : b ≡ length vs = f ∙ call-here e h .1 ∙ sym (evals-length (h .a .env) (argsOf (asked h y .act)) g) in
@@ -349,12 +352,12 @@ module _ {t : List ℕ} {thread fb : ℕ} {bs : List ℕ} {i : ℕ} {ls cs o : L
         }
 
         -- it blocks
-        pub turns-blocked : Plainly u → r ≡ Blocked → Turns t thread fb bs i ls cs o n ls′ cs′ o′ T.Blocked
+        pub turns-blocked : {why : Reason} → Plainly u → r ≡ Blocked why → Turns t thread fb bs i ls cs o n ls′ cs′ o′ (T.Blocked why)
         turns-blocked k q = record {
-          beside = λ h. rw (C .still q .0) (beside-wide (above h) (omega arith) (omega arith));
+          beside = λ h. rw (C .still _ q .0) (beside-wide (above h) (omega arith) (omega arith));
           answers = λ h. record {
             code = λ s. doing h s ∙ carried-none h (asked h y .tag) (asked h y .instr) (asked h y .rest) u k (stopped q (went h)) s;
-            works = rw (C .still q .0, C .still q .1, C .still q .2) (working h);
+            works = rw (C .still _ q .0, C .still _ q .1, C .still _ q .2) (working h);
           };
         }
 

@@ -98,7 +98,7 @@ module _ {t : List ℕ} {thread fb : ℕ} {bs : List ℕ} {i : ℕ} {ls cs o : L
   Means h a s c (S.Test q j) = (h .c ≡ step a s c) × Leads (h .p) (h .m) (h .a .env) a s c (S.Test q j)
   Means h a s c (S.Call q j) = (h .c ≡ step a s c) × Leads (h .p) (h .m) (h .a .env) a s c (S.Call q j)
   Means h a s c (S.Select k e j) = (h .c ≡ step a s c) × Leads (h .p) (h .m) (h .a .env) a s c (S.Select k e j)
-  Means h a s c S.Blocked = Unit {0}
+  Means h a s c (S.Blocked why) = Unit {0}
 
   -- what is asked there
   pub record Asked (h : Turning t thread fb bs i ls cs o n) : Type 0 where
@@ -143,7 +143,7 @@ module _ {t : List ℕ} {thread fb : ℕ} {bs : List ℕ} {i : ℕ} {ls cs o : L
   means-first h a s c (S.Test q j) e l = (e, l)
   means-first h a s c (S.Call q j) e l = (e, l)
   means-first h a s c (S.Select k d j) e l = absurd l
-  means-first h a s c S.Blocked e l = tt
+  means-first h a s c (S.Blocked why) e l = tt
 
   -- at any other, an instruction
   asked-instr : (h : Turning t thread fb bs i ls cs o n) → (getD t i 0 ≡ 0 → ⊥) → (getD t i 0 ≡ 0x26 → ⊥) → Asked h

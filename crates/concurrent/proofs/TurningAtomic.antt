@@ -5,8 +5,10 @@ use mathlib.Core.Path.{_≡_, refl, sym, ap, subst, _∙_}
 use mathlib.Core.List.{List, [], _∷_}
 use mathlib.Core.Bool.{true}
 use lib.ListN.{length, getD}
-use Rattle.value.specs.Maybe.{Maybe, is, _>>=_}
-use Rattle.value.specs.Laws.Maybes.{is-inj, bind-is}
+use Rattle.value.specs.Maybe.{is}
+use Rattle.value.specs.Try.{Try, has, _⟫_}
+use Rattle.value.specs.declared.Reason.{Reason}
+use Rattle.value.specs.Laws.Tries.{has-inj, chain-has}
 use Rattle.format.specs.Syntax.{atomic, Block, step, concurrent}
 use Rattle.format.specs.Labels.{labelled, endsOf}
 use Rattle.labels.specs.LabelMap as Map
@@ -27,11 +29,11 @@ use Rattle.atomic.specs.Laws.Acting.{later, acts}
 use Rattle.atomic.specs.Laws.Standing.{Running, at-instr}
 use Rattle.atomic.specs.Laws.Threading.{beside-wide}
 use Rattle.atomic.proofs.Inside.{came, stopped}
-use Rattle.atomic.proofs.InsideBlock.{bare, same-later, bind-none}
+use Rattle.atomic.proofs.InsideBlock.{bare, same-later, chain-none}
 
 -- what an atomic block leaves, before code c of procedure m and above the frames s
-abbrev leaves : ℕ → Block ℕ → Stack ℕ → Atomic → Maybe (Moved ℕ)
-leaves m c s r = is (record { stack = record { proc = m; env = r .env; code = c } ∷ s; memory = r .memory; events = r .events })
+abbrev leaves : ℕ → Block ℕ → Stack ℕ → Atomic → Try (Moved ℕ)
+leaves m c s r = has (record { stack = record { proc = m; env = r .env; code = c } ∷ s; memory = r .memory; events = r .events })
 
 -- a block that is a little less deep
 deeper : {t : List ℕ} {i : ℕ} {b : Block ℕ} {j : ℕ} → BlockAt t i (maxNesting - 1) b j → BlockAt t i maxNesting b j
@@ -93,27 +95,27 @@ module _ {t : List ℕ} {thread fb : ℕ} {bs : List ℕ} {i : ℕ} {ls cs o : L
   module _ (h : Turning t thread fb bs i ls cs o n) (e : getD t i 0 ≡ 0x26) where
     -- what the code does is what the block does
     block-code : (s : Stack ℕ) → codeOf (h .p) thread (h .m) (h .c) (h .a) s
-        ≡ (act thread (atomic-block h e .block) (bare (h .a)) >>= leaves (h .m) (atomic-block h e .rest) s)
+        ≡ (act thread (atomic-block h e .block) (bare (h .a)) ⟫ leaves (h .m) (atomic-block h e .rest) s)
     block-code s =
         let b = atomic-block h e in
         ap (λ c. codeOf (h .p) thread (h .m) c (h .a) s) (b .code)
-        ∙ ap (_>>= leaves (h .m) (b .rest) s)
+        ∙ ap (_⟫ leaves (h .m) (b .rest) s)
         (acts (labelled (h .p) .procs) thread (h .m) (size (b .block)) (b .block) (omega arith) (b .allowed) (h .a .env) (h .a .memory) [])
 
   module _ {ls′ cs′ o′ : List ℕ} {r : Done} (e : getD t i 0 ≡ 0x26) (D : DoesWhole t thread fb bs (i + 1) maxNesting ls cs o n ls′ cs′ o′ r) where
     -- it blocks
-    pub turns-stopped : r ≡ Blocked → Turns t thread fb bs i ls cs o n ls′ cs′ o′ T.Blocked
+    pub turns-stopped : {why : Reason} → r ≡ Blocked why → Turns t thread fb bs i ls cs o n ls′ cs′ o′ (T.Blocked why)
     unfolding doing-atomic
     turns-stopped q = record {
-      beside = λ h. rw (D .still (doing-atomic e h) q .0) beside-same;
+      beside = λ h. rw (D .still (doing-atomic e h) _ q .0) beside-same;
       answers = λ h.
           let b = atomic-block h e in
-          let w = D .still (doing-atomic e h) q in
-          let none = bind-none (act thread (b .block) (bare (h .a))) _
+          let w = D .still (doing-atomic e h) _ q in
+          let none = chain-none (act thread (b .block) (bare (h .a))) _
           (sym (same-later thread (b .block) (h .a)) ∙ stopped q (D .does .does (doing-atomic e h)))
           in
           record {
-            code = λ s. block-code h e s ∙ ap (_>>= leaves (h .m) (b .rest) s) none;
+            code = λ s. block-code h e s ∙ ap (_⟫ leaves (h .m) (b .rest) s) none;
             works = rw (w .0, w .1, w .2) (h .works);
           };
     }
@@ -126,13 +128,13 @@ module _ {t : List ℕ} {thread fb : ℕ} {bs : List ℕ} {i : ℕ} {ls cs o : L
       answers = λ h.
           let b = atomic-block h e in
           let w = came q (D .does .does (doing-atomic e h)) in
-          let v = bind-is (act thread (b .block) (bare (h .a))) _ (sym (same-later thread (b .block) (h .a)) ∙ w .is) in
-          let same : later (h .a .events) (v .0) ≡ w .a = is-inj (v .2) in
+          let v = chain-has (act thread (b .block) (bare (h .a))) _ (sym (same-later thread (b .block) (h .a)) ∙ w .is) in
+          let same : later (h .a .events) (v .0) ≡ w .a = has-inj (v .2) in
           record {
             b = later (h .a .events) (v .0);
             new = v .0 .events;
             rest = b .rest;
-            code = λ s. block-code h e s ∙ ap (_>>= leaves (h .m) (b .rest) s) (v .1);
+            code = λ s. block-code h e s ∙ ap (_⟫ leaves (h .m) (b .rest) s) (v .1);
             label = ap (Map.next (endsOf (h .p) (h .m))) (sym (b .code));
             tag = b .tag;
             instr = atomic (b .block);

@@ -19,7 +19,7 @@ use Rattle.concurrent.specs.declared.machine.Ran.{Ran}
 use Rattle.semantics.specs.Memory.{fresh, Event}
 use Rattle.semantics.specs.Threads.{End}
 use Rattle.semantics.specs.Threads as P
-use Rattle.semantics.specs.Calls.{endNumber, maxEntries, Outcome, concurrentRun, concurrentOutcome}
+use Rattle.semantics.specs.Calls.{endNumber, reasonOf, maxEntries, Outcome, concurrentRun, concurrentOutcome}
 use Rattle.engine.specs.Work.{threadWords, Holds}
 use Rattle.engine.specs.Events.{Logged}
 use Rattle.atomic.specs.Threaded.{threadFrames, mostThreads, Threaded, allFrames}
@@ -64,8 +64,8 @@ pub record Begins (t : List ℕ) (i n : ℕ) (bounds labels depths : List ℕ) :
 -- ---- the run
 
 -- what a run came to
-abbrev pub ranWith : ℕ → ℕ → ℕ → Ran
-ranWith how taken events = record { end = how; taken = taken; events = events }
+abbrev pub ranWith : ℕ → ℕ → ℕ → ℕ → Ran
+ranWith how reason taken events = record { end = how; reason = reason; taken = taken; events = events }
 
 -- a table of n threads and a schedule of them; the stacks and the words of the locals and of the cells before the first step
 pub record Starting (t : List ℕ) (n : ℕ) (ts map bounds ss labels depths ls cs : List ℕ) : Type 0 where
@@ -83,6 +83,7 @@ pub record RanAs (p : Program Plain) (ts lent cs es : List ℕ) (r : Ran) : Type
   pub so-far : List Event
   pub same : concurrentRun p ts ≡ record { how = how; steps = r .taken; unused = length ts - r .taken; state = state; events = so-far }
   pub end : r .end ≡ endNumber how
+  pub reason : r .reason ≡ reasonOf how
   pub memory : Holds (state .memory) cs
   pub sizes : shape (state .memory) ≡ p .sizes
   pub taken : r .taken ≤ length ts

@@ -4,7 +4,8 @@ use mathlib.Core.Path.{_≡_}
 use mathlib.Core.List.{List, _++_}
 use mathlib.Core.Bool.{Bool, true, false}
 use lib.ListN.{length, getD, set}
-use Rattle.value.specs.Maybe.{is, nothing}
+use Rattle.value.specs.Try.{has, lacks}
+use Rattle.value.specs.declared.Reason.{Reason}
 use Rattle.format.specs.Syntax.{Program, Plain, concurrent}
 use Rattle.format.specs.Encode.{table}
 use Rattle.format.specs.Labels.{labelled}
@@ -60,19 +61,19 @@ module _ {t map bounds ss : List ℕ} {thread : ℕ} {labels depths ls cs o : Li
   -- the thread took its step
   pub record Went (k : ℕ) : Type 0 where
     pub step : P.Step
-    pub goes : P.threadStep (labelled (h .loaded .program)) thread (h .state) ≡ is step
+    pub goes : P.threadStep (labelled (h .loaded .program)) thread (h .state) ≡ has step
     pub present : Present (h .loaded .program) (h .lent) labels′ depths′ ls′ cs′ o′ k (step .state) (h .so-far ++ step .events)
     pub few : k ≤ n + length t
 
   -- it blocked: "the state stays as before the step, and no event of that step is written or counted"
-  pub record Stays : Type 0 where
-    pub blocks : P.threadStep (labelled (h .loaded .program)) thread (h .state) ≡ nothing
+  pub record Stays (why : Reason) : Type 0 where
+    pub blocks : P.threadStep (labelled (h .loaded .program)) thread (h .state) ≡ lacks why
     pub present : Present (h .loaded .program) (h .lent) labels′ depths′ ls′ cs′ o′ n (h .state) (h .so-far)
 
   -- what is so of each answer
   abbrev pub Answers : Stepped → Type 0
   Answers (To k) = Went k
-  Answers Blocked = Stays
+  Answers (Blocked why) = Stays why
 
 -- whatever run it is
 pub record Steps (t map bounds ss : List ℕ) (thread : ℕ) (labels depths ls cs o : List ℕ) (n : ℕ)
@@ -97,7 +98,7 @@ module _ (map bounds : List ℕ) (top : ℕ) (labels : List ℕ) where
   labelsAfter (T.Test q) = set labels top (testLabel map row q)
   labelsAfter (T.Call m) = set (set labels top (getD map (row + 2) 0)) (top + 1) (getD bounds (2 * m) 0)
   labelsAfter T.Return = labels
-  labelsAfter T.Blocked = labels
+  labelsAfter (T.Blocked why) = labels
 
 -- the depths then: a call has one frame more, a return one less
 abbrev pub depthsAfter : ℕ → List ℕ → Turn → List ℕ
@@ -105,7 +106,7 @@ depthsAfter thread depths (T.Next k) = depths
 depthsAfter thread depths (T.Test q) = depths
 depthsAfter thread depths (T.Call m) = set depths thread (getD depths thread 0 + 1)
 depthsAfter thread depths T.Return = set depths thread (getD depths thread 0 - 1)
-depthsAfter thread depths T.Blocked = depths
+depthsAfter thread depths (T.Blocked why) = depths
 
 -- whether a step was made, and how many events there are then, where there were n
 abbrev pub answerOf : ℕ → Turn → Stepped
@@ -113,7 +114,7 @@ answerOf n (T.Next k) = To k
 answerOf n (T.Test q) = To n
 answerOf n (T.Call m) = To n
 answerOf n T.Return = To n
-answerOf n T.Blocked = Blocked
+answerOf n (T.Blocked why) = Blocked why
 
 -- "P not 1..16": the procedure that is called is one of these
 abbrev pub Callee : Turn → Type 0
@@ -121,7 +122,7 @@ Callee (T.Next k) = Unit {0}
 Callee (T.Test q) = Unit {0}
 Callee (T.Call m) = m < limits concurrent .procs
 Callee T.Return = Unit {0}
-Callee T.Blocked = Unit {0}
+Callee (T.Blocked why) = Unit {0}
 
 -- all that the turn leads to is there
 pub record Moving (turn : Turn) (thread top : ℕ) (labels depths : List ℕ) : Type 0 where

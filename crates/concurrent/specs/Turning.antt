@@ -6,7 +6,9 @@ use mathlib.Core.List.{List, [], _∷_, _++_}
 use mathlib.Core.Bool.{Bool, false}
 use lib.ListN.{length}
 use lib.Dec.{eqb}
-use Rattle.value.specs.Maybe.{Maybe, is, nothing, either}
+use Rattle.value.specs.Maybe.{is, either}
+use Rattle.value.specs.Try.{Try, has, lacks}
+use Rattle.value.specs.declared.Reason.{Reason}
 use Rattle.value.specs.Lists.{at}
 use Rattle.value.specs.declared.Value.{Value}
 use Rattle.value.specs.Laws.Lists.{In}
@@ -40,7 +42,7 @@ pub record Turning (t : List ℕ) (thread fb : ℕ) (bs : List ℕ) (i : ℕ) (l
   pub few : n + length t < 2 ^ 64
 
 -- what code c of procedure m does above the frames s
-abbrev pub codeOf : Program Plain → ℕ → ℕ → Block ℕ → Atomic → Stack ℕ → Maybe (Moved ℕ)
+abbrev pub codeOf : Program Plain → ℕ → ℕ → Block ℕ → Atomic → Stack ℕ → Try (Moved ℕ)
 codeOf p thread m c a s = P.code (labelled p .procs) thread c m (a .env) s (a .memory)
 
 module _ (t : List ℕ) (p : Program Plain) (thread m : ℕ) (c : Block ℕ) (a : Atomic) (fb : ℕ) (bs es : List ℕ) (n : ℕ) (ls′ cs′ o′ : List ℕ) where
@@ -50,7 +52,7 @@ module _ (t : List ℕ) (p : Program Plain) (thread m : ℕ) (c : Block ℕ) (a 
     pub new : List Event
     pub rest : Block ℕ
     pub code : (s : Stack ℕ) → codeOf p thread m c a s
-        ≡ is (record { stack = record { proc = m; env = b .env; code = rest } ∷ s; memory = b .memory; events = new })
+        ≡ has (record { stack = record { proc = m; env = b .env; code = rest } ∷ s; memory = b .memory; events = new })
     pub label : first (endsOf p m) rest ≡ Map.next (endsOf p m) c
     pub tag : ℕ
     pub instr : Instr ℕ
@@ -67,7 +69,7 @@ module _ (t : List ℕ) (p : Program Plain) (thread m : ℕ) (c : Block ℕ) (a 
     pub rest : Block ℕ
     pub begins : c ≡ step tag instr rest
     pub code : (s : Stack ℕ)
-        → codeOf p thread m c a s ≡ is (quiet (record { proc = m; env = a .env; code = branch q tag instr rest } ∷ s) (a .memory))
+        → codeOf p thread m c a s ≡ has (quiet (record { proc = m; env = a .env; code = branch q tag instr rest } ∷ s) (a .memory))
     pub label : first (endsOf p m) (branch q tag instr rest) ≡ labelAfter q (endsOf p m) c
     pub works : Works fb bs es ls′ cs′ o′ n a
 
@@ -79,14 +81,14 @@ module _ (t : List ℕ) (p : Program Plain) (thread m : ℕ) (c : Block ℕ) (a 
     pub begins : c ≡ step tag instr rest
     pub called : Called p m (a .env) instr q
     pub code : (s : Stack ℕ) → either (eqb q m) (runs q s) ≡ false → codeOf p thread m c a s
-        ≡ is (quiet (entered q (called .proc) (called .values) ∷ record { proc = m; env = a .env; code = rest } ∷ s) (a .memory))
+        ≡ has (quiet (entered q (called .proc) (called .values) ∷ record { proc = m; env = a .env; code = rest } ∷ s) (a .memory))
     pub label : first (endsOf p m) rest ≡ Map.next (endsOf p m) c
     pub works : Works fb bs es ls′ cs′ o′ n a
     pub above : Framed ls′ (fb + frameWords) (entered q (called .proc) (called .values) .env)
 
   -- it blocks
-  pub record Stays : Type 0 where
-    pub code : (s : Stack ℕ) → codeOf p thread m c a s ≡ nothing
+  pub record Stays (why : Reason) : Type 0 where
+    pub code : (s : Stack ℕ) → codeOf p thread m c a s ≡ lacks why
     pub works : Works fb bs es ls′ cs′ o′ n a
 
   -- it returns
@@ -100,7 +102,7 @@ module _ (t : List ℕ) (p : Program Plain) (thread m : ℕ) (c : Block ℕ) (a 
   Answers (T.Test q) = Tested q
   Answers (T.Call q) = Calls q
   Answers T.Return = Returns
-  Answers T.Blocked = Stays
+  Answers (T.Blocked why) = Stays why
 
 -- the step was made, and words of no other frame but the one above are others
 pub record Turns (t : List ℕ) (thread fb : ℕ) (bs : List ℕ) (i : ℕ) (ls cs o : List ℕ) (n : ℕ) (ls′ cs′ o′ : List ℕ) (r : Turn) : Type 0 where

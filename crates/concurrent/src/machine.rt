@@ -16,6 +16,7 @@ use basics::numbers::THREAD_WORDS;
 use basics::numbers::THREADS;
 use basics::numbers::TRAILER;
 use basics::numbers::USED;
+use basics::reasons;
 use engine::locals;
 use engine::memory;
 use engine::table;
@@ -29,9 +30,10 @@ ghost use Rattle.engine.specs.Work.{programWords, Writes};
 ghost use Rattle.atomic.specs.Threaded.{mostThreads, allFrames};
 ghost use Rattle.concurrent.specs.Concurrent.{AllDone, MainsAt, Begins, ranWith, Starting, Runs, Entries, Accepted, Outcomes};
 
-// What a run came to: its end, the entries taken, each for a step, and the events recorded.
+// What a run came to: its end, the reason (0 unless it blocked), the entries taken, each for a step, and the events recorded.
 struct Ran {
     end: u8,
+    reason: u8,
     taken: usize,
     events: usize,
 }
@@ -73,10 +75,15 @@ fn begin(
 }
 
 // How a run ended.
-fn outcome(end: u8, taken: usize, events: usize) -> Ran
-    ensures { λ r. ⌜ r ≡ ranWith end taken events ⌝ }
+fn outcome(end: u8, reason: u8, taken: usize, events: usize) -> Ran
+    ensures { λ r. ⌜ r ≡ ranWith end reason taken events ⌝ }
 {
-    Ran { end, taken, events }
+    Ran {
+        end,
+        reason,
+        taken,
+        events,
+    }
 }
 
 // The run: "A finished run is answered before the schedule is asked". An entry that blocks is not taken.
@@ -102,12 +109,12 @@ fn go(
     let mut count = 0;
     loop {
         if finished(depths, threads) {
-            return outcome(FINISHED, taken, count);
+            return outcome(FINISHED, 0, taken, count);
         }
         if taken == schedule.len() {
-            return outcome(USED, taken, count);
+            return outcome(USED, 0, taken, count);
         }
-        let Stepped::To(after) = step(
+        match step(
             t,
             map,
             bounds,
@@ -119,10 +126,12 @@ fn go(
             cells,
             events,
             count,
-        ) else {
-            return outcome(BLOCKED, taken, count);
-        };
-        count = after;
+        ) {
+            Stepped::To(after) => count = after,
+            Stepped::Blocked(reason) => {
+                return outcome(BLOCKED, reasons::number(reason), taken, count);
+            }
+        }
         taken += 1;
     }
 }
@@ -181,5 +190,6 @@ pub fn run(
         steps: ran.taken as u64,
         unused: schedule.len() - ran.taken,
         events: ran.events as u64,
+        reason: ran.reason,
     }
 }

@@ -22,19 +22,21 @@ use engine::table;
 use labels::label_map::FIRST;
 use labels::label_map::NEXT;
 use labels::label_map::OTHER;
+use value::Reason;
 ghost use mathlib.Core.Path.{_≡_};
 ghost use Prim.Native.Nat.{_*_, _≤_};
 ghost use Rattle.format.specs.Rules.{maxLabels};
 ghost use Rattle.concurrent.specs.Turning.{Turning, Turns};
 ghost use Rattle.concurrent.specs.Stepping.{testLabel, Moving, Moves, Stepping, Steps};
 
-// What a step of a frame's code does: the code goes on, with so many events then; a test comes out; a procedure is called; it returns.
+// What a step of a frame's code does: the code goes on, with so many events then; a test comes out; a procedure is called; it returns; or why
+// it blocks.
 enum Turn {
     Next(usize),
     Test(bool),
     Call(usize),
     Return,
-    Blocked,
+    Blocked(Reason),
 }
 
 // One step of the code at `at`, over the locals of the frame at `base`: "one assign, read, write, test, call, return or whole atomic
@@ -55,20 +57,10 @@ fn take_turn(
         (now (words .exit)) (now (cells .exit)) (now (events .exit)) r ⌝ }
 {
     if t[at] == ATOMIC {
-        let Done::To { next: _, events: n } = do_atomic(
-            t,
-            at + 1,
-            thread,
-            base,
-            starts,
-            words,
-            cells,
-            events,
-            count,
-        ) else {
-            return Turn::Blocked;
+        return match do_atomic(t, at + 1, thread, base, starts, words, cells, events, count) {
+            Done::To { next: _, events: n } => Turn::Next(n),
+            Done::Blocked(reason) => Turn::Blocked(reason),
         };
-        return Turn::Next(n);
     }
     let step = decide(t, words, base, starts, cells, at);
     match step {
@@ -79,27 +71,17 @@ fn take_turn(
             locals::clear(words, above + table::byte(t, at + 3), above + FRAME);
             Turn::Call(procedure)
         }
-        _ => {
-            let Done::To { next: _, events: n } = carry_out(
-                step,
-                thread,
-                base,
-                words,
-                cells,
-                events,
-                count,
-            ) else {
-                return Turn::Blocked;
-            };
-            Turn::Next(n)
-        }
+        _ => match carry_out(step, thread, base, words, cells, events, count) {
+            Done::To { next: _, events: n } => Turn::Next(n),
+            Done::Blocked(reason) => Turn::Blocked(reason),
+        },
     }
 }
 
-// Whether a thread took its step, and how many events there are then.
+// How many events there are after a thread's step, or why it did not take it.
 pub enum Stepped {
     To(usize),
-    Blocked,
+    Blocked(Reason),
 }
 
 // The label that a test leads to, of those in a row of the map.
@@ -150,7 +132,7 @@ fn move_on(
             depths[thread] -= 1;
             Stepped::To(count)
         }
-        Turn::Blocked => Stepped::Blocked,
+        Turn::Blocked(reason) => Stepped::Blocked(reason),
     }
 }
 
@@ -174,9 +156,9 @@ pub fn step(
         (now (labels .exit)) (now (depths .exit)) (now (words .exit)) (now (cells .exit)) (now (events .exit)) r ⌝ }
 {
     let i = thread as usize;
-    // "A finished thread, .. blocks".
+    // "4 finished thread chosen".
     if depths[i] == 0 {
-        return Stepped::Blocked;
+        return Stepped::Blocked(Reason::FinishedThread);
     }
     let top = THREAD_FRAMES * i + depths[i] - 1;
     let at = map[NODE * labels[top]];

@@ -6,18 +6,25 @@ use mathlib.Core.Logic.{⊎-elim}
 use mathlib.Core.List.{List, [], _∷_, map}
 use mathlib.Core.Bool.{Bool, true, false}
 use lib.ListN.{length, getD}
+use lib.IntN.{ℤ, pos, negsuc}
 use types.Run.{OneOf, miss}
 use denote.Enum.Declared.{tagOf}
 use Rattle.value.proofs.Value.{the-type}
-use Rattle.value.specs.Maybe.{Maybe, is, nothing, _>>=_}
+use Rattle.engine.proofs.memory.Spot.{the-type as spot-type}
+use Rattle.value.specs.Maybe.{is}
+use Rattle.value.specs.Try.{Try, has, lacks, _⟫_, orLacks}
 use Rattle.value.specs.Values.{given}
 use Rattle.basics.specs.Places.{numberAt}
 use Rattle.value.specs.declared.Value.{Value}
 use Rattle.value.specs.declared.Value.the-variants.{Whole, Location, Truth}
 use Rattle.value.specs.declared.Answer.{Answer}
-use Rattle.value.specs.declared.Answer.the-variants.{Is, Nothing}
-use Rattle.value.specs.Laws.Maybes.{is-inj, missing}
-use Rattle.format.specs.Syntax.{Expr}
+use Rattle.value.specs.declared.Answer.the-variants as A
+use Rattle.basics.specs.Reasons.{lackOf}
+use Rattle.basics.specs.Laws.Reasons.{None, none-lacks}
+use Rattle.value.specs.declared.Reason.{Reason}
+use Rattle.value.specs.declared.Reason.the-variants.{WrongKind}
+use Rattle.value.specs.Laws.Tries.{has-inj, lacks-inj, lacking}
+use Rattle.format.specs.Syntax.{Expr, local}
 use Rattle.format.specs.Laws.Grammar.{ExprAt, expr-inside}
 use Rattle.format.specs.Decode.{maxDepth}
 use Rattle.engine.specs.declared.evaluate.Valued.{Valued}
@@ -27,10 +34,10 @@ use Rattle.engine.specs.declared.memory.Spot.{Spot}
 use Rattle.engine.specs.declared.memory.Spot.the-variants.{At, Nowhere}
 use Rattle.decide.specs.declared.step.Step.{Step}
 use Rattle.decide.specs.declared.step.Step.the-variants.{Return, Assign, Read, Write, Test, Call, Blocked}
-use Rattle.semantics.specs.Memory.{Env, lookup, eval, evals, index, Memory, cell}
-use Rattle.value.specs.Values.{place, truth}
-use Rattle.engine.specs.Work.{Beside, frameWords, Framed, Placed, Places}
-use Rattle.engine.specs.Words.{held}
+use Rattle.semantics.specs.Memory.{Env, eval, evals, index, Memory, cell}
+use Rattle.value.specs.Values.{number, place, truth}
+use Rattle.engine.specs.Work.{Beside, frameWords, Framed, spotReason, Placed, Places}
+use Rattle.engine.specs.Words.{valueIn}
 use Rattle.engine.specs.Evaluated.{Below, Ready, Evaluates}
 use Rattle.engine.specs.Laws.Work.{beside-same, framed-none}
 use Rattle.engine.specs.Laws.Holding.{cell-full, cell-word, cell-held}
@@ -146,8 +153,8 @@ module _ {t ls : List ℕ} {fb i : ℕ} where
         let w = see-assign (h .act) (h .here) q in
         let p = ready (h .framed) (w .3 .source) (w .3 .below .1) in
         A .step
-        ∙ ap₂ (λ a j. orBlocked (a >>= λ v. is (Assign (getD t (i + 1) 0) v j))) (E .value p) (E .next p)
-        ∙ ap (λ x. orBlocked (eval (h .env) (w .1) >>= λ v. is (Assign x v (h .j)))) (w .3 .target)
+        ∙ ap₂ (λ a j. orBlocked (a ⟫ λ v. has (Assign (getD t (i + 1) 0) v j))) (E .value p) (E .next p)
+        ∙ ap (λ x. orBlocked (eval (h .env) (w .1) ⟫ λ v. has (Assign x v (h .j)))) (w .3 .target)
         ∙ sym (ap (λ a. decided (h .env) η a (h .j)) (w .2));
   }
 
@@ -165,7 +172,7 @@ module _ {t ls : List ℕ} {fb i : ℕ} where
         let w = see-test (h .act) (h .here) q in
         let p = ready (h .framed) (w .2 .test) (w .2 .below) in
         A .step
-        ∙ ap₂ (λ a j. orBlocked (a >>= truth >>= λ b. is (Test b j))) (E .value p) (E .next p)
+        ∙ ap₂ (λ a j. orBlocked (a ⟫ truth ⟫ λ b. has (Test b j))) (E .value p) (E .next p)
         ∙ sym (ap (λ a. decided (h .env) η a (h .j)) (w .1));
   }
 
@@ -173,52 +180,63 @@ module _ {t ls : List ℕ} {fb i : ℕ} where
 
 module _ {t : List ℕ} {i : ℕ} {r : Valued} where
   -- "x := e"
-  pub assign-none : r .answer ≡ Nothing → AssignOf t i r Blocked
-  assign-none e = record { step = rw e }
+  pub assign-none : {q : Reason} → None (r .answer) → q ≡ lackOf (r .answer) → AssignOf t i r (Blocked q)
+  assign-none h e = record { step = rw (none-lacks (r .answer) h, e) }
 
-  pub assign-some : {v : Value} {x : ℕ} → r .answer ≡ Is v → x ≡ getD t (i + 1) 0 → AssignOf t i r (Assign x v (r .next))
+  pub assign-some : {v : Value} {x : ℕ} → r .answer ≡ A.Is v → x ≡ getD t (i + 1) 0 → AssignOf t i r (Assign x v (r .next))
   assign-some e a = record { step = rw (e, a) }
 
 module _ {r : Valued} where
   -- the test of a while or an if
-  pub test-none : r .answer ≡ Nothing → TestOf r Blocked
-  test-none e = record { step = rw e }
+  pub test-none : {q : Reason} → None (r .answer) → q ≡ lackOf (r .answer) → TestOf r (Blocked q)
+  test-none h e = record { step = rw (none-lacks (r .answer) h, e) }
 
-  pub test-other : {v : Value} → r .answer ≡ Is v → OneOf (0 ∷ 1 ∷ []) (tagOf the-type v) → TestOf r Blocked
+  pub test-other : {v : Value} → r .answer ≡ A.Is v → OneOf (0 ∷ 1 ∷ []) (tagOf the-type v) → TestOf r (Blocked WrongKind)
   test-other {v} e k = record { step = rw (e, no-truth v k) }
     where
-      no-truth : (v : Value) → OneOf (0 ∷ 1 ∷ []) (tagOf the-type v) → truth v ≡ nothing
+      no-truth : (v : Value) → OneOf (0 ∷ 1 ∷ []) (tagOf the-type v) → truth v ≡ lacks WrongKind
       no-truth (Truth b) h = absurd (miss (0 ∷ 1 ∷ []) 2 tt h)
       no-truth (Whole z) h = refl
       no-truth (Location l) h = refl
 
-  pub test-some : {v : Value} {b : Bool} → r .answer ≡ Is v → v ≡ Truth b → TestOf r (Test b (r .next))
+  pub test-some : {v : Value} {b : Bool} → r .answer ≡ A.Is v → v ≡ Truth b → TestOf r (Test b (r .next))
   test-some e f = record { step = rw (e, f) }
 
 -- ---- a pointer and an index
 
+-- a spot without a cell
+abbrev pub Off : Spot → Type 0
+Off s = OneOf (1 ∷ []) (tagOf spot-type s)
+
+-- it has a reason
+pub off-nowhere : (s : Spot) → Off s → s ≡ Nowhere (spotReason s)
+off-nowhere (Nowhere r) h = refl
+off-nowhere (At l i k) h = absurd (miss (1 ∷ []) 0 tt h)
+
 -- without a cell nothing is done
-nowhere : {A : Type 0} (η : Memory) (a b : Maybe ℕ) (f : ℕ → ℕ → Value → Maybe A) → (a >>= λ k. b >>= λ l. cell η l k) ≡ nothing
-    → (a >>= λ k. b >>= λ l. cell η l k >>= f l k) ≡ nothing
-nowhere η nothing b f e = refl
-nowhere η (is k) nothing f e = refl
-nowhere η (is k) (is l) f e = rw e
+nowhere : {A : Type 0} (η : Memory) (a : Try ℤ) (b : Try ℕ) (f : ℕ → ℕ → Value → Try A) {r : Reason}
+    → (a ⟫ λ z. b ⟫ λ l. index z ⟫ λ k. cell η l k) ≡ lacks r
+    → (a ⟫ λ z. b ⟫ λ l. index z ⟫ λ k. cell η l k ⟫ f l k) ≡ lacks r
+nowhere η (lacks q) b f e = ap lacks (lacks-inj e)
+nowhere η (has z) (lacks q) f e = ap lacks (lacks-inj e)
+nowhere η (has (negsuc n)) (has l) f e = ap lacks (lacks-inj e)
+nowhere η (has (pos k)) (has l) f e = rw e
 
 -- what the cell of a pointer and an index holds
-in-cell : {bs cs : List ℕ} (p o : Maybe Value) (a : Answer) {s : Spot} {l j c : ℕ} → Places bs p o s → s ≡ At l j c → given a ≡ held (getD cs c 0)
-    → (η : Memory) → Lies bs cs η → ((o >>= index) ≡ is j) × ((p >>= place) ≡ is l) × (cell η l j ≡ given a)
+in-cell : {bs cs : List ℕ} (p o : Try Value) (a : Answer) {s : Spot} {l j c : ℕ} → Places bs p o s → s ≡ At l j c → given a ≡ valueIn (getD cs c 0)
+    → (η : Memory) → Lies bs cs η → ((o ⟫ number) ≡ has (pos j)) × ((p ⟫ place) ≡ has l) × (cell η l j ≡ given a)
 in-cell p o a P n r η m =
     let found = subst (Placed η p o) n (P .placed η (m .bases)) in
     (found .0, found .1, sym (r ∙ cell-held (m .holds) (found .2)))
 
 -- what a value, an index and a pointer decide
-abbrev write-of : Memory → ℕ → Maybe Value → Maybe Value → Maybe Value → Step
+abbrev write-of : Memory → ℕ → Try Value → Try Value → Try Value → Step
 write-of η j a o p =
-    orBlocked (a >>= λ v. o >>= index >>= λ k. p >>= place >>= λ l. cell η l k >>= λ _. is (Write l k (numberOf η l k) v j))
+    orBlocked (a ⟫ λ v. o ⟫ number ⟫ λ z. p ⟫ place ⟫ λ l. index z ⟫ λ k. cell η l k ⟫ λ _. has (Write l k (numberOf η l k) v j))
 
 -- and an index and a pointer alone
-abbrev read-of : Memory → ℕ → ℕ → Maybe Value → Maybe Value → Step
-read-of η x j o p = orBlocked (o >>= index >>= λ k. p >>= place >>= λ l. cell η l k >>= λ v. is (Read x l k v j))
+abbrev read-of : Memory → ℕ → ℕ → Try Value → Try Value → Step
+read-of η x j o p = orBlocked (o ⟫ number ⟫ λ z. p ⟫ place ⟫ λ l. index z ⟫ λ k. cell η l k ⟫ λ v. has (Read x l k v j))
 
 module _ {t ls : List ℕ} {fb i : ℕ} where
   -- a local of the instruction is one of the frame's
@@ -226,8 +244,9 @@ module _ {t ls : List ℕ} {fb i : ℕ} where
   word h l e = omega (arith, h .framed .room)
 
   -- and what the frame says
-  holds : {y k : ℕ} {a : Maybe Value} (h : Poised t ls fb i) → y < length (h .env) → k ≡ y → a ≡ held (getD ls (fb + k) 0) → a ≡ lookup (h .env) y
-  holds {y} h l e g = g ∙ ap (λ k. held (getD ls (fb + k) 0)) e ∙ h .framed .each y l
+  holds : {y k : ℕ} {a : Try Value} (h : Poised t ls fb i) → y < length (h .env) → k ≡ y → a ≡ valueIn (getD ls (fb + k) 0)
+      → a ≡ eval (h .env) (local y)
+  holds {y} h l e g = g ∙ ap (λ k. valueIn (getD ls (fb + k) 0)) e ∙ ap (orLacks WrongKind) (h .framed .each y l)
 
   -- ---- "y[o] := e"
 
@@ -251,8 +270,8 @@ module _ {t ls : List ℕ} {fb i : ℕ} where
   write-word h q e = let w = see-write (h .act) (h .here) q in word h (w .4 .below .0) (e ∙ w .4 .pointer)
 
   -- what they decide
-  write-step : {x y : Valued} (m : Maybe Value) (h : Poised t ls fb i) (η : Memory) (q : getD t i 0 ≡ 0x21) → Evaluates t ls fb (i + 2) maxDepth x
-      → Evaluates t ls fb (x .next) maxDepth y → m ≡ lookup (h .env) (see-write (h .act) (h .here) q .0)
+  write-step : {x y : Valued} (m : Try Value) (h : Poised t ls fb i) (η : Memory) (q : getD t i 0 ≡ 0x21) → Evaluates t ls fb (i + 2) maxDepth x
+      → Evaluates t ls fb (x .next) maxDepth y → m ≡ eval (h .env) (local (see-write (h .act) (h .here) q .0))
       → write-of η (y .next) (given (y .answer)) (given (x .answer)) m ≡ decided (h .env) η (h .act) (h .j)
   write-step {x} {y} m h η q X Y g =
       let w = see-write (h .act) (h .here) q in
@@ -263,29 +282,29 @@ module _ {t ls : List ℕ} {fb i : ℕ} where
       ∙ sym (ap (λ a. decided (h .env) η a (h .j)) (w .3))
 
   -- the pointer as the code reads it
-  write-pointer : (h : Poised t ls fb i) (q : getD t i 0 ≡ 0x21) {a : Maybe Value} {k : ℕ} → k ≡ getD t (i + 1) 0 → a ≡ held (getD ls (fb + k) 0)
-      → a ≡ lookup (h .env) (see-write (h .act) (h .here) q .0)
+  write-pointer : (h : Poised t ls fb i) (q : getD t i 0 ≡ 0x21) {a : Try Value} {k : ℕ} → k ≡ getD t (i + 1) 0 → a ≡ valueIn (getD ls (fb + k) 0)
+      → a ≡ eval (h .env) (local (see-write (h .act) (h .here) q .0))
   write-pointer h q e g = let w = see-write (h .act) (h .here) q in holds h (w .4 .below .0) (e ∙ w .4 .pointer) g
 
   module _ {bs : List ℕ} {x y : Valued} (q : getD t i 0 ≡ 0x21) (X : Evaluates t ls fb (i + 2) maxDepth x)
       (Y : Evaluates t ls fb (x .next) maxDepth y) where
     -- there is no value
-    pub write-none : y .answer ≡ Nothing → Decides t ls fb i (Laid bs) Blocked
-    write-none e = record { step = λ h η b. rw (ap given e) at (write-step (lookup (h .env) (see-write (h .act) (h .here) q .0)) h η q X Y refl) }
+    pub write-none : {r : Reason} → None (y .answer) → r ≡ lackOf (y .answer) → Decides t ls fb i (Laid bs) (Blocked r)
+    write-none n e = record { step = λ h η b. rw e (rw (none-lacks (y .answer) n) at (write-step (eval (h .env) (local (see-write (h .act) (h .here) q .0))) h η q X Y refl)) }
 
     -- there is no such cell
-    pub write-nowhere : (p : Answer) {k : ℕ} {v : Value} {s : Spot} → y .answer ≡ Is v → k ≡ getD t (i + 1) 0 → given p ≡ held (getD ls (fb + k) 0)
-        → Places bs (given p) (given (x .answer)) s → s ≡ Nowhere → Decides t ls fb i (Laid bs) Blocked
-    write-nowhere p {v = v} e a g P n = record {
+    pub write-nowhere : (p : Answer) {k : ℕ} {v : Value} {s : Spot} {r : Reason} → y .answer ≡ A.Is v → k ≡ getD t (i + 1) 0 → given p ≡ valueIn (getD ls (fb + k) 0)
+        → Places bs (given p) (given (x .answer)) s → Off s → r ≡ spotReason s → Decides t ls fb i (Laid bs) (Blocked r)
+    write-nowhere p {v = v} {s} e a g P n w = rw w (record {
       step = λ h η b.
-          let none = nowhere η (given (x .answer) >>= index) (given p >>= place) (λ l k u. is (Write l k (numberOf η l k) v (y .next)))
-          (subst (Placed η (given p) (given (x .answer))) n (P .placed η (b .bases))) in
+          let none = nowhere η (given (x .answer) ⟫ number) (given p ⟫ place) (λ l k u. has (Write l k (numberOf η l k) v (y .next)))
+          (subst (Placed η (given p) (given (x .answer))) (off-nowhere s n) (P .placed η (b .bases))) in
           sym (ap orBlocked none) ∙ rw (ap given e) at (write-step (given p) h η q X Y (write-pointer h q a g));
-    }
+    })
 
     -- there is one
-    pub write-some : (p : Answer) {k : ℕ} {v : Value} {s : Spot} {l j c : ℕ} → y .answer ≡ Is v → k ≡ getD t (i + 1) 0
-        → given p ≡ held (getD ls (fb + k) 0) → Places bs (given p) (given (x .answer)) s → s ≡ At l j c
+    pub write-some : (p : Answer) {k : ℕ} {v : Value} {s : Spot} {l j c : ℕ} → y .answer ≡ A.Is v → k ≡ getD t (i + 1) 0
+        → given p ≡ valueIn (getD ls (fb + k) 0) → Places bs (given p) (given (x .answer)) s → s ≡ At l j c
         → Decides t ls fb i (Laid bs) (Write l j c v (y .next))
     write-some p {v = v} {l = l} {j} {c} e a g P n = record {
       step = λ h η b.
@@ -306,8 +325,8 @@ module _ {t ls : List ℕ} {fb i : ℕ} where
   read-word h q e = let w = see-read (h .act) (h .here) q in word h (w .4 .below .1) (e ∙ w .4 .pointer)
 
   -- what they decide
-  read-step : {x : Valued} {m : Maybe Value} {k z : ℕ} (h : Poised t ls fb i) (η : Memory) → getD t i 0 ≡ 0x22 → Evaluates t ls fb (i + 3) maxDepth x
-      → k ≡ getD t (i + 2) 0 → m ≡ held (getD ls (fb + k) 0) → z ≡ getD t (i + 1) 0
+  read-step : {x : Valued} {m : Try Value} {k z : ℕ} (h : Poised t ls fb i) (η : Memory) → getD t i 0 ≡ 0x22 → Evaluates t ls fb (i + 3) maxDepth x
+      → k ≡ getD t (i + 2) 0 → m ≡ valueIn (getD ls (fb + k) 0) → z ≡ getD t (i + 1) 0
       → read-of η z (x .next) (given (x .answer)) m ≡ decided (h .env) η (h .act) (h .j)
   read-step {x} {m} {k} {z} h η q X e g a =
       let w = see-read (h .act) (h .here) q in
@@ -317,27 +336,27 @@ module _ {t ls : List ℕ} {fb i : ℕ} where
       ∙ sym (ap (λ a. decided (h .env) η a (h .j)) (w .3))
 
   module _ {bs cs : List ℕ} {x : Valued} (p : Answer) {k : ℕ} {s : Spot} (q : getD t i 0 ≡ 0x22) (X : Evaluates t ls fb (i + 3) maxDepth x)
-      (e : k ≡ getD t (i + 2) 0) (g : given p ≡ held (getD ls (fb + k) 0)) (P : Places bs (given p) (given (x .answer)) s) where
+      (e : k ≡ getD t (i + 2) 0) (g : given p ≡ valueIn (getD ls (fb + k) 0)) (P : Places bs (given p) (given (x .answer)) s) where
     -- there is no such cell
-    pub read-nowhere : s ≡ Nowhere → Decides t ls fb i (Lies bs cs) Blocked
-    read-nowhere n = record {
+    pub read-nowhere : {r : Reason} → Off s → r ≡ spotReason s → Decides t ls fb i (Lies bs cs) (Blocked r)
+    read-nowhere n w = rw w (record {
       step = λ h η m.
-          let none = nowhere η (given (x .answer) >>= index) (given p >>= place) (λ l k v. is (Read (getD t (i + 1) 0) l k v (x .next)))
-          (subst (Placed η (given p) (given (x .answer))) n (P .placed η (m .bases))) in
+          let none = nowhere η (given (x .answer) ⟫ number) (given p ⟫ place) (λ l k v. has (Read (getD t (i + 1) 0) l k v (x .next)))
+          (subst (Placed η (given p) (given (x .answer))) (off-nowhere s n) (P .placed η (m .bases))) in
           sym (ap orBlocked none) ∙ read-step h η q X e g refl;
-    }
+    })
 
     -- it holds nothing
-    pub read-empty : {l j c : ℕ} (a : Answer) → s ≡ At l j c → given a ≡ held (getD cs c 0) → a ≡ Nothing
-        → Decides t ls fb i (Lies bs cs) Blocked
-    read-empty a n r f = record {
+    pub read-empty : {l j c : ℕ} (a : Answer) {r : Reason} → s ≡ At l j c → given a ≡ valueIn (getD cs c 0) → None a → r ≡ lackOf a
+        → Decides t ls fb i (Lies bs cs) (Blocked r)
+    read-empty a n r f z = rw z (record {
       step = λ h η m.
           let w = in-cell (given p) (given (x .answer)) a P n r η m in
-          rw (w .0, w .1, w .2, ap given f) at (read-step {z = getD t (i + 1) 0} h η q X e g refl);
-    }
+          rw (w .0, w .1, w .2, none-lacks a f) at (read-step {z = getD t (i + 1) 0} h η q X e g refl);
+    })
 
     -- it holds a value
-    pub read-some : {l j c z : ℕ} (a : Answer) {v : Value} → s ≡ At l j c → given a ≡ held (getD cs c 0) → a ≡ Is v → z ≡ getD t (i + 1) 0
+    pub read-some : {l j c z : ℕ} (a : Answer) {v : Value} → s ≡ At l j c → given a ≡ valueIn (getD cs c 0) → a ≡ A.Is v → z ≡ getD t (i + 1) 0
         → Decides t ls fb i (Lies bs cs) (Read z l j v (x .next))
     read-some a n r f b = record {
       step = λ h η m.
@@ -346,7 +365,7 @@ module _ {t ls : List ℕ} {fb i : ℕ} where
     }
 
 -- a cell that is found is one of the words
-pub found-word : {bs cs : List ℕ} (p o : Maybe Value) {s : Spot} {l j c : ℕ} → Kept bs cs → Places bs p o s → s ≡ At l j c → c < length cs
+pub found-word : {bs cs : List ℕ} (p o : Try Value) {s : Spot} {l j c : ℕ} → Kept bs cs → Places bs p o s → s ≡ At l j c → c < length cs
 found-word p o k P n = cell-word (k .lies .holds) (subst (Placed (k .memory) p o) n (P .placed (k .memory) (k .lies .bases)) .2)
 
 -- ---- "call procedure m"
@@ -380,20 +399,20 @@ module _ {t ls : List ℕ} {fb i : ℕ} where
         rw same (P .beside)
 
     -- one has no value
-    pub call-none : {M : Memory → Type 0} → r ≡ Missing → DecidesAll t ls ls′ fb i M Blocked
-    call-none n =
-        let none : (h : Poised t ls fb i) → evals (h .env) (see-call (h .act) (h .here) q .1) ≡ nothing =
+    pub call-none : {M : Memory → Type 0} {x : Reason} → r ≡ Missing x → DecidesAll t ls ls′ fb i M (Blocked x)
+    call-none {x = x} n =
+        let none : (h : Poised t ls fb i) → evals (h .env) (see-call (h .act) (h .here) q .1) ≡ lacks x =
         λ h. subst (PassedAs (args h q e) ls′) n (P .passed (args h q e))
         in
         record {
           decides = record {
             step = λ h η m.
                 let w = see-call (h .act) (h .here) q in
-                sym (ap (λ x. orBlocked (x >>= λ vs. is (Call (w .0) (h .j)))) (none h)) ∙ sym (ap (λ a. decided (h .env) η a (h .j)) (w .2));
+                sym (ap (λ x. orBlocked (x ⟫ λ vs. has (Call (w .0) (h .j)))) (none h)) ∙ sym (ap (λ a. decided (h .env) η a (h .j)) (w .2));
           };
           passes = record {
             beside = call-beside;
-            passed = λ h vs f. missing (sym (none h) ∙ sym (ap (λ a. evals (h .env) (argsOf a)) (see-call (h .act) (h .here) q .2)) ∙ f);
+            passed = λ h vs f. lacking (sym (none h) ∙ sym (ap (λ a. evals (h .env) (argsOf a)) (see-call (h .act) (h .here) q .2)) ∙ f);
           };
         }
 
@@ -406,14 +425,14 @@ module _ {t ls : List ℕ} {fb i : ℕ} where
             step = λ h η x.
                 let w = see-call (h .act) (h .here) q in
                 ap₂ Call (a ∙ w .3 .callee) (all h .0)
-                ∙ sym (ap (λ x. orBlocked (x >>= λ vs. is (Call (w .0) (h .j)))) (all h .1 .1))
+                ∙ sym (ap (λ x. orBlocked (x ⟫ λ vs. has (Call (w .0) (h .j)))) (all h .1 .1))
                 ∙ sym (ap (λ a. decided (h .env) η a (h .j)) (w .2));
           };
           passes = record {
             beside = call-beside;
             passed = λ h vs f.
                 let w = see-call (h .act) (h .here) q in
-                let same : all h .1 .0 ≡ vs = is-inj (sym (all h .1 .1) ∙ sym (ap (λ a. evals (h .env) (argsOf a)) (w .2)) ∙ f) in
+                let same : all h .1 .0 ≡ vs = has-inj (sym (all h .1 .1) ∙ sym (ap (λ a. evals (h .env) (argsOf a)) (w .2)) ∙ f) in
                 subst (λ vs. Framed ls′ (fb + frameWords) (map is vs)) same (all h .1 .2);
           };
         }
@@ -446,7 +465,7 @@ module _ {t ls : List ℕ} {fb i : ℕ} where
   no-args n = record {
     beside = λ h. beside-same;
     passed = λ h vs f.
-        let none : vs ≡ [] = sym (is-inj (sym (ap (evals (h .env)) (see-no-call t i (length (h .env)) (h .act) (h .j) (h .here) n)) ∙ f)) in
+        let none : vs ≡ [] = sym (has-inj (sym (ap (evals (h .env)) (see-no-call t i (length (h .env)) (h .act) (h .j) (h .here) n)) ∙ f)) in
         rw none (framed-none (omega (arith, h .room)));
   }
 

@@ -5,10 +5,14 @@ use mathlib.Core.Path.{_≡_, refl, sym, ap, subst, _∙_}
 use mathlib.Core.List.{List, [], _∷_, _++_, append-assoc, append-nil, map}
 use mathlib.Core.List as L
 use lib.ListN.{length, length-append, length-map}
-use Rattle.value.specs.Maybe.{Maybe, is, nothing, _>>=_}
+use Rattle.value.specs.Maybe.{is}
+use Rattle.value.specs.Try.{Try, has, lacks, _⟫_}
 use Rattle.value.specs.Values.{given}
 use Rattle.value.specs.declared.Value.{Value}
-use Rattle.value.specs.declared.Answer.the-variants.{Is, Nothing}
+use Rattle.value.specs.declared.Answer.the-variants as A
+use Rattle.basics.specs.Reasons.{lackOf}
+use Rattle.basics.specs.Laws.Reasons.{None, none-lacks}
+use Rattle.value.specs.declared.Reason.{Reason}
 use Rattle.value.specs.Laws.Lists.{Each}
 use Rattle.format.specs.Syntax.{Expr}
 use Rattle.format.specs.Laws.Grammar.{ExprsAt, MoreAt, exprs-none, exprs-more}
@@ -25,7 +29,7 @@ use Rattle.engine.specs.Laws.Work.{beside-same, beside-put, beside-then, framed
 pub record On {t ls : List ℕ} {fb i n : ℕ} (h : Passable t ls fb i n) (ls′ : List ℕ) (a k : ℕ) : Type 0 where
   pub vs : List Value
   pub rest : List Expr
-  pub so : evals (h .env) (h .es) ≡ (evals (h .env) rest >>= λ us. is (vs ++ us))
+  pub so : evals (h .env) (h .es) ≡ (evals (h .env) rest ⟫ λ us. has (vs ++ us))
   pub here : ExprsAt t a (n - k) rest (h .j)
   pub below : Each (Below (length (h .env))) rest
   pub framed : Framed ls′ fb (h .env)
@@ -39,15 +43,15 @@ pub record Passing (t ls ls′ : List ℕ) (fb i n a k : ℕ) : Type 0 where
   pub on : (h : Passable t ls fb i n) → On h ls′ a k
 
 -- nothing is missing in no values
-more-none : (m : Maybe (List Value)) → m ≡ (m >>= λ us. is ([] ++ us))
-more-none nothing = refl
-more-none (is us) = refl
+more-none : (m : Try (List Value)) → m ≡ (m ⟫ λ us. has ([] ++ us))
+more-none (lacks r) = refl
+more-none (has us) = refl
 
 -- a value, and then others
-more-one : (vs : List Value) (v : Value) (m : Maybe (List Value))
-    → ((m >>= λ us. is (v ∷ us)) >>= λ us. is (vs ++ us)) ≡ (m >>= λ us. is ((vs ++ (v ∷ [])) ++ us))
-more-one vs v nothing = refl
-more-one vs v (is us) = ap is (sym (append-assoc vs (v ∷ []) us))
+more-one : (vs : List Value) (v : Value) (m : Try (List Value))
+    → ((m ⟫ λ us. has (v ∷ us)) ⟫ λ us. has (vs ++ us)) ≡ (m ⟫ λ us. has ((vs ++ (v ∷ [])) ++ us))
+more-one vs v (lacks r) = refl
+more-one vs v (has us) = ap has (sym (append-assoc vs (v ∷ []) us))
 
 -- fewer words touched
 wider : {ws ws′ : List ℕ} {a k n : ℕ} → Beside ws ws′ a (a + k) → k ≤ n → Beside ws ws′ a (a + n)
@@ -101,20 +105,20 @@ module _ {t ls : List ℕ} {fb i n : ℕ} where
     module _ {r : Valued} (P : Passing t ls ls′ fb i n a k) (l : k < n) (E : Evaluates t ls′ fb a maxDepth r) where
       -- what is left to evaluate
       left : (h : Passable t ls fb i n) → let w = next h P l in
-          evals (h .env) (h .es) ≡ (given (r .answer) >>= λ v. evals (h .env) (w .rest) >>= λ us. is (v ∷ us)) >>= λ us. is (P .on h .vs ++ us)
+          evals (h .env) (h .es) ≡ (given (r .answer) ⟫ λ v. evals (h .env) (w .rest) ⟫ λ us. has (v ∷ us)) ⟫ λ us. has (P .on h .vs ++ us)
       left h =
           let o = P .on h in
           let w = next h P l in
           o .so
-          ∙ ap (λ es. evals (h .env) es >>= λ us. is (o .vs ++ us)) (w .is)
-          ∙ ap (λ m. (m >>= λ v. evals (h .env) (w .rest) >>= λ us. is (v ∷ us)) >>= λ us. is (o .vs ++ us)) (sym (E .value (ready h P l)))
+          ∙ ap (λ es. evals (h .env) es ⟫ λ us. has (o .vs ++ us)) (w .is)
+          ∙ ap (λ m. (m ⟫ λ v. evals (h .env) (w .rest) ⟫ λ us. has (v ∷ us)) ⟫ λ us. has (o .vs ++ us)) (sym (E .value (ready h P l)))
 
       -- it has no value
-      pub passing-none : r .answer ≡ Nothing → PassesAll t ls ls′ fb i n Missing
-      passing-none e = record { beside = wider (P .beside) (P .within); passed = λ h. rw (ap given e) at (left h) }
+      pub passing-none : {q : Reason} → None (r .answer) → q ≡ lackOf (r .answer) → PassesAll t ls ls′ fb i n (Missing q)
+      passing-none n e = rw e (record { beside = wider (P .beside) (P .within); passed = λ h. rw (none-lacks (r .answer) n) at (left h) })
 
       -- it has one
-      pub passing-more : {v : Value} {ls″ : List ℕ} → r .answer ≡ Is v → Puts ls′ ls″ (fb + frameWords + k) v
+      pub passing-more : {v : Value} {ls″ : List ℕ} → r .answer ≡ A.Is v → Puts ls′ ls″ (fb + frameWords + k) v
           → Passing t ls ls″ fb i n (r .next) (k + 1)
       passing-more {v} {ls″} e p = record {
         within = omega arith;
@@ -148,8 +152,8 @@ module _ {t ls : List ℕ} {fb i n : ℕ} where
       passed = λ h.
           let o = P .on h in
           let none = exprs-none (o .here) (omega arith) in
-          let all : evals (h .env) (h .es) ≡ is (o .vs) =
-          o .so ∙ ap (λ es. evals (h .env) es >>= λ us. is (o .vs ++ us)) (none .0) ∙ ap is (append-nil (o .vs))
+          let all : evals (h .env) (h .es) ≡ has (o .vs) =
+          o .so ∙ ap (λ es. evals (h .env) es ⟫ λ us. has (o .vs ++ us)) (none .0) ∙ ap has (append-nil (o .vs))
           in
           (sym (none .1), (o .vs, all, o .args));
     }

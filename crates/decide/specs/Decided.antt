@@ -7,13 +7,15 @@ use mathlib.Core.Bool as B
 use mathlib.Core.Bool.{Bool}
 use lib.ListN.{length, getD, take}
 use lib.Dec.{eqb}
-use Rattle.value.specs.Maybe.{Maybe, is, nothing, _>>=_, when, pick, either}
+use Rattle.value.specs.Maybe.{Maybe, is, nothing, pick, either}
+use Rattle.value.specs.Try.{Try, has, lacks, _⟫_, provided, orLacks}
 use Rattle.value.specs.Lists.{at, sum}
 use Rattle.value.specs.Values.{given}
 use Rattle.basics.specs.Places.{numberAt}
 use Rattle.value.specs.declared.Value.{Value}
+use Rattle.value.specs.declared.Reason.the-variants.{WrongKind}
 use Rattle.value.specs.Laws.Lists.{Each}
-use Rattle.format.specs.Syntax.{Expr, Instr, assign, write, read, while, if, call, atomic, select, Block, step, _⊕_, Proc}
+use Rattle.format.specs.Syntax.{Expr, local, Instr, assign, write, read, while, if, call, atomic, select, Block, step, _⊕_, Proc}
 use Rattle.format.specs.Encode.{expr, instr}
 use Rattle.format.specs.Laws.Grammar.{ExprAt, ExprsAt}
 use Rattle.format.specs.Decode.{maxDepth}
@@ -22,8 +24,8 @@ use Rattle.decide.specs.declared.step.Passed.{Passed}
 use Rattle.decide.specs.declared.step.Passed.the-variants.{All, Missing}
 use Rattle.decide.specs.declared.step.Step.{Step}
 use Rattle.decide.specs.declared.step.Step.the-variants.{Return, Assign, Read, Write, Test, Call, Select, Blocked}
-use Rattle.semantics.specs.Memory.{Env, lookup, bound, eval, evals, index, Memory, cell, stored, reading, writing}
-use Rattle.value.specs.Values.{place, truth}
+use Rattle.semantics.specs.Memory.{Env, bound, eval, evals, index, Memory, cell, stored, reading, writing}
+use Rattle.value.specs.Values.{number, place, truth}
 use Rattle.semantics.specs.Step.{Stack, Moved, entered, quiet, runs}
 use Rattle.semantics.specs.Copy.{running}
 use Rattle.engine.specs.Work.{Beside, frameWords, Framed, Holds, Bases, IsCell}
@@ -79,27 +81,29 @@ abbrev pub numberOf : Memory → ℕ → ℕ → ℕ
 numberOf η l i = sum (take l (shape η)) + i
 
 -- what is done, if nothing is missing; j is where the instruction, or its test, ends
-abbrev pub deed : Env → Memory → Act → ℕ → Maybe Step
-deed ρ η (assigns x e) j = eval ρ e >>= λ v. is (Assign x v j)
+abbrev pub deed : Env → Memory → Act → ℕ → Try Step
+deed ρ η (assigns x e) j = eval ρ e ⟫ λ v. has (Assign x v j)
 deed ρ η (writes y o e) j =
-    eval ρ e >>= λ v.
-    eval ρ o >>= index >>= λ i.
-    lookup ρ y >>= place >>= λ l.
-    cell η l i >>= λ _.
-    is (Write l i (numberOf η l i) v j)
+    eval ρ e ⟫ λ v.
+    eval ρ o ⟫ number ⟫ λ z.
+    eval ρ (local y) ⟫ place ⟫ λ l.
+    index z ⟫ λ i.
+    cell η l i ⟫ λ _.
+    has (Write l i (numberOf η l i) v j)
 deed ρ η (reads x y o) j =
-    eval ρ o >>= index >>= λ i.
-    lookup ρ y >>= place >>= λ l.
-    cell η l i >>= λ v.
-    is (Read x l i v j)
-deed ρ η (tests e) j = eval ρ e >>= truth >>= λ q. is (Test q j)
-deed ρ η (calls m es) j = evals ρ es >>= λ vs. is (Call m j)
-deed ρ η returns j = is Return
+    eval ρ o ⟫ number ⟫ λ z.
+    eval ρ (local y) ⟫ place ⟫ λ l.
+    index z ⟫ λ i.
+    cell η l i ⟫ λ v.
+    has (Read x l i v j)
+deed ρ η (tests e) j = eval ρ e ⟫ truth ⟫ λ q. has (Test q j)
+deed ρ η (calls m es) j = evals ρ es ⟫ λ vs. has (Call m j)
+deed ρ η returns j = has Return
 
--- "a missing value, a wrong kind or an index outside the size blocks"
-abbrev pub orBlocked : Maybe Step → Step
-orBlocked (is s) = s
-orBlocked nothing = Blocked
+-- "a missing value, a wrong kind or an index outside the size blocks", and says why
+abbrev pub orBlocked : Try Step → Step
+orBlocked (has s) = s
+orBlocked (lacks r) = Blocked r
 
 -- the step of an act
 abbrev pub decided : Env → Memory → Act → ℕ → Step
@@ -131,29 +135,29 @@ argsIn (select a b) = []
 
 -- what it leaves, of instruction i with tag a, first in procedure m with locals ρ, before c and above the frames s: report RR-2017-03, figure 1
 module _ {A : Type 0} (procs : List (Proc A)) (t m : ℕ) (ρ : Env) (a : A) (i : Instr A) (c : Block A) (s : Stack A) (η : Memory) where
-  abbrev pub carried : Step → Maybe (Moved A)
-  carried (Assign x v j) = is (quiet (record { proc = m; env = bound ρ x v; code = c } ∷ s) η)
+  abbrev pub carried : Step → Try (Moved A)
+  carried (Assign x v j) = has (quiet (record { proc = m; env = bound ρ x v; code = c } ∷ s) η)
   carried (Read x l k v j) =
-      is (record {
+      has (record {
         stack = record { proc = m; env = bound ρ x v; code = c } ∷ s;
         memory = η;
         events = record { thread = t; way = reading; place = l; index = k; value = v } ∷ [];
       })
   carried (Write l k n v j) =
-      is (record {
+      has (record {
         stack = record { proc = m; env = ρ; code = c } ∷ s;
         memory = stored η l k v;
         events = record { thread = t; way = writing; place = l; index = k; value = v } ∷ [];
       })
-  carried (Test q j) = is (quiet (record { proc = m; env = ρ; code = branch q a i c } ∷ s) η)
+  carried (Test q j) = has (quiet (record { proc = m; env = ρ; code = branch q a i c } ∷ s) η)
   carried (Call n j) =
-      evals ρ (argsIn i) >>= λ vs.
-      at procs n >>= λ p.
-      when (B.not (either (eqb n m) (runs n s)))
-      (is (quiet (entered n p vs ∷ record { proc = m; env = ρ; code = c } ∷ s) η))
-  carried Return = is (quiet s η)
-  carried (Select k e j) = nothing
-  carried Blocked = nothing
+      evals ρ (argsIn i) ⟫ λ vs.
+      orLacks WrongKind (at procs n) ⟫ λ p.
+      provided (B.not (either (eqb n m) (runs n s))) WrongKind
+      (quiet (entered n p vs ∷ record { proc = m; env = ρ; code = c } ∷ s) η)
+  carried Return = has (quiet s η)
+  carried (Select k e j) = lacks WrongKind
+  carried (Blocked r) = lacks r
 
 -- the local that an act sets
 abbrev pub targetOf : Act → Maybe ℕ
@@ -179,14 +183,14 @@ Right ρ η k j (Assign x v n) = (n ≡ j) × (targetOf k ≡ is x)
 Right ρ η k j (Read x l i v n) = (n ≡ j) × (targetOf k ≡ is x)
 Right ρ η k j (Write l i c v n) = (n ≡ j) × IsCell η l i c
 Right ρ η k j (Test q n) = n ≡ j
-Right ρ η k j (Call m n) = (n ≡ j) × (calleeOf k ≡ is m) × ((vs : List Value) × (evals ρ (argsOf k) ≡ is vs))
+Right ρ η k j (Call m n) = (n ≡ j) × (calleeOf k ≡ is m) × ((vs : List Value) × (evals ρ (argsOf k) ≡ has vs))
 Right ρ η k j Return = k ≡ returns
 Right ρ η k j (Select c e n) = ⊥
-Right ρ η k j Blocked = Unit {0}
+Right ρ η k j (Blocked r) = Unit {0}
 
 -- "Select .. writes t into a[0], .. if b[t] exists and is a number other than 0"
 abbrev pub chosen : Memory → ℕ → ℕ → ℕ → ℕ → Step
-chosen η a b t j = orBlocked (cell η b t >>= λ v. when (running v) (is (Select (numberOf η a 0) t j)))
+chosen η a b t j = orBlocked (cell η b t ⟫ running ⟫ λ _. has (Select (numberOf η a 0) t j))
 
 -- ---- where it stands
 
@@ -309,16 +313,16 @@ pub record Decides (t ls : List ℕ) (fb i : ℕ) (M : Memory → Type 0) (s : S
 
 -- the step of "x := e" at i, by what e came to
 pub record AssignOf (t : List ℕ) (i : ℕ) (e : Valued) (s : Step) : Type 0 where
-  pub step : s ≡ orBlocked (given (e .answer) >>= λ v. is (Assign (getD t (i + 1) 0) v (e .next)))
+  pub step : s ≡ orBlocked (given (e .answer) ⟫ λ v. has (Assign (getD t (i + 1) 0) v (e .next)))
 
 -- the step of a while or an if, by what its test came to
 pub record TestOf (e : Valued) (s : Step) : Type 0 where
-  pub step : s ≡ orBlocked (given (e .answer) >>= truth >>= λ q. is (Test q (e .next)))
+  pub step : s ≡ orBlocked (given (e .answer) ⟫ truth ⟫ λ q. has (Test q (e .next)))
 
 -- the arguments of a call were passed: the words of the frame above hold their values; or one has none
 abbrev pub PassedAs : {t ls : List ℕ} {fb i n : ℕ} → Passable t ls fb i n → List ℕ → Passed → Type 0
-PassedAs {fb = fb} h ls′ (All k) = (k ≡ h .j) × ((vs : List Value) × (evals (h .env) (h .es) ≡ is vs) × Framed ls′ (fb + frameWords) (map is vs))
-PassedAs h ls′ Missing = evals (h .env) (h .es) ≡ nothing
+PassedAs {fb = fb} h ls′ (All k) = (k ≡ h .j) × ((vs : List Value) × (evals (h .env) (h .es) ≡ has vs) × Framed ls′ (fb + frameWords) (map is vs))
+PassedAs h ls′ (Missing r) = evals (h .env) (h .es) ≡ lacks r
 
 -- and no other words were touched
 pub record PassesAll (t ls ls′ : List ℕ) (fb i n : ℕ) (r : Passed) : Type 0 where
@@ -328,7 +332,7 @@ pub record PassesAll (t ls ls′ : List ℕ) (fb i n : ℕ) (r : Passed) : Type 
 -- the same of what stands at i, a call or not
 pub record Passes (t ls ls′ : List ℕ) (fb i : ℕ) : Type 0 where
   pub beside : (h : Poised t ls fb i) → Beside ls ls′ (fb + frameWords) (fb + frameWords + length (argsOf (h .act)))
-  pub passed : (h : Poised t ls fb i) (vs : List Value) → evals (h .env) (argsOf (h .act)) ≡ is vs → Framed ls′ (fb + frameWords) (map is vs)
+  pub passed : (h : Poised t ls fb i) (vs : List Value) → evals (h .env) (argsOf (h .act)) ≡ has vs → Framed ls′ (fb + frameWords) (map is vs)
 
 -- a step, and the words of the frame above
 pub record DecidesAll (t ls ls′ : List ℕ) (fb i : ℕ) (M : Memory → Type 0) (s : Step) : Type 0 where

@@ -6,6 +6,7 @@ use basics::numbers::FRAME;
 use basics::numbers::READ;
 use basics::numbers::STARTS;
 use basics::numbers::WRITE;
+use basics::reasons;
 use engine::evaluate;
 use engine::evaluate::Valued;
 use engine::locals;
@@ -13,6 +14,7 @@ use engine::memory;
 use engine::memory::Spot;
 use engine::table;
 use value::Answer;
+use value::Reason;
 use value::Value;
 ghost use mathlib.Core.Path.{_≡_};
 ghost use Prim.Native.Nat.{_+_, _≤_, _<_};
@@ -55,7 +57,7 @@ pub enum Step {
         thread: u8,
         next: usize,
     },
-    Blocked,
+    Blocked(Reason),
 }
 
 // Each kind of instruction has a function that gets what the instruction's expressions came to. So it is small, and inline in both machines.
@@ -67,7 +69,7 @@ pub fn decide_assign(t: &[u8], at: usize, e: Valued) -> Step
 {
     let answer = e.answer;
     let Answer::Is(value) = answer else {
-        return Step::Blocked;
+        return Step::Blocked(reasons::why(answer));
     };
     Step::Assign {
         x: table::byte(t, at + 1),
@@ -82,10 +84,10 @@ pub fn decide_test(e: Valued) -> Step
 {
     let answer = e.answer;
     let Answer::Is(value) = answer else {
-        return Step::Blocked;
+        return Step::Blocked(reasons::why(answer));
     };
     let Value::Truth(truth) = value else {
-        return Step::Blocked;
+        return Step::Blocked(Reason::WrongKind);
     };
     Step::Test {
         truth,
@@ -93,7 +95,7 @@ pub fn decide_test(e: Valued) -> Step
     }
 }
 
-// "y[o] := e".
+// "y[o] := e": "a write judges the value, then the index expression, then the pointer, then the index against the size".
 pub fn decide_write(
     t: &[u8],
     words: &[u64],
@@ -109,16 +111,17 @@ pub fn decide_write(
     let offset = o.answer;
     let answer = e.answer;
     let Answer::Is(value) = answer else {
-        return Step::Blocked;
+        return Step::Blocked(reasons::why(answer));
     };
     let pointer = locals::get(words, base, table::byte(t, at + 1));
+    let spot = memory::place(starts, pointer, offset);
     let Spot::At {
         location,
         index,
         cell,
-    } = memory::place(starts, pointer, offset)
+    } = spot
     else {
-        return Step::Blocked;
+        return Step::Blocked(memory::reason(spot));
     };
     Step::Write {
         location,
@@ -144,16 +147,18 @@ pub fn decide_read(
 {
     let offset = o.answer;
     let pointer = locals::get(words, base, table::byte(t, at + 2));
+    let spot = memory::place(starts, pointer, offset);
     let Spot::At {
         location,
         index,
         cell,
-    } = memory::place(starts, pointer, offset)
+    } = spot
     else {
-        return Step::Blocked;
+        return Step::Blocked(memory::reason(spot));
     };
-    let Answer::Is(value) = memory::get(cells, cell) else {
-        return Step::Blocked;
+    let held = memory::get(cells, cell);
+    let Answer::Is(value) = held else {
+        return Step::Blocked(reasons::why(held));
     };
     Step::Read {
         x: table::byte(t, at + 1),
@@ -164,10 +169,10 @@ pub fn decide_read(
     }
 }
 
-// The arguments of a call: all were passed, and the last one ends here; or one has no value.
+// The arguments of a call: all were passed, and the last one ends here; or why the first that has no value has none.
 enum Passed {
     All(usize),
-    Missing,
+    Missing(Reason),
 }
 
 // The values of `count` expressions go to the frame above, which is no part of the state before the call.
@@ -182,7 +187,7 @@ fn pass(t: &[u8], words: &mut [u64], base: usize, from: usize, count: usize) -> 
         let e = evaluate::evaluate(t, words, base, at);
         let answer = e.answer;
         let Answer::Is(v) = answer else {
-            return Passed::Missing;
+            return Passed::Missing(reasons::why(answer));
         };
         locals::put(words, above, i, v);
         at = e.next;
@@ -197,12 +202,12 @@ pub fn decide_call(t: &[u8], words: &mut [u64], base: usize, at: usize) -> Step
     ensures { λ r. ⌜ DecidesAll (now (t .entry)) (now (words .entry)) (now (words .exit)) base at Any r ⌝ }
 {
     let count = table::byte(t, at + 3);
-    let Passed::All(next) = pass(t, words, base, at + 4, count) else {
-        return Step::Blocked;
-    };
-    Step::Call {
-        procedure: table::two(t, at + 1) as usize,
-        next,
+    match pass(t, words, base, at + 4, count) {
+        Passed::All(next) => Step::Call {
+            procedure: table::two(t, at + 1) as usize,
+            next,
+        },
+        Passed::Missing(reason) => Step::Blocked(reason),
     }
 }
 
@@ -244,22 +249,24 @@ pub fn decide_select(t: &[u8], starts: &[u32; STARTS], cells: &[u64], at: usize,
     ensures { λ r. ⌜ Selects (now (t .entry)) (now (starts .entry)) (now (cells .entry)) at thread r ⌝ }
 {
     let source = table::two(t, at + 3) as usize;
+    let spot = memory::find(starts, source, thread as u32);
     let Spot::At {
         location: _,
         index: _,
         cell,
-    } = memory::find(starts, source, thread as u32)
+    } = spot
     else {
-        return Step::Blocked;
+        return Step::Blocked(memory::reason(spot));
     };
-    let Answer::Is(value) = memory::get(cells, cell) else {
-        return Step::Blocked;
+    let held = memory::get(cells, cell);
+    let Answer::Is(value) = held else {
+        return Step::Blocked(reasons::why(held));
     };
     let Value::Whole(n) = value else {
-        return Step::Blocked;
+        return Step::Blocked(Reason::WrongKind);
     };
     if n == 0 {
-        return Step::Blocked; // "and takes none"
+        return Step::Blocked(Reason::FinishedThread); // "and takes none"
     }
     let target = table::two(t, at + 1) as usize;
     Step::Select {

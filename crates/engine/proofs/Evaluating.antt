@@ -11,15 +11,16 @@ use borrow.Author.Tests.{eqb-true, eqb-false}
 use mir.Syntax.{w32}
 use mir.Val.{SFits, ofZ, toZ}
 use mir.Facts.{toZ-ofZ}
-use Rattle.value.specs.Maybe.{is, _>>=_}
-use Rattle.value.specs.Values.{One, not, neg, Two, add, sub, mul, less, equal, and, given, unword}
+use Rattle.value.specs.Try.{has, _⟫_, provided, orLacks}
+use Rattle.value.specs.Values.{One, not, neg, Two, add, sub, mul, less, equal, and, apply₂, given, unword}
 use Rattle.basics.specs.Places.{numberAt}
-use Rattle.value.specs.Marks.{mark₁, mark₂, markOf}
-use Rattle.basics.specs.Columns.{operandsOf, applied₁, applied₂}
+use Rattle.value.specs.Marks.{mark₁, mark₂, twoMark, markOf, leftKind, ofKind}
+use Rattle.basics.specs.Columns.{rowOf, operandsOf, applied₁, applied₂}
 use Rattle.value.specs.declared.Value.{Value}
 use Rattle.value.specs.declared.Value.the-variants.{Whole, Location, Truth}
 use Rattle.value.specs.declared.Answer.{Answer}
 use Rattle.value.specs.declared.Answer.the-variants.{Is}
+use Rattle.value.specs.declared.Reason.the-variants.{WrongKind}
 use Rattle.value.specs.Laws.Tests.{by-test}
 use Rattle.basics.specs.Laws.Places.{number-at}
 use Rattle.value.specs.Laws.Marks.{mark₁-marks, mark₂-marks}
@@ -28,8 +29,8 @@ use Rattle.format.specs.Laws.Exprs.{depth-pos}
 use Rattle.format.specs.Laws.Stands.{first, others}
 use Rattle.format.specs.Laws.Grammar.{ExprAt, OneAt, TwoAt, whole-here, location-here, no-here, yes-here, one-here, two-here, expr-inside, expr-deep}
 use Rattle.semantics.specs.Memory.{eval}
-use Rattle.engine.specs.Words.{held}
-use Rattle.engine.specs.Evaluated.{operated₁, operated₂, Below, Ready, valued, Evaluates}
+use Rattle.engine.specs.Words.{valueIn}
+use Rattle.engine.specs.Evaluated.{suited, operated₁, operated₂, Below, Ready, valued, Evaluates}
 use Rattle.engine.specs.declared.evaluate.Valued.{Valued}
 use Rattle.engine.specs.Laws.Work.{framed-get}
 
@@ -67,6 +68,15 @@ count₂ mul = refl
 count₂ less = refl
 count₂ equal = refl
 count₂ and = refl
+
+-- what the table says of the left operand's kind
+takes-left : (o : Two) → rowOf (twoMark o) .takes ≡ leftKind o
+takes-left add = refl
+takes-left sub = refl
+takes-left mul = refl
+takes-left less = refl
+takes-left equal = refl
+takes-left and = refl
 
 -- ---- what stands there
 
@@ -181,7 +191,7 @@ module _ {t ls : List ℕ} {fb i d : ℕ} where
         let o = s .0 in
         let w = s .2 in
         let v = X .value (only h l (λ q. n (c ∙ q))) in
-        g ∙ ap₂ (λ a m. a >>= applied₁ (markOf m)) v (s .1) ∙ ap (λ k. eval (h .env) (w .a) >>= applied₁ k) (mark₁-marks o)
+        g ∙ ap₂ (λ a m. a ⟫ applied₁ (markOf m)) v (s .1) ∙ ap (λ k. eval (h .env) (w .a) ⟫ applied₁ k) (mark₁-marks o)
         ∙ sym (ap (eval (h .env)) (w .is));
     next = λ h. X .next (only h l (λ q. n (c ∙ q)));
   }
@@ -197,8 +207,9 @@ module _ {t ls : List ℕ} {fb i d : ℕ} where
         let w = s .2 in
         let u = X .value (left h l (sym c ∙ n)) in
         let v = Y .value (right h l c n X) in
-        g ∙ ap₂ (λ a m. a >>= λ u. given (y .answer) >>= λ v. applied₂ (markOf m) u v) u (s .1)
-        ∙ ap₂ (λ b k. eval (h .env) (w .a) >>= λ u. b >>= λ v. applied₂ k u v) v (mark₂-marks o)
+        g ∙ ap₂ (λ a m. a ⟫ suited (markOf m) ⟫ λ u. given (y .answer) ⟫ λ v. applied₂ (markOf m) u v) u (s .1)
+        ∙ ap₂ (λ b k. eval (h .env) (w .a) ⟫ suited k ⟫ λ u. b ⟫ λ v. applied₂ k u v) v (mark₂-marks o)
+        ∙ ap (λ k. eval (h .env) (w .a) ⟫ (λ u. provided (ofKind k u) WrongKind u) ⟫ λ u. eval (h .env) (w .b) ⟫ λ v. apply₂ o u v) (takes-left o)
         ∙ sym (ap (eval (h .env)) (w .is));
     next = λ h. Y .next (right h l c n X);
   }
@@ -235,13 +246,13 @@ module _ {t ls : List ℕ} {fb i : ℕ} where
   eval-whole {n} {z} e q u f = record {
     value = λ h.
         let w = whole-here (h .here) e in
-        ap (λ z. is (Whole z)) (toZ-ofZ f ∙ u ∙ ap unword (q ∙ number-at 4 t (i + 1))) ∙ sym (ap (eval (h .env)) (w .0));
+        ap (λ z. has (Whole z)) (toZ-ofZ f ∙ u ∙ ap unword (q ∙ number-at 4 t (i + 1))) ∙ sym (ap (eval (h .env)) (w .0));
     next = λ h. sym (whole-here (h .here) e .1);
   }
 
   pub eval-location : {n : ℕ} → getD t i 0 ≡ 2 → n ≡ numberAt 2 t (i + 1) → Evaluates t ls fb i 1 (valued (Is (Location n)) (i + 3))
   eval-location e q = record {
-    value = λ h. ap (λ l. is (Location l)) (q ∙ number-at 2 t (i + 1)) ∙ sym (ap (eval (h .env)) (location-here (h .here) e .0));
+    value = λ h. ap (λ l. has (Location l)) (q ∙ number-at 2 t (i + 1)) ∙ sym (ap (eval (h .env)) (location-here (h .here) e .0));
     next = λ h. sym (location-here (h .here) e .1);
   }
 
@@ -252,10 +263,10 @@ module _ {t ls : List ℕ} {fb i : ℕ} where
   eval-yes e = record { value = λ h. sym (ap (eval (h .env)) (yes-here (h .here) e .0)); next = λ h. sym (yes-here (h .here) e .1) }
 
   pub eval-local : {a : Answer} → (getD t i 0 ≡ 1 → ⊥) → (getD t i 0 ≡ 2 → ⊥) → (getD t i 0 ≡ 3 → ⊥) → (getD t i 0 ≡ 4 → ⊥)
-      → given a ≡ held (getD ls (fb + getD t (i + 1) 0) 0) → Evaluates t ls fb i 1 (valued a (i + 2))
+      → given a ≡ valueIn (getD ls (fb + getD t (i + 1) 0) 0) → Evaluates t ls fb i 1 (valued a (i + 2))
   eval-local n₁ n₂ n₃ n₄ g = record {
     value = λ h.
-        g ∙ framed-get (h .framed) (getD t (i + 1) 0) (local-below h n₁ n₂ n₃ n₄) .1 ∙ sym (ap (eval (h .env)) (local-here h n₁ n₂ n₃ n₄ .0));
+        g ∙ ap (orLacks WrongKind) (framed-get (h .framed) (getD t (i + 1) 0) (local-below h n₁ n₂ n₃ n₄) .1) ∙ sym (ap (eval (h .env)) (local-here h n₁ n₂ n₃ n₄ .0));
     next = λ h. sym (local-here h n₁ n₂ n₃ n₄ .1);
   }
 

@@ -7,25 +7,30 @@ use mathlib.Core.Bool as B
 use mathlib.Core.Bool.{Bool, true, false}
 use lib.IntN.{ℤ}
 use lib.Dec.{T, eqb}
-use borrow.Author.Tests.{eqb-true, ne-eqb}
+use borrow.Author.Tests.{eqb-true, eq-eqb, ne-eqb}
 use mir.Syntax.{w32}
 use mir.Val.{SFits, ofZ, toZ, hasKey}
 use mir.Facts.{toZ-ofZ}
 use types.Run.{OneOf, miss}
 use denote.Enum.Declared.{tagOf}
 use Rattle.value.proofs.Value.{the-type}
-use Rattle.value.specs.Maybe.{Maybe, is, nothing, _>>=_, pick, both}
-use Rattle.value.specs.Values.{not, neg, add, sub, mul, less, equal, and, given}
+use Rattle.basics.specs.Reasons.{lackOf}
+use Rattle.basics.specs.Laws.Reasons.{None, none-lacks}
+use Rattle.value.specs.Laws.Tests.{by-test, never, either-right}
+use Rattle.value.specs.Maybe.{pick, both}
+use Rattle.value.specs.Try.{Try, lacks, _⟫_, provided}
+use Rattle.value.specs.Values.{not, neg, add, sub, mul, less, equal, and, apply₂, given}
 use Rattle.value.specs.Marks.{Mark, wholeMark, locationMark, noMark, yesMark, localMark, oneMark, twoMark, noExpr, markOf}
 use Rattle.basics.specs.Columns.{applied₁, applied₂}
-use Rattle.value.specs.Marks.{mark₂, marks, ofKind}
+use Rattle.value.specs.Marks.{mark₂, marks, kindOf, ofKind}
 use Rattle.basics.specs.Columns.{rowOf, operandsOf, takesOf}
 use Rattle.basics.specs.Laws.Columns.{Says, row-says}
 use Rattle.value.specs.Laws.Tables.{looked-up}
 use Rattle.value.specs.declared.Value.{Value}
 use Rattle.value.specs.declared.Value.the-variants.{Whole, Location, Truth}
 use Rattle.value.specs.declared.Answer.{Answer}
-use Rattle.value.specs.declared.Answer.the-variants.{Is, Nothing}
+use Rattle.value.specs.declared.Answer.the-variants as A
+use Rattle.value.specs.declared.Reason.the-variants.{OutOfRange, WrongKind}
 use Rattle.engine.specs.Evaluated.{operated₁, operated₂}
 use Rattle.basics.proofs.Ways as ops
 
@@ -42,28 +47,29 @@ other (Whole a) h = absurd (miss (1 ∷ 2 ∷ []) 0 tt h)
 other (Location a) h = refl
 other (Truth a) h = refl
 
+-- a test with one that fails
 neither : (a : Bool) → both a false ≡ false
 neither true = refl
 neither false = refl
 
 module _ (m : ℕ) where
   -- the operand has no value
-  pub none₁ : (o : Answer) → o ≡ Nothing → nothing ≡ operated₁ m (given o)
+  pub none₁ : (o : Answer) {x : Try Value} → None o → x ≡ lacks (lackOf o) → x ≡ operated₁ m (given o)
   unfolding operated₁
-  none₁ o e = rw e
+  none₁ o h e = rw (none-lacks o h) e
 
   -- it is at hand
-  pub took₁ : (o : Answer) {v w : Value} {x : Maybe Value} → o ≡ Is v → v ≡ w → x ≡ applied₁ (markOf m) w → x ≡ operated₁ m (given o)
+  pub took₁ : (o : Answer) {v w : Value} {x : Try Value} → o ≡ A.Is v → v ≡ w → x ≡ applied₁ (markOf m) w → x ≡ operated₁ m (given o)
   unfolding operated₁
   took₁ o e f g = g ∙ rw (e, f)
 
   -- the operand of not is no truth value
-  pub not-truth : (o : Answer) {v : Value} {k : ℕ} → k ≡ takesOf m → k ≡ 3 → o ≡ Is v → OneOf (0 ∷ 1 ∷ []) (tagOf the-type v)
-      → nothing ≡ operated₁ m (given o)
+  pub not-truth : (o : Answer) {v : Value} {k : ℕ} → k ≡ takesOf m → k ≡ 3 → o ≡ A.Is v → OneOf (0 ∷ 1 ∷ []) (tagOf the-type v)
+      → lacks WrongKind ≡ operated₁ m (given o)
   unfolding operated₁
   not-truth o {v} e t f h = rw f (go (markOf m) (sym e ∙ t))
     where
-      go : (k : Mark) → rowOf k .takes ≡ 3 → nothing ≡ applied₁ k v
+      go : (k : Mark) → rowOf k .takes ≡ 3 → lacks WrongKind ≡ applied₁ k v
       go (oneMark not) e = ops.no-not v h
       go (oneMark neg) e = absurd (omega arith)
       go (twoMark o) e = refl
@@ -75,12 +81,12 @@ module _ (m : ℕ) where
       go noExpr e = refl
 
   -- that of negate is no whole number
-  pub not-whole : (o : Answer) {v : Value} {k : ℕ} → k ≡ takesOf m → (k ≡ 3 → ⊥) → o ≡ Is v → OneOf (1 ∷ 2 ∷ []) (tagOf the-type v)
-      → nothing ≡ operated₁ m (given o)
+  pub not-whole : (o : Answer) {v : Value} {k : ℕ} → k ≡ takesOf m → (k ≡ 3 → ⊥) → o ≡ A.Is v → OneOf (1 ∷ 2 ∷ []) (tagOf the-type v)
+      → lacks WrongKind ≡ operated₁ m (given o)
   unfolding operated₁
   not-whole o {v} e n f h = rw f (go (markOf m) (λ q. n (e ∙ q)))
     where
-      go : (k : Mark) → (rowOf k .takes ≡ 3 → ⊥) → nothing ≡ applied₁ k v
+      go : (k : Mark) → (rowOf k .takes ≡ 3 → ⊥) → lacks WrongKind ≡ applied₁ k v
       go (oneMark not) n = absurd (n refl)
       go (oneMark neg) n = ops.no-negate v h
       go (twoMark o) n = refl
@@ -91,55 +97,11 @@ module _ (m : ℕ) where
       go localMark n = refl
       go noExpr n = refl
 
-  module _ (l r : Answer) where
-    -- the left operand has no value
-    pub none-left : l ≡ Nothing → nothing ≡ operated₂ m (given l) (given r)
-    unfolding operated₂
-    none-left e = rw e
-
-    -- the right one has none
-    pub none-right : r ≡ Nothing → nothing ≡ operated₂ m (given l) (given r)
-    unfolding operated₂
-    none-right e = rw e (go (given l))
-      where
-        go : (a : Maybe Value) → _≡_ {A = Maybe Value} nothing (a >>= λ u. nothing)
-        go (is u) = refl
-        go nothing = refl
-
-    -- both are at hand
-    pub took₂ : {u v u′ v′ : Value} {x : Maybe Value} → l ≡ Is u → r ≡ Is v → u ≡ u′ → v ≡ v′ → x ≡ applied₂ (markOf m) u′ v′
-        → x ≡ operated₂ m (given l) (given r)
-    unfolding operated₂
-    took₂ e f p q g = g ∙ rw (e, f, p, q)
-
-    -- the left one gives nothing with any other
-    wrong-left : {u : Value} → l ≡ Is u → ((v : Value) → nothing ≡ applied₂ (markOf m) u v) → nothing ≡ operated₂ m (given l) (given r)
-    unfolding operated₂
-    wrong-left {u} e f = rw e (go (given r))
-      where
-        go : (b : Maybe Value) → nothing ≡ (b >>= λ v. applied₂ (markOf m) u v)
-        go (is v) = f v
-        go nothing = refl
-
-    -- the right one gives nothing with any other
-    wrong-right : {v : Value} → r ≡ Is v → ((u : Value) → nothing ≡ applied₂ (markOf m) u v) → nothing ≡ operated₂ m (given l) (given r)
-    unfolding operated₂
-    wrong-right {v} e f = rw e (go (given l))
-      where
-        go : (a : Maybe Value) → nothing ≡ (a >>= λ u. applied₂ (markOf m) u v)
-        go (is u) = f u
-        go nothing = refl
-
-    -- of another kind each: nothing
-    wrong-both : {u v : Value} → l ≡ Is u → r ≡ Is v → nothing ≡ applied₂ (markOf m) u v → nothing ≡ operated₂ m (given l) (given r)
-    unfolding operated₂
-    wrong-both e f g = rw (e, f) g
-
-  -- what the table says: an operand of the wrong kind gives nothing
-  unsuited : (u v : Value) → both (ofKind (takesOf m) u) (ofKind (takesOf m) v) ≡ false → nothing ≡ applied₂ (markOf m) u v
+  -- what the table says: an operand of the wrong kind gives the reason 2
+  unsuited : (u v : Value) → both (ofKind (takesOf m) u) (ofKind (takesOf m) v) ≡ false → lacks WrongKind ≡ applied₂ (markOf m) u v
   unsuited u v e = go (markOf m) (row-says m) e
     where
-      go : (k : Mark) → Says k (rowOf k) → both (ofKind (rowOf k .takes) u) (ofKind (rowOf k .takes) v) ≡ false → nothing ≡ applied₂ k u v
+      go : (k : Mark) → Says k (rowOf k) → both (ofKind (rowOf k .takes) u) (ofKind (rowOf k .takes) v) ≡ false → lacks WrongKind ≡ applied₂ k u v
       go (twoMark o) s e = sym (s .wrong u v e)
       go (oneMark o) s e = refl
       go wholeMark s e = refl
@@ -149,48 +111,41 @@ module _ (m : ℕ) where
       go localMark s e = refl
       go noExpr s e = refl
 
-  -- ---- whole numbers only
-  module _ (kind : takesOf m ≡ 1) (l r : Answer) where
-    -- no whole number on the left
-    pub not-whole-left : {u : Value} → l ≡ Is u → Other u → nothing ≡ operated₂ m (given l) (given r)
-    not-whole-left {u} e h = wrong-left l r e (λ v. unsuited u v (rw (kind, other u h)))
+  -- ---- operators on whole numbers
 
-    -- none on the right
-    pub not-whole-right : {v : Value} → r ≡ Is v → Other v → nothing ≡ operated₂ m (given l) (given r)
-    not-whole-right {v} e h = wrong-right l r e (λ u. unsuited u v (rw (kind, other v h) (neither (ofKind 1 u))))
-
-module _ (l r : Answer) where
-  -- ---- and: truth values only
-
-  -- none on the left
-  pub not-truth-left : {u : Value} → l ≡ Is u → OneOf (0 ∷ 1 ∷ []) (tagOf the-type u) → nothing ≡ operated₂ (mark₂ and) (given l) (given r)
-  not-truth-left {u} e h = wrong-left (mark₂ and) l r e (λ v. ops.not-truth-left u v h)
+  -- no whole number on the left
+  pub not-whole-left : takesOf m ≡ 1 → (u v : Value) → Other u → lacks WrongKind ≡ applied₂ (markOf m) u v
+  not-whole-left k u v h = unsuited u v (rw (k, other u h))
 
   -- none on the right
-  pub not-truth-right : {v : Value} → r ≡ Is v → OneOf (0 ∷ 1 ∷ []) (tagOf the-type v) → nothing ≡ operated₂ (mark₂ and) (given l) (given r)
-  not-truth-right {v} e h = wrong-right (mark₂ and) l r e (λ u. ops.not-truth-right u v h)
+  pub not-whole-right : takesOf m ≡ 1 → (u v : Value) → Other v → lacks WrongKind ≡ applied₂ (markOf m) u v
+  not-whole-right k u v h = unsuited u v (rw (k, other v h) (neither (ofKind 1 u)))
 
-  -- ---- equal: two of one kind
+  -- both are
+  pub two-wholes : {u v : Value} {a b : ℤ} {x : Try Value} → x ≡ applied₂ (markOf m) (Whole a) (Whole b) → u ≡ Whole a → v ≡ Whole b
+      → x ≡ applied₂ (markOf m) u v
+  two-wholes g p q = g ∙ rw (p, q)
 
-  -- of different kinds
-  apart : (k : ℕ) (ks : List ℕ) → T (B.not (hasKey ks k)) → {u v : Value} → l ≡ Is u → r ≡ Is v → tagOf the-type u ≡ k → OneOf ks (tagOf the-type v)
-      → nothing ≡ operated₂ (mark₂ equal) (given l) (given r)
-  apart k ks t {u} {v} e f p q = wrong-both (mark₂ equal) l r e f (ops.apart k ks t u v p q)
+  -- ---- two answers
 
-  -- a whole number and another kind
-  pub apart-whole : {u v : Value} {a : ℤ} → l ≡ Is u → r ≡ Is v → u ≡ Whole a → OneOf (1 ∷ 2 ∷ []) (tagOf the-type v)
-      → nothing ≡ operated₂ (mark₂ equal) (given l) (given r)
-  apart-whole e f p q = apart 0 (1 ∷ 2 ∷ []) tt e f (ap (tagOf the-type) p) q
+  module _ (l r : Answer) where
+    -- the left operand has no value
+    pub none-left : {x : Try Value} → None l → x ≡ lacks (lackOf l) → x ≡ operated₂ m (given l) (given r)
+    unfolding operated₂
+    none-left h e = rw (none-lacks l h) e
 
-  -- a location and another kind
-  pub apart-location : {u v : Value} {a : ℕ} → l ≡ Is u → r ≡ Is v → u ≡ Location a → OneOf (0 ∷ 2 ∷ []) (tagOf the-type v)
-      → nothing ≡ operated₂ (mark₂ equal) (given l) (given r)
-  apart-location e f p q = apart 1 (0 ∷ 2 ∷ []) tt e f (ap (tagOf the-type) p) q
+    -- the right one has none
+    pub none-right : {u : Value} {k : ℕ} {x : Try Value} → k ≡ takesOf m → l ≡ A.Is u → None r
+        → x ≡ (provided (ofKind k u) WrongKind u ⟫ λ _. lacks (lackOf r)) → x ≡ operated₂ m (given l) (given r)
+    unfolding operated₂
+    none-right {u} e f h g = rw (f, none-lacks r h) (rw e at g)
 
-  -- a truth value and another kind
-  pub apart-truth : {u v : Value} {a : B.Bool} → l ≡ Is u → r ≡ Is v → u ≡ Truth a → OneOf (0 ∷ 1 ∷ []) (tagOf the-type v)
-      → nothing ≡ operated₂ (mark₂ equal) (given l) (given r)
-  apart-truth e f p q = apart 2 (0 ∷ 1 ∷ []) tt e f (ap (tagOf the-type) p) q
+    -- both are at hand: an operand of the wrong kind gives 2, whichever it is
+    pub at-hand : {u v : Value} {x : Try Value} → l ≡ A.Is u → r ≡ A.Is v → x ≡ applied₂ (markOf m) u v → x ≡ operated₂ m (given l) (given r)
+    unfolding operated₂
+    at-hand {u} {v} e f g = rw (e, f) (by-test (ofKind (takesOf m) u)
+        (λ t. g ∙ rw t)
+        (λ t. g ∙ sym (unsuited u v (rw t)) ∙ rw t))
 
 -- ---- the operator of a mark, by the kind of its operands
 
@@ -199,25 +154,57 @@ abbrev by-kind? : ℕ → Mark → Bool
 by-kind? m k = pick (eqb (rowOf k .operands) 2)
     (pick (eqb (rowOf k .takes) 1) true
     (pick (eqb (rowOf k .takes) 3) (eqb m (mark₂ and))
-    (eqb m (mark₂ equal))))
+    (pick (eqb (rowOf k .takes) 0) (eqb m (mark₂ equal)) false)))
     true
 
 -- so it is in the table
 by-kind : (m : ℕ) → by-kind? m (markOf m) ≡ true
 by-kind m = looked-up by-kind? marks noExpr (λ n. refl) refl m
 
-module _ (m : ℕ) (l r : Answer) {k : ℕ} {x : Maybe Value} where
+module _ (m : ℕ) (l r : Answer) {u v : Value} (e : l ≡ A.Is u) (f : r ≡ A.Is v) {k : ℕ} {x : Try Value} (n : operandsOf m ≡ 2) (t : k ≡ takesOf m) where
   -- truth values
-  pub by-truths : operandsOf m ≡ 2 → k ≡ takesOf m → k ≡ 3 → x ≡ operated₂ (mark₂ and) (given l) (given r) → x ≡ operated₂ m (given l) (given r)
-  by-truths n e t f = rw (eqb-true m (mark₂ and) (rw (n, sym e ∙ t) at (by-kind m))) f
+  pub by-truths : k ≡ 3 → x ≡ apply₂ and u v → x ≡ operated₂ m (given l) (given r)
+  by-truths q g = at-hand m l r e f (g ∙ rw (eqb-true m (mark₂ and) (rw (n, sym t ∙ q) at (by-kind m))))
 
   -- any kind
-  pub by-any : operandsOf m ≡ 2 → k ≡ takesOf m → (k ≡ 1 → ⊥) → (k ≡ 3 → ⊥) → x ≡ operated₂ (mark₂ equal) (given l) (given r)
-      → x ≡ operated₂ m (given l) (given r)
-  by-any n e w t f =
-      let no-whole = ne-eqb (takesOf m) 1 (λ q. w (e ∙ q)) in
-      let no-truth = ne-eqb (takesOf m) 3 (λ q. t (e ∙ q)) in
-      rw (eqb-true m (mark₂ equal) (rw (n, no-whole, no-truth) at (by-kind m))) f
+  pub by-any : k ≡ 0 → x ≡ apply₂ equal u v → x ≡ operated₂ m (given l) (given r)
+  by-any q g = at-hand m l r e f (g ∙ rw (eqb-true m (mark₂ equal) (rw (n, sym t ∙ q) at (by-kind m))))
+
+-- no other kind is left than whole numbers
+pub by-wholes : (m : ℕ) {k : ℕ} → operandsOf m ≡ 2 → k ≡ takesOf m → (k ≡ 3 → ⊥) → (k ≡ 0 → ⊥) → takesOf m ≡ 1
+by-wholes m {k} n e t a = by-test (eqb (takesOf m) 1)
+    (λ q. eqb-true (takesOf m) 1 q)
+    (λ q.
+    let no-truth = ne-eqb (takesOf m) 3 (λ z. t (e ∙ z)) in
+    let no-any = ne-eqb (takesOf m) 0 (λ z. a (e ∙ z)) in
+    absurd (never (rw (n, q, no-truth, no-any) at (by-kind m))))
+
+-- ---- kinds
+
+-- the left operand suits any kind, its own, or none
+module _ (k : ℕ) (v : Value) (r : Answer) {x : Try Value} where
+  pub suits-any : k ≡ 0 → x ≡ lacks (lackOf r) → x ≡ (provided (ofKind k v) WrongKind v ⟫ λ _. lacks (lackOf r))
+  suits-any e g = g ∙ rw e
+
+  pub suits-own : {n : ℕ} → n ≡ kindOf v → n ≡ k → x ≡ lacks (lackOf r) → x ≡ (provided (ofKind k v) WrongKind v ⟫ λ _. lacks (lackOf r))
+  suits-own e q g = g ∙ rw (eq-eqb (kindOf v) k (sym e ∙ q), either-right (eqb k 0) refl)
+
+-- or is of another kind
+pub suits-none : (k : ℕ) (v : Value) (r : Answer) {n : ℕ} → (k ≡ 0 → ⊥) → n ≡ kindOf v → (n ≡ k → ⊥)
+    → _≡_ {A = Try Value} (lacks WrongKind) (provided (ofKind k v) WrongKind v ⟫ λ _. lacks (lackOf r))
+suits-none k v r z e q = rw (ne-eqb k 0 z, ne-eqb (kindOf v) k (λ w. q (e ∙ w)))
+
+-- ---- an answer handed on
+
+module _ (a : Answer) where
+  pub kept-range : a ≡ A.OutOfRange → _≡_ {A = Try Value} (lacks OutOfRange) (lacks (lackOf a))
+  kept-range e = rw e
+
+  pub kept-kind : a ≡ A.WrongKind → _≡_ {A = Try Value} (lacks WrongKind) (lacks (lackOf a))
+  kept-kind e = rw e
+
+  pub kept-value : {v : Value} → a ≡ A.Is v → _≡_ {A = Try Value} (lacks WrongKind) (lacks (lackOf a))
+  kept-value e = rw e
 
 -- one law for each way
 pub ruleset ways = (
@@ -226,16 +213,19 @@ pub ruleset ways = (
   took₁,
   not-truth,
   not-whole,
-  none-left,
-  none-right,
-  took₂,
   not-whole-left,
   not-whole-right,
-  not-truth-left,
-  not-truth-right,
-  apart-whole,
-  apart-location,
-  apart-truth,
+  two-wholes,
+  none-left,
+  none-right,
+  at-hand,
   by-truths,
   by-any,
+  by-wholes,
+  suits-any,
+  suits-own,
+  suits-none,
+  kept-range,
+  kept-kind,
+  kept-value,
 )

@@ -3,25 +3,30 @@ use Prim.Native.Nat.{ℕ, _<_}
 use mathlib.Core.Path.{_≡_}
 use mathlib.Core.List.{List}
 use lib.ListN.{length}
-use Rattle.value.specs.Maybe.{Maybe, _>>=_}
+use Rattle.value.specs.Try.{Try, _⟫_, provided}
 use Rattle.value.specs.Values.{given}
-use Rattle.value.specs.Marks.{markOf}
-use Rattle.basics.specs.Columns.{applied₁, applied₂}
+use Rattle.value.specs.Marks.{Mark, markOf, ofKind}
+use Rattle.basics.specs.Columns.{rowOf, applied₁, applied₂}
 use Rattle.value.specs.declared.Value.{Value}
 use Rattle.value.specs.declared.Answer.{Answer}
+use Rattle.value.specs.declared.Reason.the-variants.{WrongKind}
 use Rattle.format.specs.Syntax.{Expr, constant, local, one, two}
 use Rattle.format.specs.Laws.Grammar.{ExprAt}
 use Rattle.engine.specs.declared.evaluate.Valued.{Valued}
 use Rattle.semantics.specs.Memory.{Env, eval}
 use Rattle.engine.specs.Work.{Framed}
 
--- what the operator of a mark gives of what may be missing
-unfoldable pub operated₁ : ℕ → Maybe Value → Maybe Value
-operated₁ m a = a >>= applied₁ (markOf m)
+-- an operand of the kind that the table says for a mark
+abbrev pub suited : Mark → Value → Try Value
+suited k u = provided (ofKind (rowOf k .takes) u) WrongKind u
+
+-- what the operator of a mark gives of an operand that may lack a value
+unfoldable pub operated₁ : ℕ → Try Value → Try Value
+operated₁ m a = a ⟫ applied₁ (markOf m)
 
 -- and of two such
-unfoldable pub operated₂ : ℕ → Maybe Value → Maybe Value → Maybe Value
-operated₂ m a b = a >>= λ u. b >>= λ v. applied₂ (markOf m) u v
+unfoldable pub operated₂ : ℕ → Try Value → Try Value → Try Value
+operated₂ m a b = a ⟫ suited (markOf m) ⟫ λ u. b ⟫ λ v. applied₂ (markOf m) u v
 
 -- each local of an expression is below n
 abbrev pub Below : ℕ → Expr → Type 0

@@ -3,11 +3,19 @@ use Prim.Native.Nat.{ℕ, zero, suc, _+_, _*_, _≤_, _<_}
 use mathlib.Core.Path.{_≡_}
 use mathlib.Core.List.{List, [], _∷_, _++_}
 use lib.ListN.{length, getD, take, set}
-use Rattle.value.specs.Maybe.{Maybe, is, nothing, _>>=_}
+use lib.IntN.{pos}
+use Rattle.value.specs.Maybe.{is}
+use Rattle.value.specs.Try.{Try, has, lacks, _⟫_}
 use Rattle.value.specs.Lists.{at, sum, over}
-use Rattle.value.specs.Values.{cellSize, place}
+use Rattle.value.specs.Values.{cellSize, number, place}
 use Rattle.value.specs.declared.Value.{Value}
 use Rattle.basics.specs.Places.{numberAt, withValue}
+use Rattle.basics.specs.Reasons.{lackOf}
+use Rattle.value.specs.declared.Value.the-variants.{Whole, Location, Truth}
+use Rattle.value.specs.declared.Answer.{Answer}
+use Rattle.value.specs.declared.Answer.the-variants as A
+use Rattle.value.specs.declared.Reason.{Reason}
+use Rattle.value.specs.declared.Reason.the-variants.{OutOfRange, WrongKind, IndexOutside}
 use Rattle.engine.specs.declared.memory.Spot.{Spot}
 use Rattle.engine.specs.declared.memory.Spot.the-variants.{At, Nowhere}
 use Rattle.semantics.specs.Memory.{Env, lookup, index, Memory, cell}
@@ -78,19 +86,32 @@ pub record IsCell (η : Memory) (l i k : ℕ) : Type 0 where
 -- where index i of location l is
 abbrev pub Found : Memory → ℕ → ℕ → Spot → Type 0
 Found η l i (At m j k) = (m ≡ l) × (j ≡ i) × IsCell η l i k
-Found η l i Nowhere = cell η l i ≡ nothing
+Found η l i (Nowhere r) = cell η l i ≡ lacks r
 
 -- the same, over all memories of these first cells
 pub record Finds (bs : List ℕ) (l i : ℕ) (s : Spot) : Type 0 where
   pub found : (η : Memory) → Bases (shape η) bs → Found η l i s
 
--- where the cell of a pointer and an index is, if they have values of the right kinds: the wanted cell of a read or a write
-abbrev pub Placed : Memory → Maybe Value → Maybe Value → Spot → Type 0
-Placed η p o (At l i k) = ((o >>= index) ≡ is i) × ((p >>= place) ≡ is l) × IsCell η l i k
-Placed η p o Nowhere = (o >>= index >>= λ i. p >>= place >>= λ l. cell η l i) ≡ nothing
+-- why there is none, where one of them has no value or is of the wrong kind: the index is judged first
+abbrev pub amissOf : Answer → Answer → Reason
+amissOf p (A.Is (Whole z)) = lackOf p
+amissOf p (A.Is (Location l)) = WrongKind
+amissOf p (A.Is (Truth b)) = WrongKind
+amissOf p A.OutOfRange = OutOfRange
+amissOf p A.WrongKind = WrongKind
+
+-- the reason that a spot has; one with a cell is not asked
+abbrev pub spotReason : Spot → Reason
+spotReason (At l i k) = IndexOutside
+spotReason (Nowhere r) = r
+
+-- where the cell of a pointer and an index is, if they have values of the right kinds: the wanted cell of a read or a write, or why there is none
+abbrev pub Placed : Memory → Try Value → Try Value → Spot → Type 0
+Placed η p o (At l i k) = ((o ⟫ number) ≡ has (pos i)) × ((p ⟫ place) ≡ has l) × IsCell η l i k
+Placed η p o (Nowhere r) = (o ⟫ number ⟫ λ z. p ⟫ place ⟫ λ l. index z ⟫ λ i. cell η l i) ≡ lacks r
 
 -- the same, over all memories of these first cells
-pub record Places (bs : List ℕ) (p o : Maybe Value) (s : Spot) : Type 0 where
+pub record Places (bs : List ℕ) (p o : Try Value) (s : Spot) : Type 0 where
   pub placed : (η : Memory) → Bases (shape η) bs → Placed η p o s
 
 -- the bytes of a word's value were written over those of a buffer, where they fit

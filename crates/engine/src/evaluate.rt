@@ -10,10 +10,13 @@ use value::Value;
 ghost use mathlib.Core.Path.{_≡_};
 ghost use Prim.Native.Nat.{_≤_, _<_};
 ghost use lib.ListN.{getD};
-ghost use Rattle.value.specs.Values.{given, equal, and};
-ghost use Rattle.value.specs.Marks.{mark₂};
+ghost use Rattle.value.specs.Try.{lacks, _⟫_, provided};
+ghost use Rattle.value.specs.declared.Reason.the-variants.{WrongKind};
+ghost use Rattle.value.specs.Values.{given, equal, and, apply₂};
+ghost use Rattle.value.specs.Marks.{markOf, kindOf, ofKind};
 ghost use Rattle.format.specs.Decode.{maxDepth};
-ghost use Rattle.basics.specs.Columns.{operandsOf, takesOf};
+ghost use Rattle.basics.specs.Columns.{operandsOf, takesOf, applied₂};
+ghost use Rattle.basics.specs.Reasons.{lackOf};
 ghost use Rattle.engine.specs.Evaluated.{operated₁, operated₂, Ready, Evaluates};
 
 // "An expression nests at most 16 deep".
@@ -45,79 +48,70 @@ fn row_of(mark: u8) -> Row
     }
 }
 
-// "An operator with an operand that has no value, or of the wrong kind, has none itself". So for each operand kind of the table the operands are
-// judged in turn: whether the left one has a value, its kind, whether the right one has a value, its kind. Then the operator is applied to
-// operands of known kinds.
+// "An operator with an operand that has no value, or of the wrong kind, has none itself". Where both operands have values, the kind of the table says
+// which operator it can be. Where one has none, what is judged first is found out aside, so that a reason costs nothing where there is a value.
 
-// Whole numbers: add, subtract, multiply, less.
-fn wholes(mark: u8, left: Answer, right: Answer) -> Answer
-    requires { ⌜ takesOf mark ≡ 1 ⌝ }
-    ensures { λ r. ⌜ given r ≡ operated₂ mark (given left) (given right) ⌝ }
+// An answer without a value, handed on. It is made anew: so its place need not be kept.
+fn lacking(answer: Answer) -> Answer
+    ensures { λ r. ⌜ given r ≡ lacks (lackOf answer) ⌝ }
 {
-    let Answer::Is(u) = left else {
-        return Answer::Nothing;
+    match answer {
+        Answer::OutOfRange => Answer::OutOfRange,
+        Answer::WrongKind => Answer::WrongKind,
+        Answer::Is(_) => Answer::WrongKind,
+    }
+}
+
+// The kind of a value, as the table has it.
+fn kind_of(v: Value) -> u8
+    ensures { λ r. ⌜ r ≡ kindOf v ⌝ }
+{
+    match v {
+        Value::Whole(_) => marks::WHOLE,
+        Value::Location(_) => marks::LOCATION,
+        Value::Truth(_) => marks::TRUTH,
+    }
+}
+
+// The right operand has no value: "The left operand, its kind included, is judged before the right".
+fn without_right(kind: u8, left: Value, right: Answer) -> Answer
+    ensures { λ r. ⌜ given r ≡ (provided (ofKind kind left) WrongKind left ⟫ λ _. lacks (lackOf right)) ⌝ }
+{
+    if kind == marks::ANY {
+        return lacking(right);
+    }
+    if kind_of(left) == kind {
+        return lacking(right);
+    }
+    Answer::WrongKind
+}
+
+// Add, subtract, multiply or less of two values.
+fn wholes(mark: u8, left: Value, right: Value) -> Answer
+    requires { ⌜ takesOf mark ≡ 1 ⌝ }
+    ensures { λ r. ⌜ given r ≡ applied₂ (markOf mark) left right ⌝ }
+{
+    let Value::Whole(a) = left else {
+        return Answer::WrongKind;
     };
-    let Value::Whole(a) = u else {
-        return Answer::Nothing;
-    };
-    let Answer::Is(v) = right else {
-        return Answer::Nothing;
-    };
-    let Value::Whole(b) = v else {
-        return Answer::Nothing;
+    let Value::Whole(b) = right else {
+        return Answer::WrongKind;
     };
     operators::apply_two(mark, Value::Whole(a), Value::Whole(b))
 }
 
-// Truth values: "and (both sides are evaluated)".
-fn truths(left: Answer, right: Answer) -> Answer
-    ensures { λ r. ⌜ given r ≡ operated₂ (mark₂ and) (given left) (given right) ⌝ }
+// "and (both sides are evaluated)".
+fn truths(left: Value, right: Value) -> Answer
+    ensures { λ r. ⌜ given r ≡ apply₂ and left right ⌝ }
 {
-    let Answer::Is(u) = left else {
-        return Answer::Nothing;
-    };
-    let Value::Truth(a) = u else {
-        return Answer::Nothing;
-    };
-    let Answer::Is(v) = right else {
-        return Answer::Nothing;
-    };
-    let Value::Truth(b) = v else {
-        return Answer::Nothing;
-    };
-    operators::and(Value::Truth(a), Value::Truth(b))
+    operators::and(left, right)
 }
 
-// Any kind: "equal (two of one kind)", so that the right operand must be of the left one's.
-fn same(left: Answer, right: Answer) -> Answer
-    ensures { λ r. ⌜ given r ≡ operated₂ (mark₂ equal) (given left) (given right) ⌝ }
+// "equal (two of one kind)".
+fn same(left: Value, right: Value) -> Answer
+    ensures { λ r. ⌜ given r ≡ apply₂ equal left right ⌝ }
 {
-    let Answer::Is(u) = left else {
-        return Answer::Nothing;
-    };
-    let Answer::Is(v) = right else {
-        return Answer::Nothing;
-    };
-    match u {
-        Value::Whole(a) => {
-            let Value::Whole(b) = v else {
-                return Answer::Nothing;
-            };
-            operators::equal(Value::Whole(a), Value::Whole(b))
-        }
-        Value::Location(a) => {
-            let Value::Location(b) = v else {
-                return Answer::Nothing;
-            };
-            operators::equal(Value::Location(a), Value::Location(b))
-        }
-        Value::Truth(a) => {
-            let Value::Truth(b) = v else {
-                return Answer::Nothing;
-            };
-            operators::equal(Value::Truth(a), Value::Truth(b))
-        }
-    }
+    operators::equal(left, right)
 }
 
 // What an operator gives of two answers, by the kind of its operands.
@@ -125,10 +119,16 @@ fn two(mark: u8, kind: u8, left: Answer, right: Answer) -> Answer
     requires { ⌜ (operandsOf mark ≡ 2) × (kind ≡ takesOf mark) ⌝ }
     ensures { λ r. ⌜ given r ≡ operated₂ mark (given left) (given right) ⌝ }
 {
+    let Answer::Is(u) = left else {
+        return lacking(left);
+    };
+    let Answer::Is(v) = right else {
+        return without_right(kind, u, right);
+    };
     match kind {
-        marks::WHOLE => wholes(mark, left, right),
-        marks::TRUTH => truths(left, right),
-        _ => same(left, right),
+        marks::ANY => same(u, v),
+        marks::TRUTH => truths(u, v),
+        _ => wholes(mark, u, v),
     }
 }
 
@@ -138,16 +138,16 @@ fn one(mark: u8, kind: u8, operand: Answer) -> Answer
     ensures { λ r. ⌜ given r ≡ operated₁ mark (given operand) ⌝ }
 {
     let Answer::Is(v) = operand else {
-        return Answer::Nothing;
+        return lacking(operand);
     };
     if kind == marks::TRUTH {
         let Value::Truth(a) = v else {
-            return Answer::Nothing;
+            return Answer::WrongKind;
         };
         return operators::apply_one(mark, Value::Truth(a));
     }
     let Value::Whole(a) = v else {
-        return Answer::Nothing;
+        return Answer::WrongKind;
     };
     operators::apply_one(mark, Value::Whole(a))
 }

@@ -6,13 +6,13 @@ ghost use mathlib.Core.Path.{_≡_};
 ghost use Prim.Native.Nat.{_+_, _≤_, _<_};
 ghost use lib.ListN.{length, getD};
 ghost use Rattle.value.specs.Values.{given};
-ghost use Rattle.engine.specs.Words.{held};
+ghost use Rattle.engine.specs.Words.{valueIn};
 ghost use Rattle.engine.specs.Work.{Puts, Clears};
 
 // What local `x` of the frame at `base` holds.
 pub fn get(locals: &[u64], base: usize, x: usize) -> Answer
     requires { ⌜ base + x < length (now locals) ⌝ }
-    ensures { λ r. ⌜ given r ≡ held (getD (now (locals .entry)) (base + x) 0) ⌝ }
+    ensures { λ r. ⌜ given r ≡ valueIn (getD (now (locals .entry)) (base + x) 0) ⌝ }
 {
     word::unpack(locals[base + x])
 }

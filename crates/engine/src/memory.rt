@@ -6,23 +6,26 @@ use basics::numbers::CELL;
 use basics::numbers::LOCATIONS;
 use basics::numbers::SIZE;
 use basics::numbers::STARTS;
+use basics::reasons;
 use value::Answer;
+use value::Reason;
 use value::Value;
 ghost use mathlib.Core.Path.{_≡_};
 ghost use Prim.Native.Nat.{_+_, _*_, _^_, _≤_, _<_};
 ghost use lib.ListN.{length, getD};
 ghost use Rattle.value.specs.Values.{given};
-ghost use Rattle.engine.specs.Words.{held};
-ghost use Rattle.engine.specs.Work.{mostLocations, startWords, Puts, sizesAt, Starts, Finds, Places, WritesOne, Writes};
+ghost use Rattle.engine.specs.Words.{valueIn};
+ghost use Rattle.engine.specs.declared.memory.Spot.the-variants.{Nowhere};
+ghost use Rattle.engine.specs.Work.{amissOf, spotReason, mostLocations, startWords, Puts, sizesAt, Starts, Finds, Places, WritesOne, Writes};
 
-// A cell's location, its index there and its number among all cells; or there is none.
+// A cell's location, its index there and its number among all cells; or why there is none.
 pub enum Spot {
     At {
         location: usize,
         index: usize,
         cell: usize,
     },
-    Nowhere,
+    Nowhere(Reason),
 }
 
 // A number of 32 bits, as the number of a cell.
@@ -64,7 +67,7 @@ pub fn find(starts: &[u32; STARTS], location: usize, index: u32) -> Spot
     ensures { λ r. ⌜ Finds (now (starts .entry)) location index r ⌝ }
 {
     if location >= LOCATIONS {
-        return Spot::Nowhere;
+        return Spot::Nowhere(Reason::IndexOutside);
     }
     let cell = wide(starts[location]) + (index as usize);
     if cell < wide(starts[location + 1]) {
@@ -74,36 +77,64 @@ pub fn find(starts: &[u32; STARTS], location: usize, index: u32) -> Spot
             cell,
         }
     } else {
-        Spot::Nowhere
+        Spot::Nowhere(Reason::IndexOutside)
     }
 }
 
-// The cell of a pointer and an index, if both have values of the right kinds.
+// Why a pointer and an index have no cell, where one of them has no value or is of the wrong kind: "the index expression, then the pointer, then the
+// index against the size".
+fn nowhere(pointer: Answer, offset: Answer) -> Spot
+    ensures { λ r. ⌜ r ≡ Nowhere (amissOf pointer offset) ⌝ }
+{
+    let Answer::Is(o) = offset else {
+        return Spot::Nowhere(reasons::why(offset));
+    };
+    let Value::Whole(_) = o else {
+        return Spot::Nowhere(Reason::WrongKind); // before the pointer
+    };
+    Spot::Nowhere(reasons::why(pointer))
+}
+
+// The cell of a pointer and an index. What is judged first is found out aside.
 pub fn place(starts: &[u32; STARTS], pointer: Answer, offset: Answer) -> Spot
     ensures { λ r. ⌜ Places (now (starts .entry)) (given pointer) (given offset) r ⌝ }
 {
     let Answer::Is(p) = pointer else {
-        return Spot::Nowhere;
+        return nowhere(pointer, offset);
     };
     let Value::Location(l) = p else {
-        return Spot::Nowhere;
+        return nowhere(pointer, offset);
     };
     let Answer::Is(o) = offset else {
-        return Spot::Nowhere;
+        return nowhere(pointer, offset);
     };
     let Value::Whole(n) = o else {
-        return Spot::Nowhere;
+        return nowhere(pointer, offset);
     };
     if n < 0 {
-        return Spot::Nowhere;
+        return Spot::Nowhere(Reason::IndexOutside);
     }
     find(starts, l as usize, n as u32)
+}
+
+// Why there is no cell.
+pub fn reason(spot: Spot) -> Reason
+    ensures { λ r. ⌜ r ≡ spotReason spot ⌝ }
+{
+    match spot {
+        Spot::Nowhere(reason) => reason,
+        Spot::At {
+            location: _,
+            index: _,
+            cell: _,
+        } => Reason::IndexOutside, // is not asked
+    }
 }
 
 // What a cell holds.
 pub fn get(cells: &[u64], cell: usize) -> Answer
     requires { ⌜ cell < length (now cells) ⌝ }
-    ensures { λ r. ⌜ given r ≡ held (getD (now (cells .entry)) cell 0) ⌝ }
+    ensures { λ r. ⌜ given r ≡ valueIn (getD (now (cells .entry)) cell 0) ⌝ }
 {
     word::unpack(cells[cell])
 }

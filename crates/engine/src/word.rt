@@ -4,7 +4,7 @@ use value::Value;
 ghost use mathlib.Core.Path.{_≡_};
 ghost use Rattle.value.specs.Maybe.{is};
 ghost use Rattle.value.specs.Values.{given};
-ghost use Rattle.engine.specs.Words.{held};
+ghost use Rattle.engine.specs.Words.{held, valueIn};
 
 // "All cells start as number 0": the word of that number.
 pub const ZERO: u64 = 4294967296;
@@ -21,7 +21,7 @@ pub fn pack(v: Value) -> u64
 
 // The value that a word holds.
 pub fn unpack(w: u64) -> Answer
-    ensures { λ r. ⌜ given r ≡ held w ⌝ }
+    ensures { λ r. ⌜ given r ≡ valueIn w ⌝ }
 {
     basics::bytes::value_of((w / KIND % 256) as u8, (w % KIND) as u32)
 }

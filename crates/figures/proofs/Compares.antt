@@ -59,7 +59,7 @@ module _ (t ts u : List ℕ) {p : RunAnswer} (P : p ≡ programAnswer t ts) wher
 
   -- one that is
   pub compared-both : {a : ReadAnswer} (s : RunAnswer) → p .number ≡ 0 → a ≡ readCall concurrent t → s ≡ copyAnswer u ts (a .locations)
-      → Compared (record { number = 0; end = p .end; steps = p .steps; copy = s .steps; unused = p .unused; events = p .events })
+      → Compared (record { number = 0; end = p .end; steps = p .steps; copy = s .steps; unused = p .unused; events = p .events; reason = p .reason })
   unfolding compared
   compared-both s z A S = rw (← P, ← A, ← S) (rw (eq-eqb _ _ z))
 

@@ -80,17 +80,19 @@ pub line-refused : {o o′ : List ℕ} {p r : ℕ} (f : Figures) → (f .number 
 unfolding line
 line-refused f z P = rw (ne-eqb _ _ z) P
 
--- four numbers
-pub four-numbers : {o o₁ o₂ o₃ o₄ o₅ : List ℕ} {p p₁ p₂ p₃ p₄ p₅ : ℕ} (a b c d : ℕ) → Put o p (spaced a) o₁ p₁ → Put o₁ p₁ (spaced b) o₂ p₂
-    → Put o₂ p₂ (spaced c) o₃ p₃ → Put o₃ p₃ (spaced d) o₄ p₄ → Put o₄ p₄ newline o₅ p₅ → Put o p (numbers a b c d) o₅ p₅
+-- five numbers
+pub five-numbers : {o o₁ o₂ o₃ o₄ o₅ o₆ : List ℕ} {p p₁ p₂ p₃ p₄ p₅ p₆ : ℕ} (a b c d e : ℕ) → Put o p (spaced a) o₁ p₁ → Put o₁ p₁ (spaced b) o₂ p₂
+    → Put o₂ p₂ (spaced c) o₃ p₃ → Put o₃ p₃ (spaced d) o₄ p₄ → Put o₄ p₄ (spaced e) o₅ p₅ → Put o₅ p₅ newline o₆ p₆
+    → Put o p (numbers a b c d e) o₆ p₆
 unfolding numbers
-four-numbers a b c d A B C D E = put-then (spaced a) _ A (put-then (spaced b) _ B (put-then (spaced c) _ C (put-then (spaced d) newline D E)))
+five-numbers a b c d e A B C D E F =
+    put-then (spaced a) _ A (put-then (spaced b) _ B (put-then (spaced c) _ C (put-then (spaced d) _ D (put-then (spaced e) newline E F))))
 
 -- of a run
 pub line-told : {o o₁ o₂ : List ℕ} {p q r : ℕ} (f : Figures) → f .number ≡ 0
-    → Put o p (endWord (f .end)) o₁ q → Put o₁ q (numbers (f .steps) (f .copy) (f .unused) (f .events)) o₂ r → Put o p (line f) o₂ r
+    → Put o p (endWord (f .end)) o₁ q → Put o₁ q (numbers (f .steps) (f .copy) (f .unused) (f .events) (f .reason)) o₂ r → Put o p (line f) o₂ r
 unfolding line
-line-told f z A B = rw (eq-eqb _ _ z) (put-then (endWord (f .end)) (numbers (f .steps) (f .copy) (f .unused) (f .events)) A B)
+line-told f z A B = rw (eq-eqb _ _ z) (put-then (endWord (f .end)) (numbers (f .steps) (f .copy) (f .unused) (f .events) (f .reason)) A B)
 
 -- ---- its length
 
@@ -117,17 +119,18 @@ short-word (suc (suc n)) = omega arith
 short-refused : (n : ℕ) → length (refusedLine n) ≤ 29
 short-refused n = simp length-append (omega (arith, few-digits 20 n))
 
--- four numbers
-short-numbers : (a b c d : ℕ) → length (numbers a b c d) ≤ 85
+-- five numbers
+short-numbers : (a b c d e : ℕ) → length (numbers a b c d e) ≤ 106
 unfolding numbers
-short-numbers a b c d = simp length-append (omega (arith, few-digits 20 a, few-digits 20 b, few-digits 20 c, few-digits 20 d))
+short-numbers a b c d e =
+    simp length-append (omega (arith, few-digits 20 a, few-digits 20 b, few-digits 20 c, few-digits 20 d, few-digits 20 e))
 
--- a line has at most 93 bytes
-pub short-line : (f : Figures) → length (line f) ≤ 93
+-- a line has at most 114 bytes
+pub short-line : (f : Figures) → length (line f) ≤ 114
 unfolding line
 short-line f =
     by-test (eqb (f .number) 0)
-    (λ e. rw e (simp length-append (omega (arith, short-word (f .end), short-numbers (f .steps) (f .copy) (f .unused) (f .events)))))
+    (λ e. rw e (simp length-append (omega (arith, short-word (f .end), short-numbers (f .steps) (f .copy) (f .unused) (f .events) (f .reason)))))
     (λ e. rw e (omega (arith, short-refused (f .number))))
 
 -- a line's first bytes are as many as it has
@@ -159,6 +162,6 @@ pub ruleset line-ways = (
   end-blocked,
   refused-parts,
   line-refused,
-  four-numbers,
+  five-numbers,
   line-told,
 )

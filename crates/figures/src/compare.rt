@@ -55,6 +55,7 @@ fn run_both(table: &[u8], schedule: &[u8], copy: &[u8]) -> Figures
         copy: copied.steps,
         unused: program.unused,
         events: program.events,
+        reason: program.reason,
     }
 }
 

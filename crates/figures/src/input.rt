@@ -9,7 +9,7 @@ ghost use mathlib.Core.Path.{_≡_};
 ghost use Prim.Native.Nat.{min};
 ghost use Rattle.agreement.specs.Line.{told, printed, lined};
 
-// A buffer that is large enough for a line: it has at most 93 bytes.
+// A buffer that is large enough for a line: it has at most 114 bytes.
 pub const LINE: usize = 128;
 
 // The place, or the end if that comes first.

@@ -20,5 +20,6 @@ fn refused(number: u8) -> Figures
         copy: 0,
         unused: 0,
         events: 0,
+        reason: 0,
     }
 }

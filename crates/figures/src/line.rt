@@ -56,15 +56,16 @@ fn put_refused(number: u8, out: &mut [u8], at: usize) -> usize
     put(out, q, b'\n')
 }
 
-// Four numbers end the line of a run.
-fn put_numbers(a: u64, b: u64, c: u64, d: u64, out: &mut [u8], at: usize) -> usize
-    ensures { λ r. ⌜ Put (now (out .entry)) at (numbers a b c d) (now (out .exit)) r ⌝ }
+// Five numbers end the line of a run.
+fn put_numbers(a: u64, b: u64, c: u64, d: u64, e: u64, out: &mut [u8], at: usize) -> usize
+    ensures { λ r. ⌜ Put (now (out .entry)) at (numbers a b c d e) (now (out .exit)) r ⌝ }
 {
     let p = put_number(a, out, at);
     let q = put_number(b, out, p);
     let r = put_number(c, out, q);
     let s = put_number(d, out, r);
-    put(out, s, b'\n')
+    let t = put_number(e, out, s);
+    put(out, t, b'\n')
 }
 
 // "It prints one line".
@@ -75,7 +76,15 @@ fn put_line(f: Figures, out: &mut [u8]) -> usize
         return put_refused(f.number, out, 0);
     }
     let p = put_end(f.end, out, 0);
-    put_numbers(f.steps, f.copy, f.unused as u64, f.events, out, p)
+    put_numbers(
+        f.steps,
+        f.copy,
+        f.unused as u64,
+        f.events,
+        f.reason as u64,
+        out,
+        p,
+    )
 }
 
 // The line, and its length.

@@ -13,7 +13,8 @@ use value::Value;
 ghost use mathlib.Core.Path.{_≡_};
 ghost use mathlib.Core.List.{[], _∷_};
 ghost use lib.IntN.{negsuc};
-ghost use Rattle.value.specs.Maybe.{is, nothing};
+ghost use Rattle.value.specs.Try.{has, lacks};
+ghost use Rattle.value.specs.declared.Reason.the-variants.{OutOfRange};
 ghost use Rattle.value.specs.Values.{given};
 ghost use Rattle.value.specs.declared.Value.the-variants.{Whole};
 
@@ -50,14 +51,14 @@ fn a_is_translated() -> WriteAnswer
 
 // "Schedule 0: finished, 24 steps."
 fn a_finishes() -> Figures
-    ensures { λ r. ⌜ r ≡ record { number = 0; end = 0; steps = 1; copy = 24; unused = 0; events = 0 } ⌝ }
+    ensures { λ r. ⌜ r ≡ record { number = 0; end = 0; steps = 1; copy = 24; unused = 0; events = 0; reason = 0 } ⌝ }
 {
     figures(&A, b"\x00")
 }
 
 // "A, schedule 0 0: finished, one entry unused."
 fn a_leaves_one() -> Figures
-    ensures { λ r. ⌜ r ≡ record { number = 0; end = 0; steps = 1; copy = 24; unused = 1; events = 0 } ⌝ }
+    ensures { λ r. ⌜ r ≡ record { number = 0; end = 0; steps = 1; copy = 24; unused = 1; events = 0; reason = 0 } ⌝ }
 {
     figures(&A, b"\x00\x00")
 }
@@ -79,28 +80,28 @@ fn b_is_translated() -> WriteAnswer
 
 // "Prices 4, 7, 7, 4": each step costs the copy L + 2T + 10 = 18 and its price. From 9, 4 for the assignment.
 fn b_assigns() -> Figures
-    ensures { λ r. ⌜ r ≡ record { number = 0; end = 1; steps = 1; copy = 31; unused = 0; events = 0 } ⌝ }
+    ensures { λ r. ⌜ r ≡ record { number = 0; end = 1; steps = 1; copy = 31; unused = 0; events = 0; reason = 0 } ⌝ }
 {
     figures(&B, b"\x00")
 }
 
 // 7 for the read.
 fn b_reads() -> Figures
-    ensures { λ r. ⌜ r ≡ record { number = 0; end = 1; steps = 2; copy = 56; unused = 0; events = 1 } ⌝ }
+    ensures { λ r. ⌜ r ≡ record { number = 0; end = 1; steps = 2; copy = 56; unused = 0; events = 1; reason = 0 } ⌝ }
 {
     figures(&B, b"\x00\x00")
 }
 
 // 7 for the write.
 fn b_writes() -> Figures
-    ensures { λ r. ⌜ r ≡ record { number = 0; end = 1; steps = 3; copy = 81; unused = 0; events = 2 } ⌝ }
+    ensures { λ r. ⌜ r ≡ record { number = 0; end = 1; steps = 3; copy = 81; unused = 0; events = 2; reason = 0 } ⌝ }
 {
     figures(&B, b"\x00\x00\x00")
 }
 
 // 4 for the end label.
 fn b_returns() -> Figures
-    ensures { λ r. ⌜ r ≡ record { number = 0; end = 1; steps = 4; copy = 103; unused = 0; events = 2 } ⌝ }
+    ensures { λ r. ⌜ r ≡ record { number = 0; end = 1; steps = 4; copy = 103; unused = 0; events = 2; reason = 0 } ⌝ }
 {
     figures(&B, b"\x00\x00\x00\x00")
 }
@@ -135,42 +136,49 @@ fn b_loses_one() -> [u8; 5]
 
 // "198 copy steps each."
 fn b_in_turn() -> Figures
-    ensures { λ r. ⌜ r ≡ record { number = 0; end = 0; steps = 8; copy = 198; unused = 0; events = 4 } ⌝ }
+    ensures { λ r. ⌜ r ≡ record { number = 0; end = 0; steps = 8; copy = 198; unused = 0; events = 4; reason = 0 } ⌝ }
 {
     figures(&B, b"\x00\x00\x00\x00\x01\x01\x01\x01")
 }
 
 // The same of the lost update.
 fn b_mixed() -> Figures
-    ensures { λ r. ⌜ r ≡ record { number = 0; end = 0; steps = 8; copy = 198; unused = 0; events = 4 } ⌝ }
+    ensures { λ r. ⌜ r ≡ record { number = 0; end = 0; steps = 8; copy = 198; unused = 0; events = 4; reason = 0 } ⌝ }
 {
     figures(&B, b"\x00\x00\x01\x01\x00\x01\x00\x01")
 }
 
 // "B, empty schedule: used up, 0 steps; the copy took 9."
 fn b_unscheduled() -> Figures
-    ensures { λ r. ⌜ r ≡ record { number = 0; end = 1; steps = 0; copy = 9; unused = 0; events = 0 } ⌝ }
+    ensures { λ r. ⌜ r ≡ record { number = 0; end = 1; steps = 0; copy = 9; unused = 0; events = 0; reason = 0 } ⌝ }
 {
     figures(&B, b"")
 }
 
-// "2,147,483,647 + 1 .. no value".
+// "4 finished thread chosen": B, schedule 0 0 0 0 0 1.
+fn b_blocks() -> Figures
+    ensures { λ r. ⌜ r ≡ record { number = 0; end = 2; steps = 4; copy = 103; unused = 2; events = 2; reason = 4 } ⌝ }
+{
+    figures(&B, b"\x00\x00\x00\x00\x00\x01")
+}
+
+// "2,147,483,647 + 1 .. no value": "1 outside the number range".
 fn sum_too_large() -> Answer
-    ensures { λ r. ⌜ given r ≡ nothing ⌝ }
+    ensures { λ r. ⌜ given r ≡ lacks OutOfRange ⌝ }
 {
     operators::add(Value::Whole(2147483647), Value::Whole(1))
 }
 
 // "Negate of -2,147,483,648 .. no value".
 fn negate_too_large() -> Answer
-    ensures { λ r. ⌜ given r ≡ nothing ⌝ }
+    ensures { λ r. ⌜ given r ≡ lacks OutOfRange ⌝ }
 {
     operators::negate(Value::Whole(-2147483648))
 }
 
 // "-2,147,483,648 itself has".
 fn lowest() -> Answer
-    ensures { λ r. ⌜ given r ≡ is (Whole (negsuc 2147483647)) ⌝ }
+    ensures { λ r. ⌜ given r ≡ has (Whole (negsuc 2147483647)) ⌝ }
 {
     operators::subtract(Value::Whole(-2147483647), Value::Whole(1))
 }

@@ -6,6 +6,7 @@ use mathlib.Core.Bool.{Bool, true, false}
 use lib.ListN.{length}
 use lib.Dec.{ltb, leb}
 use Rattle.value.specs.Maybe.{both}
+use Rattle.value.specs.Try.{reasonNumber}
 use Rattle.value.specs.Lists.{all, sum, over}
 use Rattle.value.specs.Values.{cellSize}
 use Rattle.format.specs.Syntax.{Program, Plain, Kind, concurrent, sequential}
@@ -22,16 +23,24 @@ use Rattle.semantics.specs.Buffers.{cells, log}
 abbrev pub endNumber : End → ℕ
 endNumber finished = 0
 endNumber used = 1
-endNumber blocked = 2
+endNumber (blocked r) = 2
 endNumber spent = 3
+
+-- why it blocked, "0 when not blocked"
+abbrev pub reasonOf : End → ℕ
+reasonOf finished = 0
+reasonOf used = 0
+reasonOf spent = 0
+reasonOf (blocked r) = reasonNumber r
 
 -- "A refusal returns its number and zeros"
 abbrev pub refusal : ℕ → RunAnswer
-refusal n = record { number = n; end = 0; steps = 0; unused = 0; events = 0 }
+refusal n = record { number = n; end = 0; steps = 0; unused = 0; events = 0; reason = 0 }
 
--- its end, its steps, its unused entries, its events
+-- its end, its steps, its unused entries, its events, its reason
 abbrev pub ran : End → ℕ → ℕ → ℕ → RunAnswer
-ran how steps unused events = record { number = 0; end = endNumber how; steps = steps; unused = unused; events = events }
+ran how steps unused events =
+    record { number = 0; end = endNumber how; steps = steps; unused = unused; events = events; reason = reasonOf how }
 
 -- an answer, and the lent buffers after the call
 pub record Outcome : Type 0 where

@@ -1,12 +1,13 @@
 -- The sequential machine: report RR-2017-03, figure 1, with select by schedule. Document 01, "The two machines".
 use Prim.Native.Nat.{ℕ, zero, suc}
 use mathlib.Core.List.{List, [], _∷_, _++_}
-use mathlib.Core.Bool.{Bool, true, false}
 use lib.Dec.{ltb}
 use lib.IntN.{pos, negsuc}
-use Rattle.value.specs.Maybe.{Maybe, is, nothing, pick}
+use Rattle.value.specs.Maybe.{pick}
+use Rattle.value.specs.Try.{Try, has, lacks, _⟫_}
 use Rattle.value.specs.declared.Value.{Value}
 use Rattle.value.specs.declared.Value.the-variants.{Whole, Location, Truth}
+use Rattle.value.specs.declared.Reason.the-variants.{WrongKind, FinishedThread}
 use Rattle.format.specs.Syntax.{Instr, assign, write, read, while, if, call, atomic, select, Block, end, step, Proc, Program, Plain}
 use Rattle.semantics.specs.Memory.{Env, Memory, cell, stored, fresh, Event}
 use Rattle.semantics.specs.Step.{Frame, Stack, Moved, entered, instr}
@@ -33,13 +34,13 @@ start p ts = record { stack = stack (p .procs); memory = fresh (p .sizes); todo 
     stack [] = []
     stack (q ∷ qs) = entered 0 q [] ∷ []
 
--- "a number other than 0"
-abbrev pub running : Value → Bool
-running (Whole (pos zero)) = false
-running (Whole (pos (suc n))) = true
-running (Whole (negsuc n)) = true
-running (Location l) = false
-running (Truth b) = false
+-- "a number other than 0"; request #101: "one whose cell isn't a number 2, one whose cell is 0 gives 4"
+abbrev pub running : Value → Try Value
+running (Whole (pos zero)) = lacks FinishedThread
+running (Whole (pos (suc n))) = has (Whole (pos (suc n)))
+running (Whole (negsuc n)) = has (Whole (negsuc n))
+running (Location l) = lacks WrongKind
+running (Truth b) = lacks WrongKind
 
 -- events after others, of the locations below h
 abbrev pub kept : ℕ → List Event → List Event → List Event
@@ -47,22 +48,20 @@ kept h evs [] = evs
 kept h evs (e ∷ es) = kept h (pick (ltb (e .place) h) (evs ++ (e ∷ [])) evs) es
 
 -- a step of figure 1; "a missing value, a wrong kind or an index outside the size blocks"
-abbrev pub moved : ℕ → List ℕ → ℕ → List Event → Maybe (Moved Plain) → Next
-moved h ts t evs nothing = ended blocked
-moved h ts t evs (is r) = goes (record { stack = r .stack; memory = r .memory; todo = ts; last = t; events = kept h evs (r .events) })
+abbrev pub moved : ℕ → List ℕ → ℕ → List Event → Try (Moved Plain) → Next
+moved h ts t evs (lacks r) = ended (blocked r)
+moved h ts t evs (has r) = goes (record { stack = r .stack; memory = r .memory; todo = ts; last = t; events = kept h evs (r .events) })
 
 -- "writes t into a[0], without an event, if b[t] exists and is a number other than 0; else it blocks and takes none"
-abbrev pub selected : ℕ → Memory → Frame Plain → Stack Plain → ℕ → List ℕ → List Event → Maybe Value → Next
-selected a η f s t ts evs nothing = ended blocked
-selected a η f s t ts evs (is v) = elim (running v) [
-  | false ↦ ended blocked
-  | true ↦ goes (record { stack = f ∷ s; memory = stored η a 0 (Whole (pos t)); todo = ts; last = t; events = evs })
-]
+abbrev pub selected : ℕ → Memory → Frame Plain → Stack Plain → ℕ → List ℕ → List Event → Try Value → Next
+selected a η f s t ts evs (lacks r) = ended (blocked r)
+selected a η f s t ts evs (has v) =
+    goes (record { stack = f ∷ s; memory = stored η a 0 (Whole (pos t)); todo = ts; last = t; events = evs })
 
--- "Select takes the next entry t"; "used up (select and no entry)"
+-- "Select takes the next entry t"; "used up (select and no entry)"; "whose entry lies outside b gives 3"
 abbrev pub choose : ℕ → ℕ → Memory → Frame Plain → Stack Plain → List ℕ → List Event → Next
 choose a b η f s [] evs = ended used
-choose a b η f s (t ∷ ts) evs = selected a η f s t ts evs (cell η b t)
+choose a b η f s (t ∷ ts) evs = selected a η f s t ts evs (cell η b t ⟫ running)
 
 -- the machine records the events of the locations below h
 module _ (h : ℕ) (procs : List (Proc Plain)) where
@@ -75,7 +74,7 @@ module _ (h : ℕ) (procs : List (Proc Plain)) where
   one m ρ (while e b) c s η ts t evs = moved h ts t evs (instr procs t m ρ tt (while e b) c s η)
   one m ρ (if e b d) c s η ts t evs = moved h ts t evs (instr procs t m ρ tt (if e b d) c s η)
   one m ρ (call n es) c s η ts t evs = moved h ts t evs (instr procs t m ρ tt (call n es) c s η)
-  one m ρ (atomic b) c s η ts t evs = ended blocked
+  one m ρ (atomic b) c s η ts t evs = ended (blocked WrongKind)
 
   -- code, or a return
   abbrev pub code : Block Plain → ℕ → Env → Stack Plain → Memory → List ℕ → ℕ → List Event → Next
@@ -101,7 +100,7 @@ pub record Ran : Type 0 where
 abbrev pub atBudget : Next → End
 atBudget (ended finished) = finished
 atBudget (ended used) = spent
-atBudget (ended blocked) = spent
+atBudget (ended (blocked r)) = spent
 atBudget (ended spent) = spent
 atBudget (goes c) = spent
 

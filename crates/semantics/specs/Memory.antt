@@ -3,12 +3,15 @@ use Prim.Native.Nat.{ℕ}
 use mathlib.Core.List.{List, [], _∷_}
 use mathlib.Core.Bool.{Bool}
 use lib.ListN.{getD, set, replicate}
-use lib.IntN.{pos, negsuc}
+use lib.IntN.{ℤ, pos, negsuc}
 use Rattle.value.specs.Maybe.{Maybe, is, nothing, _>>=_}
+use Rattle.value.specs.Try.{Try, has, lacks, _⟫_, orLacks}
 use Rattle.value.specs.Lists.{at}
 use Rattle.value.specs.Values.{apply₁, apply₂}
+use Rattle.value.specs.Marks.{judged}
 use Rattle.value.specs.declared.Value.{Value}
-use Rattle.value.specs.declared.Value.the-variants.{Whole, Location, Truth}
+use Rattle.value.specs.declared.Value.the-variants.{Whole}
+use Rattle.value.specs.declared.Reason.the-variants.{WrongKind, IndexOutside}
 use Rattle.format.specs.Syntax.{Expr, constant, local, one, two}
 
 -- the locals of a frame, by number; one that is not set is nothing
@@ -23,32 +26,31 @@ lookup ρ x = getD ρ x nothing
 abbrev pub bound : Env → ℕ → Value → Env
 bound ρ x v = set ρ x (is v)
 
--- document 01: "An operator with an operand that has no value, or of the wrong kind, has none itself"
-abbrev pub eval : Env → Expr → Maybe Value
-eval ρ (constant v) = is v
-eval ρ (local x) = lookup ρ x
-eval ρ (one o a) = eval ρ a >>= apply₁ o
-eval ρ (two o a b) = eval ρ a >>= λ u. eval ρ b >>= λ v. apply₂ o u v
+-- document 01: "An operator with an operand that has no value, or of the wrong kind, has none itself"; request #101: "The left operand, its kind
+-- included, is judged before the right, and the range of the result last". Number 8 keeps out a local that is not set: 2 here
+abbrev pub eval : Env → Expr → Try Value
+eval ρ (constant v) = has v
+eval ρ (local x) = orLacks WrongKind (lookup ρ x)
+eval ρ (one o a) = eval ρ a ⟫ apply₁ o
+eval ρ (two o a b) = eval ρ a ⟫ judged o ⟫ λ u. eval ρ b ⟫ λ v. apply₂ o u v
 
--- several expressions, all of which must have a value
-abbrev pub evals : Env → List Expr → Maybe (List Value)
-evals ρ [] = is []
-evals ρ (e ∷ es) = eval ρ e >>= λ v. evals ρ es >>= λ vs. is (v ∷ vs)
-
--- a whole number that can be an index
-abbrev pub index : Value → Maybe ℕ
-index (Whole (pos n)) = is n
-index (Whole (negsuc n)) = nothing
-index (Location l) = nothing
-index (Truth b) = nothing
+-- several expressions, all of which must have a value: the first that has none decides
+abbrev pub evals : Env → List Expr → Try (List Value)
+evals ρ [] = has []
+evals ρ (e ∷ es) = eval ρ e ⟫ λ v. evals ρ es ⟫ λ vs. has (v ∷ vs)
 
 -- memory, by location and index
 abbrev pub Memory : Type 0
 Memory = List (List Value)
 
--- the cell of an index of a location, if it is there
-abbrev pub cell : Memory → ℕ → ℕ → Maybe Value
-cell η l i = at η l >>= λ row. at row i
+-- the cell of an index of a location; "3 index outside"
+abbrev pub cell : Memory → ℕ → ℕ → Try Value
+cell η l i = orLacks IndexOutside (at η l >>= λ row. at row i)
+
+-- a whole number as an index: a negative one is outside
+abbrev pub index : ℤ → Try ℕ
+index (pos n) = has n
+index (negsuc n) = lacks IndexOutside
 
 -- a value is stored in a cell
 abbrev pub stored : Memory → ℕ → ℕ → Value → Memory

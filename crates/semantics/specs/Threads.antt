@@ -3,11 +3,14 @@ use Prim.Native.Nat.{ℕ, zero, suc, _+_}
 use mathlib.Core.List.{List, [], _∷_, _++_}
 use mathlib.Core.Bool.{Bool, true, false}
 use lib.ListN.{length, set}
-use Rattle.value.specs.Maybe.{Maybe, is, nothing, _>>=_}
+use Rattle.value.specs.Maybe.{Maybe, is, nothing}
+use Rattle.value.specs.Try.{Try, has, lacks, _⟫_, orLacks}
 use Rattle.value.specs.Lists.{at}
 use Rattle.format.specs.Syntax.{Instr, assign, write, read, while, if, call, atomic, select, Block, end, step, Proc, Program}
 use Rattle.format.specs.Labels.{first, endOf}
 use Rattle.semantics.specs.Memory.{Env, Memory, fresh, Event}
+use Rattle.value.specs.declared.Reason.{Reason}
+use Rattle.value.specs.declared.Reason.the-variants.{WrongKind, FinishedThread}
 use Rattle.semantics.specs.Step.{Stack, Moved, entered, instr}
 
 -- a stack for each thread, and memory: report RR-2017-03, figure 2
@@ -60,36 +63,36 @@ pub record Atomic : Type 0 where
 
 module _ (procs : List (Proc ℕ)) (t : ℕ) where
   -- steps of a stack until one frame with no code is left, at most n of them
-  abbrev pub toEnd : ℕ → Stack ℕ → Memory → List Event → Maybe Atomic
-  toEnd zero [] η evs = nothing
-  toEnd zero (f ∷ s) η evs = elim (f .code) [ end ↦ is (record { env = f .env; memory = η; events = evs }) | step a i c ↦ nothing ]
-  toEnd (suc n) [] η evs = nothing
+  abbrev pub toEnd : ℕ → Stack ℕ → Memory → List Event → Try Atomic
+  toEnd zero [] η evs = lacks WrongKind
+  toEnd zero (f ∷ s) η evs = elim (f .code) [ end ↦ has (record { env = f .env; memory = η; events = evs }) | step a i c ↦ lacks WrongKind ]
+  toEnd (suc n) [] η evs = lacks WrongKind
   toEnd (suc n) (f ∷ s) η evs = elim (f .code) [
-    | end ↦ is (record { env = f .env; memory = η; events = evs })
-    | step a i c ↦ (instr procs t (f .proc) (f .env) a i c s η >>= λ r. toEnd n (r .stack) (r .memory) (evs ++ r .events))
+    | end ↦ has (record { env = f .env; memory = η; events = evs })
+    | step a i c ↦ (instr procs t (f .proc) (f .env) a i c s η ⟫ λ r. toEnd n (r .stack) (r .memory) (evs ++ r .events))
   ]
 
   -- the first instruction of a thread's code: a whole atomic block, or one step
-  abbrev pub first-instr : ℕ → Env → ℕ → Instr ℕ → Block ℕ → Stack ℕ → Memory → Maybe (Moved ℕ)
+  abbrev pub first-instr : ℕ → Env → ℕ → Instr ℕ → Block ℕ → Stack ℕ → Memory → Try (Moved ℕ)
   first-instr m ρ a (atomic b) c s η =
-      toEnd (size b) (record { proc = m; env = ρ; code = b } ∷ []) η [] >>= λ r.
-      is (record { stack = record { proc = m; env = r .env; code = c } ∷ s; memory = r .memory; events = r .events })
+      toEnd (size b) (record { proc = m; env = ρ; code = b } ∷ []) η [] ⟫ λ r.
+      has (record { stack = record { proc = m; env = r .env; code = c } ∷ s; memory = r .memory; events = r .events })
   first-instr m ρ a (assign x e) c s η = instr procs t m ρ a (assign x e) c s η
   first-instr m ρ a (write y o e) c s η = instr procs t m ρ a (write y o e) c s η
   first-instr m ρ a (read x y o) c s η = instr procs t m ρ a (read x y o) c s η
   first-instr m ρ a (while e b) c s η = instr procs t m ρ a (while e b) c s η
   first-instr m ρ a (if e b d) c s η = instr procs t m ρ a (if e b d) c s η
   first-instr m ρ a (call n es) c s η = instr procs t m ρ a (call n es) c s η
-  first-instr m ρ a (select x y) c s η = nothing
+  first-instr m ρ a (select x y) c s η = lacks WrongKind
 
   -- the code of the top frame, or its return
-  abbrev pub code : Block ℕ → ℕ → Env → Stack ℕ → Memory → Maybe (Moved ℕ)
-  code end m ρ s η = is (record { stack = s; memory = η; events = [] })
+  abbrev pub code : Block ℕ → ℕ → Env → Stack ℕ → Memory → Try (Moved ℕ)
+  code end m ρ s η = has (record { stack = s; memory = η; events = [] })
   code (step a i c) m ρ s η = first-instr m ρ a i c s η
 
-  -- a step of a thread; a finished one has none
-  abbrev pub thread : Stack ℕ → Memory → Maybe (Moved ℕ)
-  thread [] η = nothing
+  -- a step of a thread; "4 finished thread chosen"
+  abbrev pub thread : Stack ℕ → Memory → Try (Moved ℕ)
+  thread [] η = lacks FinishedThread
   thread (f ∷ s) η = code (f .code) (f .proc) (f .env) s η
 
 -- what a step of a thread leaves
@@ -98,15 +101,16 @@ pub record Step : Type 0 where
   pub events : List Event
 
 -- thread t takes a step
-abbrev pub threadStep : Program ℕ → ℕ → State → Maybe Step
+abbrev pub threadStep : Program ℕ → ℕ → State → Try Step
 threadStep p t s =
-    at (s .threads) t >>= λ stack.
-    thread (p .procs) t stack (s .memory) >>= λ r.
-    is (record { state = record { threads = set (s .threads) t (r .stack); memory = r .memory }; events = r .events })
+    orLacks FinishedThread (at (s .threads) t) ⟫ λ stack.
+    thread (p .procs) t stack (s .memory) ⟫ λ r.
+    has (record { state = record { threads = set (s .threads) t (r .stack); memory = r .memory }; events = r .events })
 
--- finished, schedule used up, blocked; the last is a sequential run at its budget
+-- finished, schedule used up, blocked and why; the last is a sequential run at its budget
 pub data End : Type 0 where
-  finished used blocked spent : End
+  finished used spent : End
+  blocked : Reason → End
 
 -- a run: how it ended, its steps and unused entries, the state and the events
 pub record Ran : Type 0 where
@@ -125,8 +129,8 @@ run p [] s k evs = elim (done (s .threads)) [
 run p (t ∷ ts) s k evs = elim (done (s .threads)) [
   | true ↦ record { how = finished; steps = k; unused = suc (length ts); state = s; events = evs }
   | false ↦ elim (threadStep p t s) [
-    | nothing ↦ record { how = blocked; steps = k; unused = suc (length ts); state = s; events = evs }
-    | is r ↦ run p ts (r .state) (suc k) (evs ++ r .events)
+    | lacks r ↦ record { how = blocked r; steps = k; unused = suc (length ts); state = s; events = evs }
+    | has r ↦ run p ts (r .state) (suc k) (evs ++ r .events)
   ]
 ]
 

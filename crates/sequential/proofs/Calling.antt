@@ -139,7 +139,7 @@ outcome-of : {t : List ℕ} {P M c : ℕ} {records : ℕ} {ts js ss ls bs ks : L
     → cellSize * c ≤ length cs → (q : Starting t records js ss ls bs ks) → q .loaded .program ≡ a .program → RanAs q ts h n es ms es′ r
     → Writes ms c cs os
     → _≡_ {A = Outcome} (record {
-      answer = record { number = 0; end = r .end; steps = r .steps; unused = length ts - r .taken; events = r .events };
+      answer = record { number = 0; end = r .end; steps = r .steps; unused = length ts - r .taken; events = r .events; reason = r .reason };
       cells = os;
       events = es′;
     }) (sequentialOutcome n h ts cs es (a .program))
@@ -149,7 +149,7 @@ outcome-of {c = c} {ts = ts} {h = h} {n} {cs} {es} {os = os} {es′} {r} a room 
     let left : length ts - r .taken ≡ length (z .config .todo) = sym (length-drop (r .taken) ts) ∙ ap length (sym (z .todo)) in
     let all : c ≡ length (flat η) = a .cells ∙ ap (λ (p : Program Plain). sum (p .sizes)) (sym w) ∙ ap sum (sym (z .sizes)) ∙ sym (length-flat η) in
     let wrote : os ≡ over (cells η) cs = W .written η (z .memory) all room in
-    rw (z .end, left, z .events .count, wrote, z .events .bytes)
+    rw (z .end, z .reason, left, z .events .count, wrote, z .events .bytes)
     (sym (ap (λ (ran : C.Ran). result (ran .how) (ran .steps) (length (ran .config .todo)) (ran .config .memory) (ran .config .events) cs es) same))
 
 -- of the whole call
@@ -158,7 +158,7 @@ pub run-outcome : {t : List ℕ} {P M c : ℕ} {ts js js′ ss : List ℕ} {h n 
     → Runs t (recordsFrom t P M) ts js′ ss (replicate localWords 0) (replicate stackFrames 0) (replicate cellWords (2 ^ 32))
     h n es ms es′ r
     → Writes ms c cs os
-    → Outcomes t P M c ts n h cs es (record { number = 0; end = r .end; steps = r .steps; unused = length ts - r .taken; events = r .events }) os es′
+    → Outcomes t P M c ts n h cs es (record { number = 0; end = r .end; steps = r .steps; unused = length ts - r .taken; events = r .events; reason = r .reason }) os es′
 unfolding accepted-starting
 run-outcome e F S R W = record { same = λ a room. outcome-of a room (accepted-starting a e F S) refl (R .ran (accepted-starting a e F S)) W }
 

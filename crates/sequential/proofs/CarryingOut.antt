@@ -9,6 +9,8 @@ use lib.Seq.{getD-set-same, drop-drop}
 use borrow.Author.Tests.{lt-ltb, le-ltb}
 use lib.IntN.{pos}
 use Rattle.value.specs.Maybe.{is}
+use Rattle.value.specs.Try.{has}
+use Rattle.value.specs.declared.Reason.{Reason}
 use Rattle.basics.specs.Places.{numberAt}
 use Rattle.value.specs.declared.Value.{Value}
 use Rattle.value.specs.declared.Value.the-variants.{Whole}
@@ -76,26 +78,26 @@ module _ {t : List ℕ} {records : ℕ} {js : List ℕ} {h : ℕ} {ls bs cs es :
           let all : Block Plain = b ⊕ step tt (while a b) (b′ ⊕ r) in
           record {
             config = restacked (d .config) (recoded (d .frame) all ∷ d .below);
-            goes = next-while h (d .loaded .program .procs) (d .config) (d .stack) w (u ∙ ap is f);
+            goes = next-while h (d .loaded .program .procs) (d .config) (d .stack) w (u ∙ ap has f);
             present = went-on d (recoded (d .frame) all) refl (recodes d (goes-on d b (B .yes f) (code-body o z)));
           }
       go d false f (looping a b b′ r o w z u) = record {
         config = restacked (d .config) (recoded (d .frame) (b′ ⊕ r) ∷ d .below);
-        goes = next-while h (d .loaded .program .procs) (d .config) (d .stack) w (u ∙ ap is f);
+        goes = next-while h (d .loaded .program .procs) (d .config) (d .stack) w (u ∙ ap has f);
         present = went-on d (recoded (d .frame) (b′ ⊕ r)) refl (recodes d (rw (B .no f) (d .loaded .jumps .entry _ _ _ _ o .goes (b′ ⊕ r) refl)));
       }
       go d true f (choosing a b b′ b″ r o w z u) =
           let all : Block Plain = b ⊕ (b″ ⊕ r) in
           record {
             config = restacked (d .config) (recoded (d .frame) all ∷ d .below);
-            goes = next-if h (d .loaded .program .procs) (d .config) (d .stack) w (u ∙ ap is f);
+            goes = next-if h (d .loaded .program .procs) (d .config) (d .stack) w (u ∙ ap has f);
             present = went-on d (recoded (d .frame) all) refl (recodes d (goes-on d b (B .yes f) (code-then o z)));
           }
       go d false f (choosing a b b′ b″ r o w z u) =
           let all : Block Plain = b′ ⊕ (b″ ⊕ r) in
           record {
             config = restacked (d .config) (recoded (d .frame) all ∷ d .below);
-            goes = next-if h (d .loaded .program .procs) (d .config) (d .stack) w (u ∙ ap is f);
+            goes = next-if h (d .loaded .program .procs) (d .config) (d .stack) w (u ∙ ap has f);
             present = went-on d (recoded (d .frame) all) refl (recodes d (rw (B .no f) (d .loaded .jumps .entry _ _ _ _ o .goes all refl)));
           }
 
@@ -200,7 +202,7 @@ module _ {t : List ℕ} {records : ℕ} {js : List ℕ} {h : ℕ} {ls bs cs es :
     where
       go : (d : Due t records js ls bs cs es s x) → Doing (d .loaded .program) (d .config) (d .frame) (s .at) (Select j u n)
           → Moves (d .loaded .program) (d .lent) (d .schedule) h (d .config) ls bs cs′ es (selectedTo s k u)
-      go d (selecting a b us b′ r o p q z u₀ u₁ u₂ f) =
+      go d (selecting a b us b′ r o p q z u₀ u₁ f) =
           let η : Memory = d .config .memory in
           let rest : drop (s .taken) (d .schedule) ≡ u ∷ us = sym (d .present .todo) ∙ u₀ in
           record {
@@ -211,7 +213,7 @@ module _ {t : List ℕ} {records : ℕ} {js : List ℕ} {h : ℕ} {ls bs cs es :
               last = u;
               events = d .config .events;
             };
-            goes = next-select h (d .loaded .program .procs) (d .config) (d .stack) q u₀ u₁ u₂;
+            goes = next-select h (d .loaded .program .procs) (d .config) (d .stack) q u₀ u₁;
             present = record {
               depth = deep d;
               frames = recodes d (goes-on d b′ g (code-after p z));
@@ -285,8 +287,8 @@ module _ {t : List ℕ} {records : ℕ} {js : List ℕ} {h : ℕ} {ls bs cs es :
           }
 
   -- a step that blocks is not carried out
-  pub did-nothing : x ≡ Blocked → CarriesOut t records js h ls bs cs es s x ls bs cs es s
-  did-nothing e = record { moves = λ d. absurd (d .going e); most = omega arith }
+  pub did-nothing : {y : Reason} → x ≡ Blocked y → CarriesOut t records js h ls bs cs es s x ls bs cs es s
+  did-nothing e = record { moves = λ d. absurd (d .going _ e); most = omega arith }
 
 -- where a run goes on there is an entry
 pub settles-below : {t js : List ℕ} {k v : ℕ} → Settles t js k v → v < positions

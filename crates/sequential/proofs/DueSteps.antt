@@ -7,12 +7,17 @@ use mathlib.Core.Bool.{Bool, true, false}
 use lib.ListN.{length, getD, drop, length-set, length-drop}
 use lib.Dec.{ltb}
 use borrow.Author.Tests.{ltb-true, ltb-false}
-use Rattle.value.specs.Maybe.{Maybe, is, nothing, _>>=_, when}
+use Rattle.value.specs.Maybe.{is}
+use Rattle.value.specs.Try.{Try, has, lacks, _⟫_}
 use Rattle.value.specs.declared.Value.{Value}
 use Rattle.value.specs.Laws.Maybes.{is-inj, missing}
+use Rattle.value.specs.Laws.Tries.{lacking}
+use Rattle.value.specs.declared.Reason.{Reason}
+use Rattle.value.specs.declared.Reason.the-variants.{IndexOutside}
+use lib.IntN.{ℤ, pos, negsuc}
 use Rattle.value.specs.Laws.Tests.{by-test}
 use Rattle.value.specs.Laws.Lists.{Each, each-at}
-use Rattle.format.specs.Syntax.{Expr, Instr, assign, write, read, while, if, call, atomic}
+use Rattle.format.specs.Syntax.{Expr, local, Instr, assign, write, read, while, if, call, atomic}
 use Rattle.format.specs.Syntax.{select, Block, end, step, _⊕_, Proc, Program, Plain, sequential}
 use Rattle.format.specs.Encode.{expr, instr}
 use Rattle.labels.specs.Spots.{CodeAt, inner, later, body, thens}
@@ -23,8 +28,8 @@ use Rattle.labels.specs.Laws.Spots.{itself}
 use Rattle.decide.specs.declared.step.Step.{Step}
 use Rattle.decide.specs.declared.step.Step.the-variants.{Return, Assign, Read, Write, Test, Call, Select, Blocked}
 use Rattle.sequential.specs.declared.machine.State.{State}
-use Rattle.semantics.specs.Memory.{Env, lookup, bound, eval, evals, index, Memory, cell, stored}
-use Rattle.value.specs.Values.{place, truth}
+use Rattle.semantics.specs.Memory.{Env, bound, eval, evals, index, Memory, cell, stored}
+use Rattle.value.specs.Values.{number, place, truth}
 use Rattle.semantics.specs.Step.{Frame, Stack}
 use Rattle.semantics.specs.Copy as C
 use Rattle.decide.specs.Decided.{Act, actOf, actEnd, decided, orBlocked, numberOf}
@@ -46,96 +51,94 @@ use Rattle.sequential.proofs.Nexts.{restacked, recoded, rebound}
 pub data Doing (p : Program Plain) (c : C.Config) (f : Frame Plain) (k : ℕ) : Step → Type 0 where
   returning : f .code ≡ end → Doing p c f k Return
   assigning : {x n : ℕ} {v : Value} (e : Expr) (d r : Block Plain) → CodeAt (p .procs) (f .proc) k (step tt (assign x e) d) r
-      → f .code ≡ step tt (assign x e) (d ⊕ r) → n ≡ actEnd {A = Plain} k (assign x e) → eval (f .env) e ≡ is v → Doing p c f k (Assign x v n)
+      → f .code ≡ step tt (assign x e) (d ⊕ r) → n ≡ actEnd {A = Plain} k (assign x e) → eval (f .env) e ≡ has v → Doing p c f k (Assign x v n)
   reading : {x l i n : ℕ} {v : Value} (y : ℕ) (o : Expr) (d r : Block Plain) → CodeAt (p .procs) (f .proc) k (step tt (read x y o) d) r
-      → f .code ≡ step tt (read x y o) (d ⊕ r) → n ≡ actEnd {A = Plain} k (read x y o) → (eval (f .env) o >>= index) ≡ is i
-      → (lookup (f .env) y >>= place) ≡ is l → cell (c .memory) l i ≡ is v → Doing p c f k (Read x l i v n)
+      → f .code ≡ step tt (read x y o) (d ⊕ r) → n ≡ actEnd {A = Plain} k (read x y o) → (eval (f .env) o ⟫ number) ≡ has (pos i)
+      → (eval (f .env) (local y) ⟫ place) ≡ has l → cell (c .memory) l i ≡ has v → Doing p c f k (Read x l i v n)
   writing : {l i q n : ℕ} {v : Value} (y : ℕ) (o e : Expr) (d r : Block Plain) (u : Value) → CodeAt (p .procs) (f .proc) k (step tt (write y o e) d) r
-      → f .code ≡ step tt (write y o e) (d ⊕ r) → n ≡ actEnd {A = Plain} k (write y o e) → eval (f .env) e ≡ is v → (eval (f .env) o >>= index) ≡ is i
-      → (lookup (f .env) y >>= place) ≡ is l → cell (c .memory) l i ≡ is u → q ≡ numberOf (c .memory) l i → Doing p c f k (Write l i q v n)
+      → f .code ≡ step tt (write y o e) (d ⊕ r) → n ≡ actEnd {A = Plain} k (write y o e) → eval (f .env) e ≡ has v → (eval (f .env) o ⟫ number) ≡ has (pos i)
+      → (eval (f .env) (local y) ⟫ place) ≡ has l → cell (c .memory) l i ≡ has u → q ≡ numberOf (c .memory) l i → Doing p c f k (Write l i q v n)
   looping : {q : Bool} {n : ℕ} (e : Expr) (b d r : Block Plain) → CodeAt (p .procs) (f .proc) k (step tt (while e b) d) r
-      → f .code ≡ step tt (while e b) (d ⊕ r) → n ≡ actEnd {A = Plain} k (while e b) → (eval (f .env) e >>= truth) ≡ is q → Doing p c f k (Test q n)
+      → f .code ≡ step tt (while e b) (d ⊕ r) → n ≡ actEnd {A = Plain} k (while e b) → (eval (f .env) e ⟫ truth) ≡ has q → Doing p c f k (Test q n)
   choosing : {q : Bool} {n : ℕ} (e : Expr) (b b′ d r : Block Plain) → CodeAt (p .procs) (f .proc) k (step tt (if e b b′) d) r
-      → f .code ≡ step tt (if e b b′) (d ⊕ r) → n ≡ actEnd {A = Plain} k (if e b b′) → (eval (f .env) e >>= truth) ≡ is q → Doing p c f k (Test q n)
+      → f .code ≡ step tt (if e b b′) (d ⊕ r) → n ≡ actEnd {A = Plain} k (if e b b′) → (eval (f .env) e ⟫ truth) ≡ has q → Doing p c f k (Test q n)
   calling : {m n : ℕ} (es : List Expr) (d r : Block Plain) (vs : List Value) → CodeAt (p .procs) (f .proc) k (step tt (call m es) d) r
-      → f .code ≡ step tt (call m es) (d ⊕ r) → n ≡ actEnd {A = Plain} k (call m es) → evals (f .env) es ≡ is vs → Doing p c f k (Call m n)
+      → f .code ≡ step tt (call m es) (d ⊕ r) → n ≡ actEnd {A = Plain} k (call m es) → evals (f .env) es ≡ has vs → Doing p c f k (Call m n)
   selecting : {q t n : ℕ} (a b : ℕ) (ts : List ℕ) (d r : Block Plain) (v : Value) → CodeAt (p .procs) (f .proc) k (step tt (select a b) d) r
-      → f .code ≡ step tt (select a b) (d ⊕ r) → n ≡ actEnd {A = Plain} k (select a b) → c .todo ≡ t ∷ ts → cell (c .memory) b t ≡ is v
-      → C.running v ≡ true → q ≡ numberOf (c .memory) a 0 → Doing p c f k (Select q t n)
+      → f .code ≡ step tt (select a b) (d ⊕ r) → n ≡ actEnd {A = Plain} k (select a b) → c .todo ≡ t ∷ ts
+      → (cell (c .memory) b t ⟫ C.running) ≡ has v → q ≡ numberOf (c .memory) a 0 → Doing p c f k (Select q t n)
 
-module _ {p : Program Plain} {c : C.Config} {f : Frame Plain} {k : ℕ} {x : Step} (on : x ≡ Blocked → ⊥) where
+module _ {p : Program Plain} {c : C.Config} {f : Frame Plain} {k : ℕ} {x : Step} (on : (r : Reason) → x ≡ Blocked r → ⊥) where
   -- a step that is known
   known : {y : Step} → x ≡ y → Doing p c f k y → Doing p c f k x
   known e d = subst (Doing p c f k) (sym e) d
 
   do-assign : {y : ℕ} (e : Expr) (d r : Block Plain) → CodeAt (p .procs) (f .proc) k (step tt (assign y e) d) r
       → f .code ≡ step tt (assign y e) (d ⊕ r)
-      → (m : Maybe Value) → eval (f .env) e ≡ m → x ≡ orBlocked (m >>= λ v. is (Assign y v (actEnd {A = Plain} k (assign y e)))) → Doing p c f k x
-  do-assign e d r o q nothing w z = absurd (on z)
-  do-assign e d r o q (is v) w z = known z (assigning e d r o q refl w)
+      → (m : Try Value) → eval (f .env) e ≡ m → x ≡ orBlocked (m ⟫ λ v. has (Assign y v (actEnd {A = Plain} k (assign y e)))) → Doing p c f k x
+  do-assign e d r o q (lacks u) w z = absurd (on u z)
+  do-assign e d r o q (has v) w z = known z (assigning e d r o q refl w)
 
   do-read : {y y′ : ℕ} (e : Expr) (d r : Block Plain) → CodeAt (p .procs) (f .proc) k (step tt (read y y′ e) d) r
-      → f .code ≡ step tt (read y y′ e) (d ⊕ r) → (m : Maybe ℕ) → (eval (f .env) e >>= index) ≡ m → (m′ : Maybe ℕ)
-      → (lookup (f .env) y′ >>= place) ≡ m′
-      → x ≡ orBlocked (m >>= λ i. m′ >>= λ l. cell (c .memory) l i >>= λ v. is (Read y l i v (actEnd {A = Plain} k (read y y′ e)))) → Doing p c f k x
-  do-read {y} {y′} e d r o q nothing w m′ w′ z = absurd (on z)
-  do-read {y} {y′} e d r o q (is i) w nothing w′ z = absurd (on z)
-  do-read {y} {y′} e d r o q (is i) w (is l) w′ z = at (cell (c .memory) l i) refl z
+      → f .code ≡ step tt (read y y′ e) (d ⊕ r) → (m : Try ℤ) → (eval (f .env) e ⟫ number) ≡ m → (m′ : Try ℕ)
+      → (eval (f .env) (local y′) ⟫ place) ≡ m′
+      → x ≡ orBlocked (m ⟫ λ z. m′ ⟫ λ l. index z ⟫ λ i. cell (c .memory) l i ⟫ λ v. has (Read y l i v (actEnd {A = Plain} k (read y y′ e))))
+      → Doing p c f k x
+  do-read {y} {y′} e d r o q (lacks u) w m′ w′ z = absurd (on u z)
+  do-read {y} {y′} e d r o q (has i) w (lacks u) w′ z = absurd (on u z)
+  do-read {y} {y′} e d r o q (has (negsuc n)) w (has l) w′ z = absurd (on IndexOutside z)
+  do-read {y} {y′} e d r o q (has (pos i)) w (has l) w′ z = at (cell (c .memory) l i) refl z
     where
-      at : (m : Maybe Value) → cell (c .memory) l i ≡ m → x ≡ orBlocked (m >>= λ v. is (Read y l i v (actEnd {A = Plain} k (read y y′ e))))
+      at : (m : Try Value) → cell (c .memory) l i ≡ m → x ≡ orBlocked (m ⟫ λ v. has (Read y l i v (actEnd {A = Plain} k (read y y′ e))))
           → Doing p c f k x
-      at nothing u z = absurd (on z)
-      at (is v) u z = known z (reading y′ e d r o q refl w w′ u)
+      at (lacks h) u z = absurd (on h z)
+      at (has v) u z = known z (reading y′ e d r o q refl w w′ u)
 
   do-write : {y : ℕ} (e a : Expr) (d r : Block Plain) → CodeAt (p .procs) (f .proc) k (step tt (write y e a) d) r
-      → f .code ≡ step tt (write y e a) (d ⊕ r) → (m₀ : Maybe Value) → eval (f .env) a ≡ m₀ → (m : Maybe ℕ) → (eval (f .env) e >>= index) ≡ m
-      → (m′ : Maybe ℕ) → (lookup (f .env) y >>= place) ≡ m′
-      → x ≡ orBlocked (m₀ >>= λ v. m >>= λ i. m′ >>= λ l. cell (c .memory) l i >>= λ _.
-      is (Write l i (numberOf (c .memory) l i) v (actEnd {A = Plain} k (write y e a))))
+      → f .code ≡ step tt (write y e a) (d ⊕ r) → (m₀ : Try Value) → eval (f .env) a ≡ m₀ → (m : Try ℤ) → (eval (f .env) e ⟫ number) ≡ m
+      → (m′ : Try ℕ) → (eval (f .env) (local y) ⟫ place) ≡ m′
+      → x ≡ orBlocked (m₀ ⟫ λ v. m ⟫ λ z. m′ ⟫ λ l. index z ⟫ λ i. cell (c .memory) l i ⟫ λ _.
+      has (Write l i (numberOf (c .memory) l i) v (actEnd {A = Plain} k (write y e a))))
       → Doing p c f k x
-  do-write {y} e a d r o q nothing w₀ m w m′ w′ z = absurd (on z)
-  do-write {y} e a d r o q (is v) w₀ nothing w m′ w′ z = absurd (on z)
-  do-write {y} e a d r o q (is v) w₀ (is i) w nothing w′ z = absurd (on z)
-  do-write {y} e a d r o q (is v) w₀ (is i) w (is l) w′ z = at (cell (c .memory) l i) refl z
+  do-write {y} e a d r o q (lacks u) w₀ m w m′ w′ z = absurd (on u z)
+  do-write {y} e a d r o q (has v) w₀ (lacks u) w m′ w′ z = absurd (on u z)
+  do-write {y} e a d r o q (has v) w₀ (has i) w (lacks u) w′ z = absurd (on u z)
+  do-write {y} e a d r o q (has v) w₀ (has (negsuc n)) w (has l) w′ z = absurd (on IndexOutside z)
+  do-write {y} e a d r o q (has v) w₀ (has (pos i)) w (has l) w′ z = at (cell (c .memory) l i) refl z
     where
-      at : (m : Maybe Value) → cell (c .memory) l i ≡ m
-          → x ≡ orBlocked (m >>= λ _. is (Write l i (numberOf (c .memory) l i) v (actEnd {A = Plain} k (write y e a)))) → Doing p c f k x
-      at nothing u z = absurd (on z)
-      at (is was) u z = known z (writing y e a d r was o q refl w₀ w w′ u refl)
+      at : (m : Try Value) → cell (c .memory) l i ≡ m
+          → x ≡ orBlocked (m ⟫ λ _. has (Write l i (numberOf (c .memory) l i) v (actEnd {A = Plain} k (write y e a)))) → Doing p c f k x
+      at (lacks h) u z = absurd (on h z)
+      at (has was) u z = known z (writing y e a d r was o q refl w₀ w w′ u refl)
 
   -- a test
-  do-test : {n : ℕ} (m : Maybe Bool) → ((q : Bool) → m ≡ is q → Doing p c f k (Test q n)) → x ≡ orBlocked (m >>= λ q. is (Test q n)) → Doing p c f k x
-  do-test nothing g z = absurd (on z)
-  do-test (is q) g z = known z (g q refl)
+  do-test : {n : ℕ} (m : Try Bool) → ((q : Bool) → m ≡ has q → Doing p c f k (Test q n)) → x ≡ orBlocked (m ⟫ λ q. has (Test q n)) → Doing p c f k x
+  do-test (lacks u) g z = absurd (on u z)
+  do-test (has q) g z = known z (g q refl)
 
   do-call : {m : ℕ} (es : List Expr) (d r : Block Plain) → CodeAt (p .procs) (f .proc) k (step tt (call m es) d) r
       → f .code ≡ step tt (call m es) (d ⊕ r)
-      → (vs : Maybe (List Value)) → evals (f .env) es ≡ vs → x ≡ orBlocked (vs >>= λ _. is (Call m (actEnd {A = Plain} k (call m es))))
+      → (vs : Try (List Value)) → evals (f .env) es ≡ vs → x ≡ orBlocked (vs ⟫ λ _. has (Call m (actEnd {A = Plain} k (call m es))))
       → Doing p c f k x
-  do-call es d r o q nothing w z = absurd (on z)
-  do-call es d r o q (is vs) w z = known z (calling es d r vs o q refl w)
+  do-call es d r o q (lacks u) w z = absurd (on u z)
+  do-call es d r o q (has vs) w z = known z (calling es d r vs o q refl w)
 
   do-select : {a b t : ℕ} (ts : List ℕ) (d r : Block Plain) → CodeAt (p .procs) (f .proc) k (step tt (select a b) d) r
-      → f .code ≡ step tt (select a b) (d ⊕ r) → c .todo ≡ t ∷ ts → (m : Maybe Value) → cell (c .memory) b t ≡ m
-      → x ≡ orBlocked (m >>= λ v. when (C.running v) (is (Select (numberOf (c .memory) a 0) t (actEnd {A = Plain} k (select a b))))) → Doing p c f k x
-  do-select {a} {b} {t} ts d r o q u nothing w z = absurd (on z)
-  do-select {a} {b} {t} ts d r o q u (is v) w z = at (C.running v) refl z
-    where
-      at : (g : Bool) → C.running v ≡ g → x ≡ orBlocked (when g (is (Select (numberOf (c .memory) a 0) t (actEnd {A = Plain} k (select a b)))))
-          → Doing p c f k x
-      at true h z = known z (selecting a b ts d r v o q refl u w h refl)
-      at false h z = absurd (on z)
+      → f .code ≡ step tt (select a b) (d ⊕ r) → c .todo ≡ t ∷ ts → (m : Try Value) → (cell (c .memory) b t ⟫ C.running) ≡ m
+      → x ≡ orBlocked (m ⟫ λ _. has (Select (numberOf (c .memory) a 0) t (actEnd {A = Plain} k (select a b)))) → Doing p c f k x
+  do-select {a} {b} {t} ts d r o q u (lacks h) w z = absurd (on h z)
+  do-select {a} {b} {t} ts d r o q u (has v) w z = known z (selecting a b ts d r v o q refl u w refl)
 
   -- an instruction
   do-act : (i : Instr Plain) (d r : Block Plain) (a : Act) → CodeAt (p .procs) (f .proc) k (step tt i d) r → f .code ≡ step tt i (d ⊕ r)
       → actOf i ≡ is a → x ≡ decided (f .env) (c .memory) a (actEnd {A = Plain} k i) → Doing p c f k x
   do-act (assign y e) d r a o q w z = do-assign e d r o q (eval (f .env) e) refl (rw (← is-inj w) at z)
   do-act (write y e g) d r a o q w z =
-      do-write e g d r o q (eval (f .env) g) refl (eval (f .env) e >>= index) refl (lookup (f .env) y >>= place) refl (rw (← is-inj w) at z)
+      do-write e g d r o q (eval (f .env) g) refl (eval (f .env) e ⟫ number) refl (eval (f .env) (local y) ⟫ place) refl (rw (← is-inj w) at z)
   do-act (read y y′ e) d r a o q w z =
-      do-read e d r o q (eval (f .env) e >>= index) refl (lookup (f .env) y′ >>= place) refl (rw (← is-inj w) at z)
-  do-act (while e b) d r a o q w z = do-test (eval (f .env) e >>= truth) (λ g u. looping e b d r o q refl u) (rw (← is-inj w) at z)
-  do-act (if e b b′) d r a o q w z = do-test (eval (f .env) e >>= truth) (λ g u. choosing e b b′ d r o q refl u) (rw (← is-inj w) at z)
+      do-read e d r o q (eval (f .env) e ⟫ number) refl (eval (f .env) (local y′) ⟫ place) refl (rw (← is-inj w) at z)
+  do-act (while e b) d r a o q w z = do-test (eval (f .env) e ⟫ truth) (λ g u. looping e b d r o q refl u) (rw (← is-inj w) at z)
+  do-act (if e b b′) d r a o q w z = do-test (eval (f .env) e ⟫ truth) (λ g u. choosing e b b′ d r o q refl u) (rw (← is-inj w) at z)
   do-act (call m es) d r a o q w z = do-call es d r o q (evals (f .env) es) refl (rw (← is-inj w) at z)
   do-act (atomic b) d r a o q w z = missing w
   do-act (select a′ b) d r a o q w z = missing w
@@ -144,7 +147,7 @@ module _ {p : Program Plain} {c : C.Config} {f : Frame Plain} {k : ℕ} {x : Ste
   pub doing : Decision p c f k x → Doing p c f k x
   doing (leaves e q) = known q (returning e)
   doing (acts i d r a o q w z) = do-act i d r a o q w z
-  doing (selects a b t ts d r o q u z) = do-select ts d r o q u (cell (c .memory) b t) refl z
+  doing (selects a b t ts d r o q u z) = do-select ts d r o q u (cell (c .memory) b t ⟫ C.running) refl z
 
 -- ---- from what is due
 
@@ -260,11 +263,11 @@ module _ {t : List ℕ} {records : ℕ} {js ls bs cs es : List ℕ} {s : State} 
       (framed-put (top-frame tower .framed) low stored) g
 
 -- a cell that is there has a number
-pub cell-is : (η : Memory) (l i : ℕ) {u : Value} {q : ℕ} → cell η l i ≡ is u → q ≡ numberOf η l i → IsCell η l i q
+pub cell-is : (η : Memory) (l i : ℕ) {u : Value} {q : ℕ} → cell η l i ≡ has u → q ≡ numberOf η l i → IsCell η l i q
 cell-is η l i e f = record {
   number = f;
   size = by-test (ltb i (getD (shape η) l 0)) (λ t. ltb-true i (getD (shape η) l 0) t)
-      (λ t. missing (sym (no-cell η l i (ltb-false i (getD (shape η) l 0) t)) ∙ e));
+      (λ t. lacking (sym (no-cell η l i (ltb-false i (getD (shape η) l 0) t)) ∙ e));
 }
 
 -- "size not 1..256"
@@ -293,7 +296,7 @@ After t (Write l i j v n) = n < length t
 After t (Test q n) = n < length t
 After t (Call m n) = n < length t
 After t (Select j u n) = n < length t
-After t Blocked = Unit {0}
+After t (Blocked y) = Unit {0}
 
 module _ {t : List ℕ} {records : ℕ} {js ls bs cs es : List ℕ} {s : State} {x : Step} where
   -- there is room for the frame of a call
@@ -325,7 +328,7 @@ module _ {t : List ℕ} {records : ℕ} {js ls bs cs es : List ℕ} {s : State} 
   after-inside d (Test g n) (looping a b b′ r o q z u) = code-inside (d .loaded .same) (d .loaded .sound) (code-body o z)
   after-inside d (Test g n) (choosing a b b′ b″ r o q z u) = code-inside (d .loaded .same) (d .loaded .sound) (code-then o z)
   after-inside d (Call m n) (calling as′ b r vs o q z u) = code-inside (d .loaded .same) (d .loaded .sound) (code-after o z)
-  after-inside d (Select j i n) (selecting a b us b′ r v o q z u u′ u″ f) = code-inside (d .loaded .same) (d .loaded .sound) (code-after o z)
+  after-inside d (Select j i n) (selecting a b us b′ r v o q z u u′ f) = code-inside (d .loaded .same) (d .loaded .sound) (code-after o z)
 
   -- by the step
   pub assign-after : {y n : ℕ} {v : Value} → Due t records js ls bs cs es s x → x ≡ Assign y v n → n < length t
@@ -377,13 +380,13 @@ module _ {t : List ℕ} {records : ℕ} {js ls bs cs es : List ℕ} {s : State} 
   select-room {j} {u} {n} d e = go (done d e)
     where
       go : Doing (d .loaded .program) (d .config) (d .frame) (s .at) (Select j u n) → j < length cs
-      go (selecting a b us b′ r v o q z u₀ u₁ u₂ f) = cell-word (d .present .memory) (select-cell d o f)
+      go (selecting a b us b′ r v o q z u₀ u₁ f) = cell-word (d .present .memory) (select-cell d o f)
 
   -- the count of entries taken fits
   pub select-counts : {j u n : ℕ} → Due t records js ls bs cs es s x → x ≡ Select j u n → s .taken + 1 < 2 ^ 64
   select-counts {j} {u} {n} d e = go (done d e)
     where
       go : Doing (d .loaded .program) (d .config) (d .frame) (s .at) (Select j u n) → s .taken + 1 < 2 ^ 64
-      go (selecting a b us b′ r v o q z u₀ u₁ u₂ f) =
+      go (selecting a b us b′ r v o q z u₀ u₁ f) =
           let rest : drop (s .taken) (d .schedule) ≡ u ∷ us = sym (d .present .todo) ∙ u₀ in
           omega (arith, d .entries, length-drop (s .taken) (d .schedule), ap length rest)

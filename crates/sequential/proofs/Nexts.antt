@@ -6,13 +6,14 @@ use mathlib.Core.Bool.{Bool, true, false}
 use mathlib.Core.Bool as B
 use lib.Dec.{ltb, eqb}
 use lib.IntN.{pos}
-use Rattle.value.specs.Maybe.{Maybe, is, nothing, _>>=_, pick, either}
+use Rattle.value.specs.Maybe.{is, pick, either}
+use Rattle.value.specs.Try.{has, _⟫_}
 use Rattle.value.specs.Lists.{at}
 use Rattle.value.specs.declared.Value.{Value}
 use Rattle.value.specs.declared.Value.the-variants.{Whole}
-use Rattle.format.specs.Syntax.{Expr, Instr, assign, write, read, while, if, call, atomic, select, Block, end, step, _⊕_, Proc, Plain}
-use Rattle.semantics.specs.Memory.{Env, lookup, bound, eval, evals, index, Memory, cell, stored, reading, writing, Event}
-use Rattle.value.specs.Values.{place, truth}
+use Rattle.format.specs.Syntax.{Expr, local, Instr, assign, write, read, while, if, call, atomic, select, Block, end, step, _⊕_, Proc, Plain}
+use Rattle.semantics.specs.Memory.{Env, bound, eval, evals, Memory, cell, stored, reading, writing, Event}
+use Rattle.value.specs.Values.{number, place, truth}
 use Rattle.semantics.specs.Step.{Frame, Stack, entered, runs}
 use Rattle.semantics.specs.Threads.{finished, used, blocked}
 use Rattle.semantics.specs.Copy as C
@@ -49,13 +50,13 @@ module _ (h : ℕ) (procs : List (Proc Plain)) (c : C.Config) where
     next-return q = rw (e, q)
 
     -- x := e
-    pub next-assign : {x : ℕ} {a : Expr} {b : Block Plain} {v : Value} → f .code ≡ step tt (assign x a) b → eval (f .env) a ≡ is v
+    pub next-assign : {x : ℕ} {a : Expr} {b : Block Plain} {v : Value} → f .code ≡ step tt (assign x a) b → eval (f .env) a ≡ has v
         → C.next h procs c ≡ C.goes (restacked c (rebound f x v b ∷ s))
     next-assign q w = rw (e, q, w)
 
     -- x := y[o]
     pub next-read : {x y : ℕ} {o : Expr} {b : Block Plain} {i l : ℕ} {v : Value} → f .code ≡ step tt (read x y o) b
-        → (eval (f .env) o >>= index) ≡ is i → (lookup (f .env) y >>= place) ≡ is l → cell (c .memory) l i ≡ is v
+        → (eval (f .env) o ⟫ number) ≡ has (pos i) → (eval (f .env) (local y) ⟫ place) ≡ has l → cell (c .memory) l i ≡ has v
         → C.next h procs c ≡ C.goes (record {
           stack = rebound f x v b ∷ s;
           memory = c .memory;
@@ -66,8 +67,8 @@ module _ (h : ℕ) (procs : List (Proc Plain)) (c : C.Config) where
     next-read q u w z = rw (e, q, u, w, z)
 
     -- y[o] := e
-    pub next-write : {y : ℕ} {o a : Expr} {b : Block Plain} {i l : ℕ} {v u : Value} → f .code ≡ step tt (write y o a) b → eval (f .env) a ≡ is v
-        → (eval (f .env) o >>= index) ≡ is i → (lookup (f .env) y >>= place) ≡ is l → cell (c .memory) l i ≡ is u
+    pub next-write : {y : ℕ} {o a : Expr} {b : Block Plain} {i l : ℕ} {v u : Value} → f .code ≡ step tt (write y o a) b → eval (f .env) a ≡ has v
+        → (eval (f .env) o ⟫ number) ≡ has (pos i) → (eval (f .env) (local y) ⟫ place) ≡ has l → cell (c .memory) l i ≡ has u
         → C.next h procs c ≡ C.goes (record {
           stack = recoded f b ∷ s;
           memory = stored (c .memory) l i v;
@@ -78,24 +79,24 @@ module _ (h : ℕ) (procs : List (Proc Plain)) (c : C.Config) where
     next-write q r u w z = rw (e, q, r, u, w, z)
 
     -- while
-    pub next-while : {a : Expr} {w b : Block Plain} {q : Bool} → f .code ≡ step tt (while a w) b → (eval (f .env) a >>= truth) ≡ is q
+    pub next-while : {a : Expr} {w b : Block Plain} {q : Bool} → f .code ≡ step tt (while a w) b → (eval (f .env) a ⟫ truth) ≡ has q
         → C.next h procs c ≡ C.goes (restacked c (recoded f (pick q (w ⊕ step tt (while a w) b) b) ∷ s))
     next-while q u = rw (e, q, u)
 
     -- if
-    pub next-if : {a : Expr} {y n b : Block Plain} {q : Bool} → f .code ≡ step tt (if a y n) b → (eval (f .env) a >>= truth) ≡ is q
+    pub next-if : {a : Expr} {y n b : Block Plain} {q : Bool} → f .code ≡ step tt (if a y n) b → (eval (f .env) a ⟫ truth) ≡ has q
         → C.next h procs c ≡ C.goes (restacked c (recoded f (pick q y n ⊕ b) ∷ s))
     next-if q u = rw (e, q, u)
 
     -- call
     pub next-call : {m : ℕ} {es : List Expr} {b : Block Plain} {vs : List Value} {p : Proc Plain} → f .code ≡ step tt (call m es) b
-        → evals (f .env) es ≡ is vs → at procs m ≡ is p → runs m (f ∷ s) ≡ false
+        → evals (f .env) es ≡ has vs → at procs m ≡ is p → runs m (f ∷ s) ≡ false
         → C.next h procs c ≡ C.goes (restacked c (entered m p vs ∷ recoded f b ∷ s))
     next-call q u w z = rw (e, q, u, w, z)
 
     -- select
     pub next-select : {a d t : ℕ} {ts : List ℕ} {b : Block Plain} {v : Value} → f .code ≡ step tt (select a d) b → c .todo ≡ t ∷ ts
-        → cell (c .memory) d t ≡ is v → C.running v ≡ true
+        → (cell (c .memory) d t ⟫ C.running) ≡ has v
         → C.next h procs c ≡ C.goes (record {
           stack = recoded f b ∷ s;
           memory = stored (c .memory) a 0 (Whole (pos t));
@@ -103,7 +104,7 @@ module _ (h : ℕ) (procs : List (Proc Plain)) (c : C.Config) where
           last = t;
           events = c .events;
         })
-    next-select q u w z = rw (e, q, u, w) (rw (z, C.selected))
+    next-select q u w = rw (e, q, u, w)
 
     -- select, and no entry is left
     pub next-used : {a d : ℕ} {b : Block Plain} → f .code ≡ step tt (select a d) b → c .todo ≡ [] → C.next h procs c ≡ C.ended used

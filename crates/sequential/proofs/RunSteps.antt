@@ -3,8 +3,9 @@ use Prim.Native.Nat.{ℕ, zero, suc, _+_, _-_, _<_}
 use native.Mathlib.Omega.{arith}
 use mathlib.Core.Path.{_≡_, refl, sym, ap, _∙_}
 use mathlib.Core.List.{List, [], _∷_}
-use mathlib.Core.Bool.{Bool, true, false}
-use Rattle.value.specs.Maybe.{Maybe, is, nothing}
+use Rattle.value.specs.Maybe.{is}
+use Rattle.value.specs.Try.{Try, has, lacks, _⟫_}
+use Rattle.value.specs.declared.Reason.{Reason}
 use Rattle.value.specs.Laws.Maybes.{missing}
 use Rattle.value.specs.declared.Value.{Value}
 use Rattle.format.specs.Syntax.{Instr, assign, write, read, while, if, call, atomic, select, Block, end, step, _⊕_, Proc, Program, Plain}
@@ -30,18 +31,14 @@ module _ (h : ℕ) (procs : List (Proc Plain)) where
   run-none (suc n) k c e = rw (next-none h procs c e, C.run)
 
   -- how a step that blocks, or not, is judged at the budget
-  moved-spent : (ts : List ℕ) (t : ℕ) (evs : List Event) (r : Maybe (Moved Plain)) → C.atBudget (C.moved h ts t evs r) ≡ spent
-  moved-spent ts t evs nothing = refl
-  moved-spent ts t evs (is r) = refl
+  moved-spent : (ts : List ℕ) (t : ℕ) (evs : List Event) (r : Try (Moved Plain)) → C.atBudget (C.moved h ts t evs r) ≡ spent
+  moved-spent ts t evs (lacks r) = refl
+  moved-spent ts t evs (has r) = refl
 
-  selected-spent : (a : ℕ) (η : Memory) (f : Frame Plain) (s : Stack Plain) (t : ℕ) (ts : List ℕ) (evs : List Event) (v : Maybe Value)
+  selected-spent : (a : ℕ) (η : Memory) (f : Frame Plain) (s : Stack Plain) (t : ℕ) (ts : List ℕ) (evs : List Event) (v : Try Value)
       → C.atBudget (C.selected a η f s t ts evs v) ≡ spent
-  selected-spent a η f s t ts evs nothing = refl
-  selected-spent a η f s t ts evs (is v) = by (C.running v) refl
-    where
-      by : (b : Bool) → C.running v ≡ b → C.atBudget (C.selected a η f s t ts evs (is v)) ≡ spent
-      by true e = rw (e, C.selected)
-      by false e = rw (e, C.selected)
+  selected-spent a η f s t ts evs (lacks r) = refl
+  selected-spent a η f s t ts evs (has v) = refl
 
   code-spent : (b : Block Plain) (f : Frame Plain) (s : Stack Plain) (η : Memory) (ts : List ℕ) (t : ℕ) (evs : List Event)
       → C.atBudget (C.code h procs b (f .proc) (f .env) s η ts t evs) ≡ spent
@@ -55,7 +52,7 @@ module _ (h : ℕ) (procs : List (Proc Plain)) where
   code-spent (step a (atomic w) b) f s η ts t evs = refl
   code-spent (step a (select x y) b) f s η [] t evs = refl
   code-spent (step a (select x y) b) f s η (u ∷ ts) t evs =
-      selected-spent x η (record { proc = f .proc; env = f .env; code = b }) s u ts evs (cell η y u)
+      selected-spent x η (record { proc = f .proc; env = f .env; code = b }) s u ts evs (cell η y u ⟫ C.running)
 
   -- "at its budget"
   pub run-spent : (n k : ℕ) (c : C.Config) {f : Frame Plain} {s : Stack Plain} → c .stack ≡ f ∷ s → n ≡ 0
@@ -94,16 +91,16 @@ one-acts h procs m ρ (atomic w) b s η ts t evs q = missing q
 one-acts h procs m ρ (select x y) b s η ts t evs q = missing q
 
 -- a return does not block
-return-goes : {G : Type 0} → Return ≡ Blocked → G
+return-goes : {G : Type 0} {y : Reason} → Return ≡ Blocked y → G
 return-goes e = let z : _≡_ {A = ℕ} 0 1 = cc in absurd (omega arith)
 
 -- "a missing value, a wrong kind or an index outside the size blocks"
-pub next-blocked : (h : ℕ) {p : Program Plain} {c : C.Config} {f : Frame Plain} {s : Stack Plain} {k : ℕ} {x : Step} → c .stack ≡ f ∷ s
-    → Decision p c f k x → x ≡ Blocked → C.next h (p .procs) c ≡ C.ended blocked
+pub next-blocked : (h : ℕ) {p : Program Plain} {c : C.Config} {f : Frame Plain} {s : Stack Plain} {k : ℕ} {x : Step} {y : Reason} → c .stack ≡ f ∷ s
+    → Decision p c f k x → x ≡ Blocked y → C.next h (p .procs) c ≡ C.ended (blocked y)
 next-blocked h e (leaves q w) z = return-goes (sym w ∙ z)
-next-blocked h {p} {c} {f} {s} {k} e (acts i d r a o q w u) z =
+next-blocked h {p} {c} {f} {s} {k} {y = y} e (acts i d r a o q w u) z =
     let b : Block Plain = d ⊕ r in
-    let none : F.instr (p .procs) (c .last) (f .proc) (f .env) tt i b s (c .memory) ≡ nothing =
+    let none : F.instr (p .procs) (c .last) (f .proc) (f .env) tt i b s (c .memory) ≡ lacks y =
     does (p .procs) (c .last) (f .proc) (f .env) tt b s (c .memory) i (actEnd k i) a w
     ∙ ap (carried (p .procs) (c .last) (f .proc) (f .env) tt i b s (c .memory)) (sym u ∙ z)
     in

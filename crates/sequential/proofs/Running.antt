@@ -10,6 +10,8 @@ use types.Run.{OneOf, miss}
 use denote.Enum.Declared.{tagOf}
 use Rattle.decide.proofs.step.Step.{the-type}
 use Rattle.value.specs.Maybe.{is, nothing}
+use Rattle.value.specs.Try.{reasonNumber}
+use Rattle.value.specs.declared.Reason.{Reason}
 use Rattle.value.specs.Laws.Maybes.{is-inj, missing}
 use Rattle.value.specs.Laws.Lists.{each-at}
 use Rattle.value.specs.Lists.{at}
@@ -25,7 +27,7 @@ use Rattle.decide.specs.declared.step.Step.{Step}
 use Rattle.decide.specs.declared.step.Step.the-variants.{Blocked}
 use Rattle.sequential.specs.declared.machine.State.{State}
 use Rattle.sequential.specs.declared.machine.Ran.{Ran}
-use Rattle.semantics.specs.Calls.{endNumber}
+use Rattle.semantics.specs.Calls.{endNumber, reasonOf}
 use Rattle.jumps.specs.Jumps.{positions, Settled, last, first}
 use Rattle.sequential.specs.Sequential.{mostFrames, Present, Due, CarriesOut, Facing, Faced}
 use Rattle.sequential.specs.Sequential.{Faces, UsedUp, ranWith, Starting, runOf, Runs}
@@ -102,7 +104,7 @@ module _ {t : List ℕ} {records : ℕ} {js ss ls₀ bs₀ cs₀ : List ℕ} (q 
   few = omega (arith, g .present .depth, stacked-few (q .loaded .sound .calls) (g .present .frames), q .loaded .sound .procs .high)
 
   -- the step that was decided is due
-  due-of : {ls′ : List ℕ} {x : Step} (entry : getD t (s .at) 0 ≡ 0x27 → s .taken < length ts) → Faced (facing-of entry) ls′ x → (x ≡ Blocked → ⊥)
+  due-of : {ls′ : List ℕ} {x : Step} (entry : getD t (s .at) 0 ≡ 0x27 → s .taken < length ts) → Faced (facing-of entry) ls′ x → ((y : Reason) → x ≡ Blocked y → ⊥)
       → length ts < 2 ^ 64 → s .events + 1 < 2 ^ 64 → Due t records js ls′ bs cs es s x
   unfolding facing-of
   due-of entry F on room count = record {
@@ -200,7 +202,7 @@ module _ {t : List ℕ} {records : ℕ} {ts js ss ls₀ bs₀ cs₀ : List ℕ} 
   going-taken = G .from (G .start) .present .taken
 
   -- how the run ends, with what the code answers
-  ended : {r : Ran} (how : End) → r ≡ ranWith (endNumber how) k s
+  ended : {r : Ran} (how : End) → r ≡ ranWith (endNumber how) (reasonOf how) k s
       → ((q : Starting t records js ss ls₀ bs₀ cs₀)
       → C.run h (q .loaded .program .procs) (n - k) k (G .from q .config) ≡ record { how = how; steps = k; config = G .from q .config })
       → Runs t records ts js ss ls₀ bs₀ cs₀ h n lent cs es r
@@ -212,6 +214,7 @@ module _ {t : List ℕ} {records : ℕ} {ts js ss ls₀ bs₀ cs₀ : List ℕ} 
           config = g .config;
           same = g .same ∙ f q;
           end = refl;
+          reason = refl;
           memory = g .present .memory;
           full = g .present .full;
           sizes = g .present .sizes;
@@ -222,7 +225,7 @@ module _ {t : List ℕ} {records : ℕ} {ts js ss ls₀ bs₀ cs₀ : List ℕ} 
   })
 
   -- "judged finished"
-  pub going-finished : {r : Ran} → s .depth ≡ 0 → r ≡ ranWith 0 k s → Runs t records ts js ss ls₀ bs₀ cs₀ h n lent cs es r
+  pub going-finished : {r : Ran} → s .depth ≡ 0 → r ≡ ranWith 0 0 k s → Runs t records ts js ss ls₀ bs₀ cs₀ h n lent cs es r
   going-finished e f =
       ended finished f (λ q. run-none h (q .loaded .program .procs) (n - k) k (G .from q .config)
       (empty (G .from q .config .stack) (sym (G .from q .present .depth) ∙ e)))
@@ -241,13 +244,13 @@ module _ {t : List ℕ} {records : ℕ} {ts js ss ls₀ bs₀ cs₀ : List ℕ} 
     going-few = few (G .start) (G .from (G .start)) deep
 
     -- "at its budget"
-    pub going-spent : {r : Ran} → k ≡ n → r ≡ ranWith 3 k s → Runs t records ts js ss ls₀ bs₀ cs₀ h n lent cs es r
+    pub going-spent : {r : Ran} → k ≡ n → r ≡ ranWith 3 0 k s → Runs t records ts js ss ls₀ bs₀ cs₀ h n lent cs es r
     going-spent e f =
         ended spent f (λ q. run-spent h (q .loaded .program .procs) (n - k) k (G .from q .config) (top q (G .from q) deep .2) (omega arith))
 
     module _ {u : Bool} (left : k ≡ n → ⊥) (U : UsedUp t ts s u) where
       -- "used up"
-      pub going-used : {r : Ran} → u ≡ true → r ≡ ranWith 1 k s → Runs t records ts js ss ls₀ bs₀ cs₀ h n lent cs es r
+      pub going-used : {r : Ran} → u ≡ true → r ≡ ranWith 1 0 k s → Runs t records ts js ss ls₀ bs₀ cs₀ h n lent cs es r
       going-used e f = ended used f (λ q. run-ended h (q .loaded .program .procs) (n - k) k (G .from q .config) (next q) (omega (arith, G .low)))
         where
           next : (q : Starting t records js ss ls₀ bs₀ cs₀) → C.next h (q .loaded .program .procs) (G .from q .config) ≡ C.ended used
@@ -271,16 +274,16 @@ module _ {t : List ℕ} {records : ℕ} {ts js ss ls₀ bs₀ cs₀ : List ℕ} 
         faced q = F .faced (facing-of q (G .from q) deep (U .no e))
 
         -- "blocked"
-        pub going-blocked : {r : Ran} → x ≡ Blocked → r ≡ ranWith 2 k s → Runs t records ts js ss ls₀ bs₀ cs₀ h n lent cs es r
+        pub going-blocked : {r : Ran} {y : Reason} {m : ℕ} → x ≡ Blocked y → m ≡ reasonNumber y → r ≡ ranWith 2 m k s → Runs t records ts js ss ls₀ bs₀ cs₀ h n lent cs es r
         unfolding facing-of
-        going-blocked z f =
-            ended blocked f (λ q. run-ended h (q .loaded .program .procs) (n - k) k (G .from q .config)
+        going-blocked {y = y} z w f =
+            ended (blocked y) (f ∙ ap (λ m. ranWith 2 m k s) w) (λ q. run-ended h (q .loaded .program .procs) (n - k) k (G .from q .config)
             (next-blocked h (top q (G .from q) deep .2) (faced q .decision) z) (omega (arith, G .low)))
 
         module _ (on : OneOf (0 ∷ 1 ∷ 2 ∷ 3 ∷ 4 ∷ 5 ∷ 6 ∷ []) (tagOf the-type x)) (room : length ts < 2 ^ 64) (fits : n < 2 ^ 64) where
           -- the step goes on
-          goes-on : x ≡ Blocked → ⊥
-          goes-on z = miss (0 ∷ 1 ∷ 2 ∷ 3 ∷ 4 ∷ 5 ∷ 6 ∷ []) 7 tt (rw z at on)
+          goes-on : (y : Reason) → x ≡ Blocked y → ⊥
+          goes-on y z = miss (0 ∷ 1 ∷ 2 ∷ 3 ∷ 4 ∷ 5 ∷ 6 ∷ []) 7 tt (rw z at on)
 
           -- it is due
           step-due : (q : Starting t records js ss ls₀ bs₀ cs₀) → Due t records js ls′ bs cs es s x

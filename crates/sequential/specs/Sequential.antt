@@ -6,6 +6,8 @@ use mathlib.Core.Bool.{Bool, true, false}
 use lib.ListN.{length, getD, set, drop}
 use lib.Dec.{ltb}
 use Rattle.value.specs.Maybe.{is, pick}
+use Rattle.value.specs.Try.{has}
+use Rattle.value.specs.declared.Reason.{Reason}
 use Rattle.value.specs.Lists.{sum}
 use Rattle.value.specs.Values.{cellSize}
 use Rattle.basics.specs.Places.{numberAt}
@@ -25,7 +27,7 @@ use Rattle.semantics.specs.Memory.{evals, fresh, Event}
 use Rattle.semantics.specs.Step.{Frame, Stack}
 use Rattle.semantics.specs.Threads.{End}
 use Rattle.semantics.specs.Copy as C
-use Rattle.semantics.specs.Calls.{endNumber, Outcome, sequentialOutcome}
+use Rattle.semantics.specs.Calls.{endNumber, reasonOf, Outcome, sequentialOutcome}
 use Rattle.engine.specs.Work.{Clears, frameWords, localWords, cellWords, Framed, Holds, Bases}
 use Rattle.engine.specs.Events.{Logged, wayOf}
 use Rattle.decide.specs.Decided.{Act, actOf, actEnd, decided, chosen}
@@ -87,9 +89,9 @@ pub record Due (t : List ℕ) (records : ℕ) (js ls bs cs es : List ℕ) (s : S
   pub below : Stack Plain
   pub stack : config .stack ≡ frame ∷ below
   pub decision : Decision (loaded .program) config frame (s .at) x
-  pub args : (m : ℕ) (es : List Expr) (b : Block Plain) (vs : List Value) → frame .code ≡ step tt (call m es) b → evals (frame .env) es ≡ is vs
+  pub args : (m : ℕ) (es : List Expr) (b : Block Plain) (vs : List Value) → frame .code ≡ step tt (call m es) b → evals (frame .env) es ≡ has vs
       → Framed ls (frameWords * s .depth) (map is vs)
-  pub going : x ≡ Blocked → ⊥
+  pub going : (r : Reason) → x ≡ Blocked r → ⊥
   pub some : 1 ≤ s .depth
   pub few : s .depth ≤ mostFrames
   pub small : length t ≤ positions
@@ -163,7 +165,7 @@ pub record Facing (t ts ss ls cs : List ℕ) (s : State) : Type 0 where
 pub record Faced {t ts ss ls cs : List ℕ} {s : State} (f : Facing t ts ss ls cs s) (ls′ : List ℕ) (x : Step) : Type 0 where
   pub decision : Decision (f .loaded .program) (f .config) (f .frame) (s .at) x
   pub present : Present (f .loaded .program) (f .lent) ts ls′ (f .backs) cs (f .buffer) s (f .config)
-  pub args : (m : ℕ) (es : List Expr) (b : Block Plain) (vs : List Value) → f .frame .code ≡ step tt (call m es) b → evals (f .frame .env) es ≡ is vs
+  pub args : (m : ℕ) (es : List Expr) (b : Block Plain) (vs : List Value) → f .frame .code ≡ step tt (call m es) b → evals (f .frame .env) es ≡ has vs
       → Framed ls′ (frameWords * s .depth) (map is vs)
 
 -- of whatever run it is
@@ -178,8 +180,8 @@ pub record UsedUp (t ts : List ℕ) (s : State) (r : Bool) : Type 0 where
   pub no : r ≡ false → getD t (s .at) 0 ≡ 0x27 → s .taken < length ts
 
 -- what a run came to, in this state
-abbrev pub ranWith : ℕ → ℕ → State → Ran
-ranWith how steps s = record { end = how; steps = steps; taken = s .taken; events = s .events }
+abbrev pub ranWith : ℕ → ℕ → ℕ → State → Ran
+ranWith how reason steps s = record { end = how; reason = reason; steps = steps; taken = s .taken; events = s .events }
 
 -- the words of the locals and of the cells, and the positions of the callers, before the first step
 pub record Starting (t : List ℕ) (records : ℕ) (js ss ls bs cs : List ℕ) : Type 0 where
@@ -202,6 +204,7 @@ pub record RanAs {t : List ℕ} {records : ℕ} {js ss ls bs cs : List ℕ} (q :
   pub config : C.Config
   pub same : runOf q ts h n ≡ record { how = how; steps = r .steps; config = config }
   pub end : r .end ≡ endNumber how
+  pub reason : r .reason ≡ reasonOf how
   pub memory : Holds (config .memory) cs′
   pub full : length cs′ ≡ cellWords
   pub sizes : shape (config .memory) ≡ q .loaded .program .sizes

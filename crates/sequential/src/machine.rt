@@ -18,6 +18,7 @@ use basics::numbers::STARTS;
 use basics::numbers::TRAILER;
 use basics::numbers::USED;
 use basics::numbers::WRITE;
+use basics::reasons;
 use decide::step;
 use decide::step::Step;
 use engine::evaluate;
@@ -49,9 +50,10 @@ struct State {
     events: usize,
 }
 
-// What a run came to: its end, its steps, the entries taken and the events recorded.
+// What a run came to: its end, the reason (0 unless it blocked), its steps, the entries taken and the events recorded.
 struct Ran {
     end: u8,
+    reason: u8,
     steps: u64,
     taken: usize,
     events: usize,
@@ -216,7 +218,7 @@ fn carry_out(
             memory::put(cells, cell, number(thread));
             selected(state, ways::settle(t, jumps, next), thread)
         }
-        Step::Blocked => state,
+        Step::Blocked(_) => state,
     }
 }
 
@@ -273,11 +275,12 @@ fn used_up(t: &[u8], schedule: &[u8], state: State) -> bool
 }
 
 // How a run ended.
-fn outcome(end: u8, steps: u64, state: State) -> Ran
-    ensures { λ r. ⌜ r ≡ ranWith end steps state ⌝ }
+fn outcome(end: u8, reason: u8, steps: u64, state: State) -> Ran
+    ensures { λ r. ⌜ r ≡ ranWith end reason steps state ⌝ }
 {
     Ran {
         end,
+        reason,
         steps,
         taken: state.taken,
         events: state.events,
@@ -313,17 +316,17 @@ fn go(
     let mut steps = 0;
     loop {
         if state.depth == 0 {
-            return outcome(FINISHED, steps, state);
+            return outcome(FINISHED, 0, steps, state);
         }
         if steps == budget {
-            return outcome(SPENT, steps, state);
+            return outcome(SPENT, 0, steps, state);
         }
         if used_up(t, schedule, state) {
-            return outcome(USED, steps, state);
+            return outcome(USED, 0, steps, state);
         }
         let step = due(t, schedule, starts, words, cells, state);
-        if let Step::Blocked = step {
-            return outcome(BLOCKED, steps, state);
+        if let Step::Blocked(reason) = step {
+            return outcome(BLOCKED, reasons::number(reason), steps, state);
         }
         state = carry_out(
             t,
@@ -385,5 +388,6 @@ pub fn run(
         steps: ran.steps,
         unused: schedule.len() - ran.taken,
         events: ran.events as u64,
+        reason: ran.reason,
     }
 }

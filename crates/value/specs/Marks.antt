@@ -5,9 +5,11 @@ use mathlib.Core.Bool.{Bool}
 use lib.ListN.{getD}
 use lib.Dec.{eqb}
 use Rattle.value.specs.Maybe.{either}
+use Rattle.value.specs.Try.{Try, provided}
 use Rattle.value.specs.Values.{One, not, neg, Two, add, sub, mul, less, equal, and}
 use Rattle.value.specs.declared.Value.{Value}
 use Rattle.value.specs.declared.Value.the-variants.{Whole, Location, Truth}
+use Rattle.value.specs.declared.Reason.the-variants.{WrongKind}
 
 -- "10, 11, 12: add, subtract, multiply; 13 less; 14 equal; 15 and"
 abbrev pub mark₂ : Two → ℕ
@@ -50,3 +52,16 @@ kindOf (Truth b) = 3
 -- a value of kind k, where 0 is any
 abbrev pub ofKind : ℕ → Value → Bool
 ofKind k v = either (eqb k 0) (eqb (kindOf v) k)
+
+-- the kind that an operator takes on its left; `equal` takes any
+abbrev pub leftKind : Two → ℕ
+leftKind add = 1
+leftKind sub = 1
+leftKind mul = 1
+leftKind less = 1
+leftKind equal = 0
+leftKind and = 3
+
+-- request #101: "The left operand, its kind included, is judged before the right"
+abbrev pub judged : Two → Value → Try Value
+judged o u = provided (ofKind (leftKind o) u) WrongKind u

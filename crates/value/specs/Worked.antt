@@ -5,10 +5,11 @@ use mathlib.Core.Path.{_≡_, refl}
 use mathlib.Core.List.{[], _∷_, map}
 use mathlib.Core.Bool.{true, false}
 use lib.IntN.{pos, negℤ}
-use Rattle.value.specs.Maybe.{is}
+use Rattle.value.specs.Try.{has, lacks, reasonNumber}
 use Rattle.value.specs.Lists.{sum}
 use Rattle.value.specs.Values.{not, neg, add, sub, mul, less, equal, and, apply₁, apply₂, bytes, cellBytes}
-use Rattle.value.specs.Marks.{mark₁, mark₂}
+use Rattle.value.specs.Marks.{mark₁, mark₂, judged}
+use Rattle.value.specs.declared.Reason.the-variants.{OutOfRange, WrongKind, IndexOutside, FinishedThread}
 use Rattle.value.specs.declared.Value.{Value}
 use Rattle.value.specs.declared.Value.the-variants.{Whole, Location, Truth}
 
@@ -22,23 +23,43 @@ minus n = Whole (negℤ (pos n))
 
 -- WHAT THE OPERATORS GIVE
 pub operators :
-    (apply₂ add (plus 7) (minus 2) ≡ is (plus 5))
-    × (apply₂ sub (plus 2) (plus 7) ≡ is (minus 5))
-    × (apply₂ mul (minus 3) (plus 4) ≡ is (minus 12))
-    × (apply₂ less (minus 3) (plus 2) ≡ is (Truth true))
-    × (apply₂ less (plus 2) (plus 2) ≡ is (Truth false))
-    × (apply₂ less (plus 2) (minus 3) ≡ is (Truth false))
-    × (apply₂ equal (Location 3) (Location 3) ≡ is (Truth true))
-    × (apply₂ equal (Truth false) (Truth true) ≡ is (Truth false))
-    × (apply₂ and (Truth true) (Truth true) ≡ is (Truth true))
-    × (apply₂ and (Truth true) (Truth false) ≡ is (Truth false))
-    × (apply₂ and (Truth false) (Truth true) ≡ is (Truth false))
-    × (apply₁ not (Truth true) ≡ is (Truth false))
-    × (apply₁ not (Truth false) ≡ is (Truth true))
-    × (apply₁ neg (plus 5) ≡ is (minus 5))
+    (apply₂ add (plus 7) (minus 2) ≡ has (plus 5))
+    × (apply₂ sub (plus 2) (plus 7) ≡ has (minus 5))
+    × (apply₂ mul (minus 3) (plus 4) ≡ has (minus 12))
+    × (apply₂ less (minus 3) (plus 2) ≡ has (Truth true))
+    × (apply₂ less (plus 2) (plus 2) ≡ has (Truth false))
+    × (apply₂ less (plus 2) (minus 3) ≡ has (Truth false))
+    × (apply₂ equal (Location 3) (Location 3) ≡ has (Truth true))
+    × (apply₂ equal (Truth false) (Truth true) ≡ has (Truth false))
+    × (apply₂ and (Truth true) (Truth true) ≡ has (Truth true))
+    × (apply₂ and (Truth true) (Truth false) ≡ has (Truth false))
+    × (apply₂ and (Truth false) (Truth true) ≡ has (Truth false))
+    × (apply₁ not (Truth true) ≡ has (Truth false))
+    × (apply₁ not (Truth false) ≡ has (Truth true))
+    × (apply₁ neg (plus 5) ≡ has (minus 5))
 operators = (refl, refl, refl, refl, refl, refl, refl, refl, refl, refl, refl, refl, refl, refl)
 
--- THEIR MARKS: "10, 11, 12: add, subtract, multiply", "13 less", "14 equal", "15 and", "16, 17 not, negate"
+-- WHY THEY GIVE NONE: the kinds are judged before the range
+pub reasons :
+    (apply₂ add (plus 2147483647) (plus 1) ≡ lacks OutOfRange)
+    × (apply₂ sub (minus 2147483648) (plus 1) ≡ lacks OutOfRange)
+    × (apply₂ mul (plus 65536) (plus 32768) ≡ lacks OutOfRange)
+    × (apply₁ neg (minus 2147483648) ≡ lacks OutOfRange)
+    × (apply₂ add (plus 2147483647) (Truth true) ≡ lacks WrongKind)
+    × (apply₂ less (Location 0) (plus 1) ≡ lacks WrongKind)
+    × (apply₂ equal (Location 1) (plus 1) ≡ lacks WrongKind)
+    × (apply₂ and (Truth false) (plus 0) ≡ lacks WrongKind)
+    × (apply₁ not (plus 0) ≡ lacks WrongKind)
+    × (judged equal (Location 1) ≡ has (Location 1))
+    × (judged and (plus 0) ≡ lacks WrongKind)
+    × (judged less (Truth true) ≡ lacks WrongKind)
+reasons = (refl, refl, refl, refl, refl, refl, refl, refl, refl, refl, refl, refl)
+
+-- THEIR NUMBERS: "1 outside the number range, 2 wrong kind. Machines add 3 index outside, 4 finished thread chosen"
+pub reason-numbers : map reasonNumber (OutOfRange ∷ WrongKind ∷ IndexOutside ∷ FinishedThread ∷ []) ≡ 1 ∷ 2 ∷ 3 ∷ 4 ∷ []
+reason-numbers = refl
+
+-- THE MARKS OF THE OPERATORS: "10, 11, 12: add, subtract, multiply", "13 less", "14 equal", "15 and", "16, 17 not, negate"
 pub operator-marks :
     (map mark₂ (add ∷ sub ∷ mul ∷ less ∷ equal ∷ and ∷ []) ≡ 0x10 ∷ 0x11 ∷ 0x12 ∷ 0x13 ∷ 0x14 ∷ 0x15 ∷ [])
     × (map mark₁ (not ∷ neg ∷ []) ≡ 0x16 ∷ 0x17 ∷ [])

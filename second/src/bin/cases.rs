@@ -11,6 +11,7 @@ use second::concurrent::Concurrent;
 use second::line::BUDGET;
 use second::program::{Instruction, Kind, Program};
 use second::random::{damaged, program_of, schedule_for, Random, Scale};
+use second::reason_samples::{self, blocks};
 use second::run_samples::{ran, Ran};
 use second::samples::{
     b, deepest, judged, number_9, one_thread, sequential, table_of_length, translating_to, Judged,
@@ -62,6 +63,8 @@ fn whole_batch(ops: &str) -> Batch {
     long_copies(&mut batch);
     batch.section = "runs";
     runs(&mut batch);
+    batch.section = "reasons";
+    reasons(&mut batch);
     batch.section = "schedules and cell buffers";
     schedules(&mut batch);
     cell_buffers(&mut batch);
@@ -154,7 +157,9 @@ fn outcome(line: &str) -> String {
     };
     let result = match (words[0], words[1], words[2]) {
         ("6", "refused", number) => format!("refused {number:>2}"),
+        ("6", "blocked", _) => format!("blocked by {}", words[6]),
         ("6", end, _) => end.to_string(),
+        ("4" | "5", "0", "2") => format!("blocked by {}", words[6]),
         ("4" | "5", "0", end) => end_name(end).to_string(),
         (_, "0", _) => "accepted".to_string(),
         (_, number, _) => format!("refused {number:>2}"),
@@ -166,7 +171,6 @@ fn end_name(end: &str) -> &'static str {
     match end {
         "0" => "finished",
         "1" => "used",
-        "2" => "blocked",
         _ => "at its budget",
     }
 }
@@ -406,6 +410,44 @@ fn copy_run(batch: &mut Batch, sample: &Ran) {
     });
 }
 
+/// Every instruction that blocks, in both machines and inside atomic blocks. An assignment, which
+/// shows how an expression is judged, is not run in all of these ways, since there are many.
+fn reasons(batch: &mut Batch) {
+    for sample in reason_samples::worked() {
+        blocked_program(batch, &sample.table, &sample.schedule);
+        blocked_copy(batch, &sample.table, &sample.schedule);
+    }
+    for sample in blocks() {
+        let sequential = table(&reason_samples::sequential(&sample));
+        batch.add(run_case(Kind::Sequential, &sequential, &[0], 10, 11));
+        let plain = table(&reason_samples::concurrent(&sample));
+        let inside = table(&reason_samples::in_atomic(&sample));
+        let branch = table(&reason_samples::in_a_branch(&sample));
+        blocked_program(batch, &plain, &[0; 5]);
+        if sample.may_be_in_atomic() {
+            blocked_program(batch, &inside, &[0; 5]);
+        }
+        if sample.may_be_in_atomic() && !sample.is_assign() {
+            blocked_program(batch, &branch, &[0; 5]);
+            blocked_copy(batch, &branch, &[0; 5]);
+        }
+        if !sample.may_be_in_atomic() {
+            blocked_copy(batch, &plain, &[0; 5]);
+        }
+    }
+}
+
+fn blocked_program(batch: &mut Batch, source: &[u8], schedule: &[u8]) {
+    let cells = cell_bytes(Kind::Concurrent, source);
+    batch.add(run_case(Kind::Concurrent, source, schedule, cells, 11));
+    batch.add(line_case(schedule, source));
+}
+
+fn blocked_copy(batch: &mut Batch, source: &[u8], schedule: &[u8]) {
+    let copy = copy_of(source).expect("an accepted table");
+    batch.add(whole_run(&copy, schedule));
+}
+
 /// Number 11, and schedules of 4,096 entries.
 fn schedules(batch: &mut Batch) {
     let b = table(&b());
@@ -616,7 +658,7 @@ fn note_blocked_step(batch: &mut Batch, program: &Program, schedule: &[u8]) {
         }
         let thread = usize::from(*thread);
         let next = machine.threads[thread].last().and_then(|f| f.next());
-        if machine.step(thread).is_none() {
+        if machine.step(thread).is_err() {
             let name = next.map_or("finished thread", name_of);
             batch.note(format!("random programs blocked at: {name}"));
             return;

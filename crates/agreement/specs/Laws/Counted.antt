@@ -7,7 +7,8 @@ use mathlib.Core.Logic.{_↔_}
 use mathlib.Core.List.{List, [], _∷_, _++_}
 use mathlib.Core.Bool.{true, false}
 use lib.ListN.{length}
-use Rattle.value.specs.Maybe.{Maybe, is, nothing}
+use Rattle.value.specs.Maybe.{is}
+use Rattle.value.specs.Try.{Try, has, lacks}
 use Rattle.value.specs.Lists.{at}
 use Rattle.value.specs.Laws.Maybes.{is-inj, missing}
 use Rattle.value.specs.Laws.Tests.{by-test}
@@ -186,11 +187,11 @@ count q (t ∷ ts) st k evs =
     (λ e. rw (finished-run q (t ∷ ts) st k evs e, price-done q (t ∷ ts) st e) (omega arith))
     (λ e. by (P.threadStep q t st) refl e (count q ts))
   where
-    by : (r : Maybe P.Step) → P.threadStep q t st ≡ r → P.done (st .threads) ≡ false
+    by : (r : Try P.Step) → P.threadStep q t st ≡ r → P.done (st .threads) ≡ false
         → ((st : P.State) (k : ℕ) (evs : List Event) → k + length (prices q ts st) ≡ P.run q ts st k evs .steps)
         → k + length (prices q (t ∷ ts) st) ≡ P.run q (t ∷ ts) st k evs .steps
-    by nothing f e ih = rw (blocked-run q t ts st k evs e f, price-blocked q t ts st f) (omega arith)
-    by (is r) f e ih = rw (step-run q t ts st k evs r e f, f, prices) (omega (arith, ih (r .state) (suc k) (evs ++ r .events)))
+    by (lacks why) f e ih = rw (blocked-run q t ts st k evs e f, price-blocked q t ts st f) (omega arith)
+    by (has r) f e ih = rw (step-run q t ts st k evs r e f, f, prices) (omega (arith, ih (r .state) (suc k) (evs ++ r .events)))
 
 -- THERE IS A PRICE FOR EACH STEP TAKEN, AND NO OTHER.
 pub prices-count : (p : Program Plain) (ts : List ℕ) → length (pricesOf p ts) ≡ programRun p ts .steps

@@ -7,6 +7,7 @@ use lib.ListN.{length}
 use lib.Dec.{ltb, leb}
 use borrow.Author.Tests.{leb-true, ltb-false}
 use Rattle.value.specs.Lists.{all}
+use Rattle.value.specs.declared.Reason.{Reason}
 use Rattle.value.specs.Laws.Tests.{by-test, both-passed, lt?}
 use Rattle.value.specs.Laws.Lists.{all?}
 use Rattle.format.specs.Syntax.{Program, Plain, concurrent, sequential}
@@ -17,7 +18,7 @@ use Rattle.format.specs.Laws.Refusals.{refused-within}
 use Rattle.translation.specs.Translate.{translate}
 use Rattle.semantics.specs.Threads as P
 use Rattle.semantics.specs.Copy as C
-use Rattle.semantics.specs.Calls.{endNumber, scheduled, maxEntries}
+use Rattle.semantics.specs.Calls.{endNumber, reasonOf, scheduled, maxEntries}
 use Rattle.agreement.specs.declared.Figures.{Figures}
 use Rattle.agreement.specs.Agreement.{programRun, copyRun, budget, headSteps, Closing, Agree, Demand3}
 use Rattle.agreement.specs.Figures.{figures, figuresOf, figuresCall}
@@ -28,7 +29,7 @@ use Rattle.agreement.specs.Laws.Accepted.{demand3}
 abbrev pub Steps : ℕ → ℕ → P.End → Type 0
 Steps copy head P.finished = copy ≡ head + 2
 Steps copy head P.used = copy ≡ head + 1
-Steps copy head P.blocked = head < copy
+Steps copy head (P.blocked why) = head < copy
 Steps copy head P.spent = ⊥
 
 -- what the figures say of the program p of the table t
@@ -37,26 +38,27 @@ pub record Figured (t ts : List ℕ) (f : Figures) (p : Program Plain) : Type 0 
   pub agree : Agree t p ts budget
   -- the line tells the program's run
   pub told : f ≡ figures (programRun p ts) (copyRun budget p ts)
-  -- the copy ends the same way, and so never at its budget
+  -- the copy ends the same way, for the same reason, and so never at its budget
   pub end : f .end ≡ endNumber (copyRun budget p ts .how)
+  pub reason : f .reason ≡ reasonOf (copyRun budget p ts .how)
   pub never : copyRun budget p ts .how ≡ P.spent → ⊥
   -- with the same shared events, where the run is not blocked
-  pub events : (programRun p ts .how ≡ P.blocked → ⊥) → f .events ≡ length (copyRun budget p ts .config .events)
+  pub events : ((why : Reason) → programRun p ts .how ≡ P.blocked why → ⊥) → f .events ≡ length (copyRun budget p ts .config .events)
   pub steps : Steps (f .copy) (headSteps p ts) (programRun p ts .how)
 
 -- the copy's steps, from its end
 closing-steps : (p : Program Plain) (ts : List ℕ) (r : P.Ran) (c : C.Ran) (how : P.End) → Closing p ts r c how → Steps (c .steps) (headSteps p ts) how
 closing-steps p ts r c P.finished h = h .0
 closing-steps p ts r c P.used h = h .0
-closing-steps p ts r c P.blocked h = h
+closing-steps p ts r c (P.blocked why) h = h
 closing-steps p ts r c P.spent h = h
 
 -- the copy's events, from its end
-closing-events : (p : Program Plain) (ts : List ℕ) (r : P.Ran) (c : C.Ran) (how : P.End) → Closing p ts r c how → (how ≡ P.blocked → ⊥)
+closing-events : (p : Program Plain) (ts : List ℕ) (r : P.Ran) (c : C.Ran) (how : P.End) → Closing p ts r c how → ((why : Reason) → how ≡ P.blocked why → ⊥)
     → length (r .events) ≡ length (c .config .events)
 closing-events p ts r c P.finished h n = ap length (sym (h .1 .events))
 closing-events p ts r c P.used h n = ap length (sym (h .1 .events))
-closing-events p ts r c P.blocked h n = absurd (n refl)
+closing-events p ts r c (P.blocked why) h n = absurd (n why refl)
 closing-events p ts r c P.spent h n = absurd h
 
 -- the figures of a program that agrees with its copy
@@ -70,6 +72,7 @@ figured t ts p reads agree =
       agree = agree;
       told = refl;
       end = ap endNumber (sym (agree .how));
+      reason = ap reasonOf (sym (agree .how));
       never = agree .never;
       events = closing-events p ts r c (r .how) (agree .closing);
       steps = closing-steps p ts r c (r .how) (agree .closing);

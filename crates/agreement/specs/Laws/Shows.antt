@@ -7,10 +7,14 @@ use mathlib.Core.Bool.{true}
 use lib.ListN.{length, take, getD}
 use lib.IntN.{pos}
 use Rattle.value.specs.Maybe.{Maybe, is, nothing, _>>=_}
+use Rattle.value.specs.Try.{has, lacks}
 use Rattle.value.specs.Lists.{at}
 use Rattle.value.specs.declared.Value.{Value}
 use Rattle.value.specs.declared.Value.the-variants.{Whole}
+use Rattle.value.specs.declared.Reason.{Reason}
+use Rattle.value.specs.declared.Reason.the-variants.{IndexOutside, FinishedThread}
 use Rattle.value.specs.Laws.Maybes.{is-inj, missing}
+use Rattle.value.specs.Laws.Tries.{lacking, orLacks-has}
 use Rattle.value.specs.Laws.Tests.{never, by-test}
 use Rattle.format.specs.Syntax.{Program}
 use Rattle.semantics.specs.Memory.{Memory, cell, Event}
@@ -45,9 +49,9 @@ row-there (row ∷ η) zero e = is-inj e
 row-there (row ∷ η) (suc l) e = row-there η l e
 
 -- and its cells
-row-cell : (η : Memory) (l i : ℕ) {v : Value} → cell η l i ≡ is v → at (getD η l []) i ≡ is v
-row-cell [] l i e = missing e
-row-cell (row ∷ η) zero i e = e
+row-cell : (η : Memory) (l i : ℕ) {v : Value} → cell η l i ≡ has v → at (getD η l []) i ≡ is v
+row-cell [] l i e = lacking e
+row-cell (row ∷ η) zero i e = orLacks-has IndexOutside (at row i) e
 row-cell (row ∷ η) (suc l) i e = row-cell η l i e
 
 -- ---- the program's run, by cases
@@ -61,12 +65,12 @@ done-at ((f ∷ s) ∷ ss) t d e = absurd (never d)
 
 module _ (q : Program ℕ) where
   -- what a step costs
-  pub price-step : (t : ℕ) (ts : List ℕ) (st : P.State) (s : Stack ℕ) (r : P.Step) → at (st .threads) t ≡ is s → P.threadStep q t st ≡ is r
+  pub price-step : (t : ℕ) (ts : List ℕ) (st : P.State) (s : Stack ℕ) (r : P.Step) → at (st .threads) t ≡ is s → P.threadStep q t st ≡ has r
       → prices q (t ∷ ts) st ≡ price q t s (st .memory) ∷ prices q ts (r .state)
   price-step t ts st s r e f = rw (f, e, prices)
 
   -- a blocked one costs nothing
-  pub price-blocked : (t : ℕ) (ts : List ℕ) (st : P.State) → P.threadStep q t st ≡ nothing → prices q (t ∷ ts) st ≡ []
+  pub price-blocked : (t : ℕ) (ts : List ℕ) (st : P.State) {why : Reason} → P.threadStep q t st ≡ lacks why → prices q (t ∷ ts) st ≡ []
   price-blocked t ts st f = rw (f, prices)
 
   -- and there is none after the program is finished
@@ -74,7 +78,7 @@ module _ (q : Program ℕ) where
   price-done [] st d = refl
   price-done (t ∷ ts) st d = price-blocked t ts st (none (at (st .threads) t) refl)
     where
-      none : (s : Maybe (Stack ℕ)) → at (st .threads) t ≡ s → P.threadStep q t st ≡ nothing
+      none : (s : Maybe (Stack ℕ)) → at (st .threads) t ≡ s → P.threadStep q t st ≡ lacks FinishedThread
       none nothing e = rw e
       none (is s) e = rw (e, done-at (st .threads) t d e)
 

@@ -108,7 +108,8 @@ module _ (t ts out : List ℕ) {o : List ℕ} {w : WriteAnswer} (W : record { an
     -- a program that is run, and its copy
     pub told-both : {r s : RunAnswer} {a : ReadAnswer} → r ≡ programAnswer t ts → r .number ≡ 0 → a ≡ readCall concurrent t
         → s ≡ copyAnswer (take (w .length) o) ts (a .locations)
-        → record { number = 0; end = r .end; steps = r .steps; copy = s .steps; unused = r .unused; events = r .events } ≡ figuresCall t ts
+        → record { number = 0; end = r .end; steps = r .steps; copy = s .steps; unused = r .unused; events = r .events; reason = r .reason }
+        ≡ figuresCall t ts
     unfolding programAnswer copyAnswer
     told-both {r} {s} {a} R z A S =
         let p : Program Plain = told-copy .0 in

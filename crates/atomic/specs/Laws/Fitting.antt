@@ -7,10 +7,12 @@ use mathlib.Core.Bool.{Bool, true, false}
 use lib.ListN.{length}
 use lib.Dec.{ltb}
 use borrow.Author.Tests.{ltb-true}
-use Rattle.value.specs.Maybe.{Maybe, is, nothing, _>>=_, both}
+use Rattle.value.specs.Maybe.{is, both}
+use Rattle.value.specs.Try.{Try, has, lacks, _⟫_}
+use Rattle.value.specs.declared.Reason.{Reason}
 use Rattle.value.specs.Laws.Maybes.{is-inj}
 use Rattle.value.specs.Laws.Tests.{never, both-passed}
-use Rattle.format.specs.Syntax.{Expr, Instr, assign, write, read, while, if, call, atomic, select, Block, Program}
+use Rattle.format.specs.Syntax.{Expr, local, Instr, assign, write, read, while, if, call, atomic, select, Block, Program}
 use Rattle.format.specs.Encode.{expr}
 use Rattle.format.specs.Rules.{allowed, allowedI, named, namedI}
 use Rattle.format.specs.Rules as Rules
@@ -18,8 +20,8 @@ use Rattle.format.specs.Laws.Stands.{first}
 use Rattle.format.specs.Laws.Grammar.{InstrAt, BlockAt, IfAt, if-here}
 use Rattle.decide.specs.declared.step.Step.{Step}
 use Rattle.decide.specs.declared.step.Step.the-variants as S
-use Rattle.semantics.specs.Memory.{lookup, eval, index, cell}
-use Rattle.value.specs.Values.{place, truth}
+use Rattle.semantics.specs.Memory.{eval, index, cell}
+use Rattle.value.specs.Values.{number, place, truth}
 use Rattle.decide.specs.Decided.{Act, assigns, writes, reads, tests, actOf, actEnd, argsOf, decided, orBlocked}
 use Rattle.semantics.specs.Threads.{Atomic}
 use Rattle.atomic.specs.Acts.{within, actI, act}
@@ -27,10 +29,10 @@ use Rattle.atomic.specs.Doing.{carried, StepFits}
 use Rattle.decide.specs.Laws.Deciding.{cell-size}
 
 -- what holds of a blocked step and of each step that a chain can come to, holds of the step that it comes to
-pub through : {A : Type 0} (P : Step → Type 0) (m : Maybe A) (f : A → Maybe Step) → (m ≡ nothing → P S.Blocked)
-    → ((x : A) → m ≡ is x → P (orBlocked (f x))) → P (orBlocked (m >>= f))
-through P (is x) f none some = some x refl
-through P nothing f none some = none refl
+pub through : {A : Type 0} (P : Step → Type 0) (m : Try A) (f : A → Try Step) → ((r : Reason) → m ≡ lacks r → P (S.Blocked r))
+    → ((x : A) → m ≡ has x → P (orBlocked (f x))) → P (orBlocked (m ⟫ f))
+through P (has x) f none some = some x refl
+through P (lacks r) f none some = none r refl
 
 -- ---- inside an atomic block
 
@@ -43,7 +45,7 @@ EndsAt S.Return j = Unit {0}
 EndsAt (S.Test q k) j = Unit {0}
 EndsAt (S.Call m k) j = Unit {0}
 EndsAt (S.Select c u k) j = Unit {0}
-EndsAt S.Blocked j = Unit {0}
+EndsAt (S.Blocked r) j = Unit {0}
 
 -- a step that is carried out is the instruction
 pub record Simple (thread j : ℕ) (s : Instr ℕ) (a : Atomic) (u : Step) : Type 0 where
@@ -73,7 +75,7 @@ module _ (t : List ℕ) (thread i d j : ℕ) (p : Program ℕ) (X m : ℕ) (s : 
   Fitting S.Return = Simple thread j s a S.Return
   Fitting (S.Call n k) = Simple thread j s a (S.Call n k)
   Fitting (S.Select c u k) = Simple thread j s a (S.Select c u k)
-  Fitting S.Blocked = Simple thread j s a S.Blocked
+  Fitting (S.Blocked r) = Simple thread j s a (S.Blocked r)
 
 -- the blocks of an if
 if-blocks : {t : List ℕ} {i d j : ℕ} {e : Expr} {b c : Block ℕ} → InstrAt t i d (if e b c) j
@@ -94,7 +96,7 @@ module _ {t : List ℕ} (thread : ℕ) {i d j : ℕ} (a : Atomic) (p : Program �
       let P : Step → Type 0 = Fitting t thread i d j p (length (a .env)) m (assign x e) a in
       subst (λ k. P (decided (a .env) (a .memory) k (actEnd {A = ℕ} i (assign x e)))) (is-inj f)
       (through P (eval (a .env) e) _
-      (λ q. record { fits = tt; same = rw q; ends = tt })
+      (λ no q. record { fits = tt; same = rw q; ends = tt })
       (λ v q. record {
         fits = ltb-true x (length (a .env)) (both-passed (ltb x (length (a .env))) _ n .0);
         same = rw q;
@@ -103,22 +105,24 @@ module _ {t : List ℕ} (thread : ℕ) {i d j : ℕ} (a : Atomic) (p : Program �
   fitting (write y o e) k f h n w =
       let P : Step → Type 0 = Fitting t thread i d j p (length (a .env)) m (write y o e) a in
       subst (λ k. P (decided (a .env) (a .memory) k (actEnd {A = ℕ} i (write y o e)))) (is-inj f)
-      (through P (eval (a .env) e) _ (λ q. record { fits = tt; same = rw q; ends = tt }) (λ v q.
-      through P (eval (a .env) o >>= index) _ (λ r. record { fits = tt; same = rw (q, r); ends = tt }) (λ x r.
-      through P (lookup (a .env) y >>= place) _ (λ u. record { fits = tt; same = rw (q, r, u); ends = tt }) (λ l u.
-      through P (cell (a .memory) l x) _ (λ w. record { fits = tt; same = rw (q, r, u, w); ends = tt }) (λ z w.
-      record { fits = record { number = refl; size = cell-size (a .memory) l x w }; same = rw (q, r, u, w); ends = sym (h .stands .ends) })))))
+      (through P (eval (a .env) e) _ (λ no q. record { fits = tt; same = rw q; ends = tt }) (λ v q.
+      through P (eval (a .env) o ⟫ number) _ (λ no r. record { fits = tt; same = rw (q, r); ends = tt }) (λ g r.
+      through P (eval (a .env) (local y) ⟫ place) _ (λ no u. record { fits = tt; same = rw (q, r, u); ends = tt }) (λ l u.
+      through P (index g) _ (λ no v′. record { fits = tt; same = rw (q, r, u, v′); ends = tt }) (λ x v′.
+      through P (cell (a .memory) l x) _ (λ no w. record { fits = tt; same = rw (q, r, u, v′, w); ends = tt }) (λ z w.
+      record { fits = record { number = refl; size = cell-size (a .memory) l x w }; same = rw (q, r, u, v′, w); ends = sym (h .stands .ends) }))))))
   fitting (read x y o) k f h n w =
       let P : Step → Type 0 = Fitting t thread i d j p (length (a .env)) m (read x y o) a in
       subst (λ k. P (decided (a .env) (a .memory) k (actEnd {A = ℕ} i (read x y o)))) (is-inj f)
-      (through P (eval (a .env) o >>= index) _ (λ r. record { fits = tt; same = rw r; ends = tt }) (λ z r.
-      through P (lookup (a .env) y >>= place) _ (λ u. record { fits = tt; same = rw (r, u); ends = tt }) (λ l u.
-      through P (cell (a .memory) l z) _ (λ w. record { fits = tt; same = rw (r, u, w); ends = tt }) (λ v w.
+      (through P (eval (a .env) o ⟫ number) _ (λ no r. record { fits = tt; same = rw r; ends = tt }) (λ g r.
+      through P (eval (a .env) (local y) ⟫ place) _ (λ no u. record { fits = tt; same = rw (r, u); ends = tt }) (λ l u.
+      through P (index g) _ (λ no v′. record { fits = tt; same = rw (r, u, v′); ends = tt }) (λ z v′.
+      through P (cell (a .memory) l z) _ (λ no w. record { fits = tt; same = rw (r, u, v′, w); ends = tt }) (λ v w.
       record {
         fits = ltb-true x (length (a .env)) (both-passed (ltb x (length (a .env))) _ n .0);
-        same = rw (r, u, w);
+        same = rw (r, u, v′, w);
         ends = sym (h .stands .ends);
-      }))))
+      })))))
   fitting (if e b c) k f h n w =
       let P : Step → Type 0 = Fitting t thread i d j p (length (a .env)) m (if e b c) a in
       let blocks = if-blocks h in
@@ -128,7 +132,7 @@ module _ {t : List ℕ} (thread : ℕ) {i d j : ℕ} (a : Atomic) (p : Program �
       in
       let may = both-passed (allowed (within m) b) (allowed (within m) c) w in
       subst (λ k. P (decided (a .env) (a .memory) k (actEnd i (if e b c)))) (is-inj f)
-      (through P (eval (a .env) e >>= truth) _ (λ q. record { fits = tt; same = rw q; ends = tt }) (λ v q.
+      (through P (eval (a .env) e ⟫ truth) _ (λ no q. record { fits = tt; same = rw q; ends = tt }) (λ v q.
       record {
         past = omega arith;
         yes = b;

@@ -10,23 +10,25 @@ use lib.IntN.{ℤ, negℤ, _+ℤ_, _-ℤ_, _*ℤ_}
 use lib.Signed.{mag}
 use lib.Dec.{ltb}
 use borrow.Author.Tests.{eqb-true}
-use Rattle.value.specs.Maybe.{Maybe, is, nothing, both}
+use Rattle.value.specs.Maybe.{both}
+use Rattle.value.specs.Try.{Try, has, lacks}
 use Rattle.value.specs.Values.{One, not, neg, Two, add, sub, mul, less, equal, and, whole, wholes, same, truths, apply₁, apply₂}
 use Rattle.value.specs.Marks.{Mark, wholeMark, locationMark, noMark, yesMark, localMark, oneMark, twoMark, noExpr, marks, markOf, kindOf, ofKind}
-use Rattle.value.specs.Laws.Maybes.{is-inj, missing, when-is}
+use Rattle.value.specs.Laws.Tries.{has-inj, lacking, provided-has}
 use Rattle.value.specs.Laws.Tests.{never}
 use Rattle.value.specs.Laws.Marks.{marks?, mark-right}
 use Rattle.value.specs.declared.Value.{Value}
 use Rattle.value.specs.declared.Value.the-variants.{Whole, Location, Truth}
+use Rattle.value.specs.declared.Reason.the-variants.{OutOfRange, WrongKind}
 use Rattle.basics.specs.Columns.{Row, rowOf, operandsOf, takesOf, packed, packedOf, applied₁, applied₂}
 
 -- ---- bytes that are no marks of operators
 
 -- a byte that is no mark of an operator on one value gives nothing
-pub no-one : (m : ℕ) (v : Value) → m ≢ 0x16 → m ≢ 0x17 → nothing ≡ applied₁ (markOf m) v
+pub no-one : (m : ℕ) (v : Value) → m ≢ 0x16 → m ≢ 0x17 → lacks WrongKind ≡ applied₁ (markOf m) v
 no-one m v n₁ n₂ = go (markOf m) (mark-right m)
   where
-    go : (k : Mark) → marks? m k ≡ true → nothing ≡ applied₁ k v
+    go : (k : Mark) → marks? m k ≡ true → lacks WrongKind ≡ applied₁ k v
     go (oneMark not) e = absurd (n₁ (eqb-true m 0x16 e))
     go (oneMark neg) e = absurd (n₂ (eqb-true m 0x17 e))
     go (twoMark o) e = refl
@@ -38,10 +40,10 @@ no-one m v n₁ n₂ = go (markOf m) (mark-right m)
     go noExpr e = refl
 
 -- and on two
-pub no-two : (m : ℕ) (v w : Value) → m ≢ 0x10 → m ≢ 0x11 → m ≢ 0x12 → m ≢ 0x13 → m ≢ 0x14 → m ≢ 0x15 → nothing ≡ applied₂ (markOf m) v w
+pub no-two : (m : ℕ) (v w : Value) → m ≢ 0x10 → m ≢ 0x11 → m ≢ 0x12 → m ≢ 0x13 → m ≢ 0x14 → m ≢ 0x15 → lacks WrongKind ≡ applied₂ (markOf m) v w
 no-two m v w n₁ n₂ n₃ n₄ n₅ n₆ = go (markOf m) (mark-right m)
   where
-    go : (k : Mark) → marks? m k ≡ true → nothing ≡ applied₂ k v w
+    go : (k : Mark) → marks? m k ≡ true → lacks WrongKind ≡ applied₂ k v w
     go (twoMark add) e = absurd (n₁ (eqb-true m 0x10 e))
     go (twoMark sub) e = absurd (n₂ (eqb-true m 0x11 e))
     go (twoMark mul) e = absurd (n₃ (eqb-true m 0x12 e))
@@ -76,14 +78,14 @@ module _ (f : Row → ℕ) (m : ℕ) where
 -- what a row says of an operator on one value: one operand; "of the wrong kind, has none itself"; and the kind of a result
 pub record Says₁ (o : One) (r : Row) : Type 0 where
   pub count : r .operands ≡ 1
-  pub wrong : (v : Value) → ofKind (r .takes) v ≡ false → apply₁ o v ≡ nothing
-  pub result : (v : Value) {u : Value} → apply₁ o v ≡ is u → kindOf u ≡ r .gives
+  pub wrong : (v : Value) → ofKind (r .takes) v ≡ false → apply₁ o v ≡ lacks WrongKind
+  pub result : (v : Value) {u : Value} → apply₁ o v ≡ has u → kindOf u ≡ r .gives
 
 -- and on two
 pub record Says₂ (o : Two) (r : Row) : Type 0 where
   pub count : r .operands ≡ 2
-  pub wrong : (v w : Value) → both (ofKind (r .takes) v) (ofKind (r .takes) w) ≡ false → apply₂ o v w ≡ nothing
-  pub result : (v w : Value) {u : Value} → apply₂ o v w ≡ is u → kindOf u ≡ r .gives
+  pub wrong : (v w : Value) → both (ofKind (r .takes) v) (ofKind (r .takes) w) ≡ false → apply₂ o v w ≡ lacks WrongKind
+  pub result : (v w : Value) {u : Value} → apply₂ o v w ≡ has u → kindOf u ≡ r .gives
 
 -- what a row says of a mark
 abbrev pub Says : Mark → Row → Type 0
@@ -97,16 +99,16 @@ Says localMark r = (r .operands ≡ 0) × (r .payload ≡ 1)
 Says noExpr r = r .operands ≡ 9
 
 -- a whole number is one
-whole-kind : (z : ℤ) {u : Value} → whole z ≡ is u → kindOf u ≡ 1
-whole-kind z e = ap kindOf (sym (is-inj (when-is (ltb (mag z) 2147483648) (is (Whole z)) e .1)))
+whole-kind : (z : ℤ) {u : Value} → whole z ≡ has u → kindOf u ≡ 1
+whole-kind z e = ap kindOf (sym (provided-has (ltb (mag z) 2147483648) OutOfRange (Whole z) e .1))
 
 -- a truth value is one
-truth-kind : {b : Bool} {u : Value} → is (Truth b) ≡ is u → kindOf u ≡ 3
-truth-kind e = ap kindOf (sym (is-inj e))
+truth-kind : {b : Bool} {u : Value} → has (Truth b) ≡ has u → kindOf u ≡ 3
+truth-kind e = ap kindOf (sym (has-inj e))
 
-module _ (g : ℤ → ℤ → Maybe Value) where
+module _ (g : ℤ → ℤ → Try Value) where
   -- an operator on whole numbers gives nothing of other values
-  wholes-wrong : (v w : Value) → both (ofKind 1 v) (ofKind 1 w) ≡ false → wholes g v w ≡ nothing
+  wholes-wrong : (v w : Value) → both (ofKind 1 v) (ofKind 1 w) ≡ false → wholes g v w ≡ lacks WrongKind
   wholes-wrong (Whole a) (Whole b) e = absurd (never (sym e))
   wholes-wrong (Whole a) (Location l) e = refl
   wholes-wrong (Whole a) (Truth t) e = refl
@@ -114,39 +116,39 @@ module _ (g : ℤ → ℤ → Maybe Value) where
   wholes-wrong (Truth t) w e = refl
 
   -- and its results are of one kind, if those of numbers are
-  wholes-result : (k : ℕ) → ((a b : ℤ) (u : Value) → g a b ≡ is u → kindOf u ≡ k) → (v w : Value) {u : Value} → wholes g v w ≡ is u → kindOf u ≡ k
+  wholes-result : (k : ℕ) → ((a b : ℤ) (u : Value) → g a b ≡ has u → kindOf u ≡ k) → (v w : Value) {u : Value} → wholes g v w ≡ has u → kindOf u ≡ k
   wholes-result k h (Whole a) (Whole b) e = h a b _ e
-  wholes-result k h (Whole a) (Location l) e = missing e
-  wholes-result k h (Whole a) (Truth t) e = missing e
-  wholes-result k h (Location l) w e = missing e
-  wholes-result k h (Truth t) w e = missing e
+  wholes-result k h (Whole a) (Location l) e = lacking e
+  wholes-result k h (Whole a) (Truth t) e = lacking e
+  wholes-result k h (Location l) w e = lacking e
+  wholes-result k h (Truth t) w e = lacking e
 
 -- "equal (two of one kind)"
-pub same-kind : (v w : Value) {u : Value} → same v w ≡ is u → kindOf v ≡ kindOf w
+pub same-kind : (v w : Value) {u : Value} → same v w ≡ has u → kindOf v ≡ kindOf w
 same-kind (Whole a) (Whole b) e = refl
-same-kind (Whole a) (Location l) e = missing e
-same-kind (Whole a) (Truth t) e = missing e
+same-kind (Whole a) (Location l) e = lacking e
+same-kind (Whole a) (Truth t) e = lacking e
 same-kind (Location a) (Location b) e = refl
-same-kind (Location a) (Whole z) e = missing e
-same-kind (Location a) (Truth t) e = missing e
+same-kind (Location a) (Whole z) e = lacking e
+same-kind (Location a) (Truth t) e = lacking e
 same-kind (Truth a) (Truth b) e = refl
-same-kind (Truth a) (Whole z) e = missing e
-same-kind (Truth a) (Location l) e = missing e
+same-kind (Truth a) (Whole z) e = lacking e
+same-kind (Truth a) (Location l) e = lacking e
 
 -- it gives a truth value
-same-result : (v w : Value) {u : Value} → same v w ≡ is u → kindOf u ≡ 3
+same-result : (v w : Value) {u : Value} → same v w ≡ has u → kindOf u ≡ 3
 same-result (Whole a) (Whole b) e = truth-kind e
-same-result (Whole a) (Location l) e = missing e
-same-result (Whole a) (Truth t) e = missing e
+same-result (Whole a) (Location l) e = lacking e
+same-result (Whole a) (Truth t) e = lacking e
 same-result (Location a) (Location b) e = truth-kind e
-same-result (Location a) (Whole z) e = missing e
-same-result (Location a) (Truth t) e = missing e
+same-result (Location a) (Whole z) e = lacking e
+same-result (Location a) (Truth t) e = lacking e
 same-result (Truth a) (Truth b) e = truth-kind e
-same-result (Truth a) (Whole z) e = missing e
-same-result (Truth a) (Location l) e = missing e
+same-result (Truth a) (Whole z) e = lacking e
+same-result (Truth a) (Location l) e = lacking e
 
 -- "and" gives nothing of other values than truth values
-truths-wrong : (v w : Value) → both (ofKind 3 v) (ofKind 3 w) ≡ false → truths v w ≡ nothing
+truths-wrong : (v w : Value) → both (ofKind 3 v) (ofKind 3 w) ≡ false → truths v w ≡ lacks WrongKind
 truths-wrong (Truth a) (Truth b) e = absurd (never (sym e))
 truths-wrong (Truth a) (Whole z) e = refl
 truths-wrong (Truth a) (Location l) e = refl
@@ -154,37 +156,37 @@ truths-wrong (Whole z) w e = refl
 truths-wrong (Location l) w e = refl
 
 -- and of those a truth value
-truths-result : (v w : Value) {u : Value} → truths v w ≡ is u → kindOf u ≡ 3
+truths-result : (v w : Value) {u : Value} → truths v w ≡ has u → kindOf u ≡ 3
 truths-result (Truth a) (Truth b) e = truth-kind e
-truths-result (Truth a) (Whole z) e = missing e
-truths-result (Truth a) (Location l) e = missing e
-truths-result (Whole z) w e = missing e
-truths-result (Location l) w e = missing e
+truths-result (Truth a) (Whole z) e = lacking e
+truths-result (Truth a) (Location l) e = lacking e
+truths-result (Whole z) w e = lacking e
+truths-result (Location l) w e = lacking e
 
 -- the operators on one value
 one-says : (o : One) → Says₁ o (rowOf (oneMark o))
 one-says not = record { count = refl; wrong = wrong; result = result }
   where
-    wrong : (v : Value) → ofKind 3 v ≡ false → apply₁ not v ≡ nothing
+    wrong : (v : Value) → ofKind 3 v ≡ false → apply₁ not v ≡ lacks WrongKind
     wrong (Truth b) e = absurd (never (sym e))
     wrong (Whole z) e = refl
     wrong (Location l) e = refl
 
-    result : (v : Value) {u : Value} → apply₁ not v ≡ is u → kindOf u ≡ 3
+    result : (v : Value) {u : Value} → apply₁ not v ≡ has u → kindOf u ≡ 3
     result (Truth b) e = truth-kind e
-    result (Whole z) e = missing e
-    result (Location l) e = missing e
+    result (Whole z) e = lacking e
+    result (Location l) e = lacking e
 one-says neg = record { count = refl; wrong = wrong; result = result }
   where
-    wrong : (v : Value) → ofKind 1 v ≡ false → apply₁ neg v ≡ nothing
+    wrong : (v : Value) → ofKind 1 v ≡ false → apply₁ neg v ≡ lacks WrongKind
     wrong (Whole z) e = absurd (never (sym e))
     wrong (Location l) e = refl
     wrong (Truth b) e = refl
 
-    result : (v : Value) {u : Value} → apply₁ neg v ≡ is u → kindOf u ≡ 1
+    result : (v : Value) {u : Value} → apply₁ neg v ≡ has u → kindOf u ≡ 1
     result (Whole z) e = whole-kind (negℤ z) e
-    result (Location l) e = missing e
-    result (Truth b) e = missing e
+    result (Location l) e = lacking e
+    result (Truth b) e = lacking e
 
 -- those on two
 two-says : (o : Two) → Says₂ o (rowOf (twoMark o))

@@ -7,13 +7,14 @@ use mathlib.Core.Bool.{Bool, true, false}
 use lib.ListN.{length, getD}
 use lib.Dec.{eqb}
 use borrow.Author.Tests.{eqb-true, eqb-false}
-use Rattle.value.specs.Maybe.{Maybe, is, nothing, _>>=_}
+use Rattle.value.specs.Maybe.{is}
+use Rattle.value.specs.Try.{has, _⟫_}
 use Rattle.value.specs.Lists.{at, all}
 use Rattle.value.specs.declared.Value.{Value}
 use Rattle.value.specs.Laws.Maybes.{is-inj, missing}
 use Rattle.value.specs.Laws.Tests.{never, by-test, both-passed}
 use Rattle.value.specs.Laws.Lists.{In, here}
-use Rattle.format.specs.Syntax.{Instr, assign, write, read, while, if, call, atomic, select, Block, end, step, _⊕_, Proc, Program, Plain, concurrent}
+use Rattle.format.specs.Syntax.{local, Instr, assign, write, read, while, if, call, atomic, select, Block, end, step, _⊕_, Proc, Program, Plain, concurrent}
 use Rattle.format.specs.Labels.{labelled, first, endsOf}
 use Rattle.labels.specs.LabelMap as Map
 use Rattle.format.specs.Rules.{allowedI, namedI, takes, calleesI, calleesOf}
@@ -24,8 +25,8 @@ use Rattle.format.specs.Laws.Names.{takes?}
 use Rattle.labels.specs.Laws.Spots.{Remains, remains-after, remains-loop, remains-then, remains-else}
 use Rattle.decide.specs.declared.step.Step.{Step}
 use Rattle.decide.specs.declared.step.Step.the-variants as S
-use Rattle.semantics.specs.Memory.{Env, eval, evals, lookup, index, Memory, cell}
-use Rattle.value.specs.Values.{place, truth}
+use Rattle.semantics.specs.Memory.{Env, eval, evals, index, Memory, cell}
+use Rattle.value.specs.Values.{number, place, truth}
 use Rattle.decide.specs.Decided.{Act, actOf, argsOf, argsIn, branch, decided, orBlocked}
 use Rattle.atomic.specs.Laws.Fitting.{through}
 use Rattle.decide.specs.Laws.Deciding.{evals-length}
@@ -41,7 +42,7 @@ pub record Called (p : Program Plain) (m : ℕ) (ρ : Env) (i : Instr ℕ) (n : 
   pub found : at (labelled p .procs) n ≡ is proc
   pub calls : In n (calleesOf (labelled p .procs) m)
   pub values : List Value
-  pub args : evals ρ (argsIn i) ≡ is values
+  pub args : evals ρ (argsIn i) ≡ has values
   pub params : length values ≡ proc .params
 
 module _ (p : Program Plain) (m : ℕ) (ρ : Env) (a : ℕ) (i : Instr ℕ) (c : Block ℕ) where
@@ -58,7 +59,7 @@ module _ (p : Program Plain) (m : ℕ) (ρ : Env) (a : ℕ) (i : Instr ℕ) (c :
   Leads (S.Call n j) = Next × Called p m ρ i n
   Leads S.Return = ⊥
   Leads (S.Select n e j) = ⊥
-  Leads S.Blocked = Unit {0}
+  Leads (S.Blocked r) = Unit {0}
 
 module _ (p : Program Plain) (m : ℕ) (ρ : Env) (η : Memory) (a : ℕ) (c : Block ℕ) where
   -- a decided step leads there
@@ -66,35 +67,37 @@ module _ (p : Program Plain) (m : ℕ) (ρ : Env) (η : Memory) (a : ℕ) (c : B
       → ((q : ℕ) → In q (calleesI i) → In q (calleesOf (labelled p .procs) m)) → Leads p m ρ a i c (decided ρ η act j)
   leads (assign x e) act j X f n q =
       let P : Step → Type 0 = Leads p m ρ a (assign x e) c in
-      subst (λ act. P (decided ρ η act j)) (is-inj f) (through P (eval ρ e) _ (λ _. tt) (λ v _. refl))
+      subst (λ act. P (decided ρ η act j)) (is-inj f) (through P (eval ρ e) _ (λ _ _. tt) (λ v _. refl))
   leads (write y o e) act j X f n q =
       let P : Step → Type 0 = Leads p m ρ a (write y o e) c in
       subst (λ act. P (decided ρ η act j)) (is-inj f)
-      (through P (eval ρ e) _ (λ _. tt) λ v _.
-      through P (eval ρ o >>= index) _ (λ _. tt) λ i _.
-      through P (lookup ρ y >>= place) _ (λ _. tt) λ l _.
-      through P (cell η l i) _ (λ _. tt) λ u _. refl)
+      (through P (eval ρ e) _ (λ _ _. tt) λ v _.
+      through P (eval ρ o ⟫ number) _ (λ _ _. tt) λ z _.
+      through P (eval ρ (local y) ⟫ place) _ (λ _ _. tt) λ l _.
+      through P (index z) _ (λ _ _. tt) λ i _.
+      through P (cell η l i) _ (λ _ _. tt) λ u _. refl)
   leads (read x y o) act j X f n q =
       let P : Step → Type 0 = Leads p m ρ a (read x y o) c in
       subst (λ act. P (decided ρ η act j)) (is-inj f)
-      (through P (eval ρ o >>= index) _ (λ _. tt) λ i _.
-      through P (lookup ρ y >>= place) _ (λ _. tt) λ l _.
-      through P (cell η l i) _ (λ _. tt) λ u _. refl)
+      (through P (eval ρ o ⟫ number) _ (λ _ _. tt) λ z _.
+      through P (eval ρ (local y) ⟫ place) _ (λ _ _. tt) λ l _.
+      through P (index z) _ (λ _ _. tt) λ i _.
+      through P (cell η l i) _ (λ _ _. tt) λ u _. refl)
   leads (while e b) act j X f n q =
       let P : Step → Type 0 = Leads p m ρ a (while e b) c in
       subst (λ act. P (decided ρ η act j)) (is-inj f)
-      (through P (eval ρ e >>= truth) _ (λ _. tt) λ v _. elim v [ true ↦ loop-next (endsOf p m) a e b c | false ↦ refl ])
+      (through P (eval ρ e ⟫ truth) _ (λ _ _. tt) λ v _. elim v [ true ↦ loop-next (endsOf p m) a e b c | false ↦ refl ])
   leads (if e b d) act j X f n q =
       let P : Step → Type 0 = Leads p m ρ a (if e b d) c in
       subst (λ act. P (decided ρ η act j)) (is-inj f)
-      (through P (eval ρ e >>= truth) _ (λ _. tt) λ v _.
+      (through P (eval ρ e ⟫ truth) _ (λ _ _. tt) λ v _.
       elim v [ true ↦ then-next (endsOf p m) a e b d c | false ↦ else-other (endsOf p m) a e b d c ])
   leads (call r es) act j X f n q =
       let P : Step → Type 0 = Leads p m ρ a (call r es) c in
       let names = both-passed (takes (labelled p .procs) r (length es)) (all (Rules.ex (labelled p) X) es) n in
       let callee = takes-at (labelled p .procs) r (length es) (takes? (labelled p .procs) r (length es) .so (names .0)) in
       subst (λ act. P (decided ρ η act j)) (is-inj f)
-      (through P (evals ρ es) _ (λ _. tt) λ vs w. (
+      (through P (evals ρ es) _ (λ _ _. tt) λ vs w. (
         refl,
         record {
           proc = callee .0;

@@ -9,12 +9,16 @@ use lib.ListN.{length, getD}
 use lib.IntN.{pos}
 use lib.Dec.{ltb}
 use borrow.Author.Tests.{ltb-true, ltb-false}
-use Rattle.value.specs.Maybe.{Maybe, is, nothing, _>>=_, when}
+use Rattle.value.specs.Maybe.{is}
+use Rattle.value.specs.Try.{Try, has, lacks, _⟫_}
 use Rattle.value.specs.Lists.{all}
 use Rattle.value.specs.Values.{bytes}
 use Rattle.value.specs.declared.Value.{Value}
 use Rattle.value.specs.declared.Value.the-variants.{Whole}
-use Rattle.value.specs.Laws.Maybes.{is-inj, missing, bind-is, bind-same}
+use Rattle.value.specs.declared.Reason.{Reason}
+use Rattle.value.specs.declared.Reason.the-variants.{WrongKind}
+use Rattle.value.specs.Laws.Maybes.{is-inj, missing}
+use Rattle.value.specs.Laws.Tries.{has-inj, lacking, chain-has, chain-same}
 use Rattle.value.specs.Laws.Tests.{by-test, both-passed}
 use Rattle.value.specs.Laws.Lists.{Each, all-passed}
 use Rattle.basics.specs.Laws.Places.{number-at}
@@ -27,8 +31,8 @@ use Rattle.format.specs.Laws.Stands as S
 use Rattle.format.specs.Laws.Stands.{Stands, first, others, front, back}
 use Rattle.decide.specs.declared.step.Step.{Step}
 use Rattle.decide.specs.declared.step.Step.the-variants.{Return, Assign, Read, Write, Test, Call, Select, Blocked}
-use Rattle.semantics.specs.Memory.{Env, lookup, eval, evals, index, Memory, cell, stored, Event}
-use Rattle.value.specs.Values.{place, truth}
+use Rattle.semantics.specs.Memory.{Env, eval, evals, index, Memory, cell, stored, Event}
+use Rattle.value.specs.Values.{number, place, truth}
 use Rattle.semantics.specs.Step.{Frame, Stack, Moved}
 use Rattle.semantics.specs.Step as F
 use Rattle.semantics.specs.Threads.{blocked}
@@ -42,16 +46,16 @@ use Rattle.engine.specs.Laws.Holding.{no-cell}
 
 -- ---- figure 1
 
-module _ {B : Type 0} (k : Step → Maybe B) (e : k Blocked ≡ nothing) where
+module _ {B : Type 0} (k : Step → Try B) (e : (r : Reason) → k (Blocked r) ≡ lacks r) where
   -- a chain that stops is a blocked step
-  through : {A : Type 0} (m : Maybe A) (f : A → Maybe Step) → (m >>= λ x. k (orBlocked (f x))) ≡ k (orBlocked (m >>= f))
-  through nothing f = sym e
-  through (is x) f = refl
+  through : {A : Type 0} (m : Try A) (f : A → Try Step) → (m ⟫ λ x. k (orBlocked (f x))) ≡ k (orBlocked (m ⟫ f))
+  through (lacks r) f = sym (e r)
+  through (has x) f = refl
 
   -- link by link
-  link : {A : Type 0} (m : Maybe A) (g : A → Maybe B) (f : A → Maybe Step) → ((x : A) → g x ≡ k (orBlocked (f x)))
-      → (m >>= g) ≡ k (orBlocked (m >>= f))
-  link m g f h = bind-same m g (λ x. k (orBlocked (f x))) h ∙ through m f
+  link : {A : Type 0} (m : Try A) (g : A → Try B) (f : A → Try Step) → ((x : A) → g x ≡ k (orBlocked (f x)))
+      → (m ⟫ g) ≡ k (orBlocked (m ⟫ f))
+  link m g f h = chain-same m g (λ x. k (orBlocked (f x))) h ∙ through m f
 
 module _ {A : Type 0} (procs : List (Proc A)) (t m : ℕ) (ρ : Env) (a : A) (c : Block A) (s : Stack A) (η : Memory) where
   -- what an instruction does is what the decided step of k leaves
@@ -60,70 +64,74 @@ module _ {A : Type 0} (procs : List (Proc A)) (t m : ℕ) (ρ : Env) (a : A) (c 
 
   -- AN INSTRUCTION DOES WHAT ITS DECIDED STEP MEANS: report RR-2017-03, figure 1.
   pub does : (i : Instr A) (j : ℕ) (k : Act) → actOf i ≡ is k → Does i j k
-  does (assign x e) j k q = subst (Does (assign x e) j) (is-inj q) (link (carried procs t m ρ a (assign x e) c s η) refl (eval ρ e) _ _ (λ v. refl))
+  does (assign x e) j k q = subst (Does (assign x e) j) (is-inj q) (link (carried procs t m ρ a (assign x e) c s η) (λ r. refl) (eval ρ e) _ _ (λ v. refl))
   does (write y o e) j k q =
-      let K : Step → Maybe (Moved A) = carried procs t m ρ a (write y o e) c s η in
+      let K : Step → Try (Moved A) = carried procs t m ρ a (write y o e) c s η in
       subst (Does (write y o e) j) (is-inj q)
-      (link K refl (eval ρ e) _ _ λ v.
-      link K refl (eval ρ o >>= index) _ _ λ i.
-      link K refl (lookup ρ y >>= place) _ _ λ l.
-      link K refl (cell η l i) _ _ λ u. refl)
+      (link K (λ r. refl) (eval ρ e) _ _ λ v.
+      link K (λ r. refl) (eval ρ o ⟫ number) _ _ λ z.
+      link K (λ r. refl) (eval ρ (local y) ⟫ place) _ _ λ l.
+      link K (λ r. refl) (index z) _ _ λ i.
+      link K (λ r. refl) (cell η l i) _ _ λ u. refl)
   does (read x y o) j k q =
-      let K : Step → Maybe (Moved A) = carried procs t m ρ a (read x y o) c s η in
+      let K : Step → Try (Moved A) = carried procs t m ρ a (read x y o) c s η in
       subst (Does (read x y o) j) (is-inj q)
-      (link K refl (eval ρ o >>= index) _ _ λ i.
-      link K refl (lookup ρ y >>= place) _ _ λ l.
-      link K refl (cell η l i) _ _ λ v. refl)
+      (link K (λ r. refl) (eval ρ o ⟫ number) _ _ λ z.
+      link K (λ r. refl) (eval ρ (local y) ⟫ place) _ _ λ l.
+      link K (λ r. refl) (index z) _ _ λ i.
+      link K (λ r. refl) (cell η l i) _ _ λ v. refl)
   does (while e b) j k q =
-      subst (Does (while e b) j) (is-inj q) (link (carried procs t m ρ a (while e b) c s η) refl (eval ρ e >>= truth) _ _ (λ v. refl))
+      subst (Does (while e b) j) (is-inj q) (link (carried procs t m ρ a (while e b) c s η) (λ r. refl) (eval ρ e ⟫ truth) _ _ (λ v. refl))
   does (if e b d) j k q =
-      subst (Does (if e b d) j) (is-inj q) (link (carried procs t m ρ a (if e b d) c s η) refl (eval ρ e >>= truth) _ _ (λ v. refl))
+      subst (Does (if e b d) j) (is-inj q) (link (carried procs t m ρ a (if e b d) c s η) (λ r. refl) (eval ρ e ⟫ truth) _ _ (λ v. refl))
   does (call n es) j k q = subst (Does (call n es) j) (is-inj q) (calling (evals ρ es) refl)
     where
-      calling : (x : Maybe (List Value)) → evals ρ es ≡ x → Does (call n es) j (calls n es)
-      calling nothing w = rw w
-      calling (is vs) w = sym (ap (λ x. carried procs t m ρ a (call n es) c s η (orBlocked (x >>= λ vs. is (Call n j)))) w)
+      calling : (x : Try (List Value)) → evals ρ es ≡ x → Does (call n es) j (calls n es)
+      calling (lacks r) w = rw w
+      calling (has vs) w = sym (ap (λ x. carried procs t m ρ a (call n es) c s η (orBlocked (x ⟫ λ vs. has (Call n j)))) w)
   does (atomic b) j k q = missing q
   does (select x y) j k q = missing q
 
 -- ---- what a decided step says is so
 
 -- of a chain: if it holds where the chain stops, and at its end
-along : {A : Type 0} (P : Step → Type 0) → P Blocked → (m : Maybe A) (f : A → Maybe Step) → ((x : A) → m ≡ is x → P (orBlocked (f x)))
-    → P (orBlocked (m >>= f))
-along P b nothing f h = b
-along P b (is x) f h = h x refl
+along : {A : Type 0} (P : Step → Type 0) → ((r : Reason) → P (Blocked r)) → (m : Try A) (f : A → Try Step) → ((x : A) → m ≡ has x → P (orBlocked (f x)))
+    → P (orBlocked (m ⟫ f))
+along P b (lacks r) f h = b r
+along P b (has x) f h = h x refl
 
 -- a cell that is there has an index below the size
-pub cell-size : (η : Memory) (l i : ℕ) {u : Value} → cell η l i ≡ is u → i < getD (shape η) l 0
+pub cell-size : (η : Memory) (l i : ℕ) {u : Value} → cell η l i ≡ has u → i < getD (shape η) l 0
 cell-size η l i e = by-test (ltb i (getD (shape η) l 0))
     (λ t. ltb-true i (getD (shape η) l 0) t)
-    (λ t. missing (sym (no-cell η l i (ltb-false i (getD (shape η) l 0) t)) ∙ e))
+    (λ t. lacking (sym (no-cell η l i (ltb-false i (getD (shape η) l 0) t)) ∙ e))
 
 pub decided-right : (ρ : Env) (η : Memory) (k : Act) (j : ℕ) → Right ρ η k j (decided ρ η k j)
-decided-right ρ η (assigns x e) j = along (Right ρ η (assigns x e) j) tt (eval ρ e) _ (λ v q. (refl, refl))
+decided-right ρ η (assigns x e) j = along (Right ρ η (assigns x e) j) (λ r. tt) (eval ρ e) _ (λ v q. (refl, refl))
 decided-right ρ η (writes y o e) j =
     let P : Step → Type 0 = Right ρ η (writes y o e) j in
-    along P tt (eval ρ e) _ λ v q.
-    along P tt (eval ρ o >>= index) _ λ i q.
-    along P tt (lookup ρ y >>= place) _ λ l q.
-    along P tt (cell η l i) _ λ u q. (refl, record { number = refl; size = cell-size η l i q })
+    along P (λ r. tt) (eval ρ e) _ λ v q.
+    along P (λ r. tt) (eval ρ o ⟫ number) _ λ z q.
+    along P (λ r. tt) (eval ρ (local y) ⟫ place) _ λ l q.
+    along P (λ r. tt) (index z) _ λ i q.
+    along P (λ r. tt) (cell η l i) _ λ u q. (refl, record { number = refl; size = cell-size η l i q })
 decided-right ρ η (reads x y o) j =
     let P : Step → Type 0 = Right ρ η (reads x y o) j in
-    along P tt (eval ρ o >>= index) _ λ i q.
-    along P tt (lookup ρ y >>= place) _ λ l q.
-    along P tt (cell η l i) _ λ v q. (refl, refl)
-decided-right ρ η (tests e) j = along (Right ρ η (tests e) j) tt (eval ρ e >>= truth) _ (λ v q. refl)
-decided-right ρ η (calls n es) j = along (Right ρ η (calls n es) j) tt (evals ρ es) _ (λ vs q. (refl, refl, (vs, q)))
+    along P (λ r. tt) (eval ρ o ⟫ number) _ λ z q.
+    along P (λ r. tt) (eval ρ (local y) ⟫ place) _ λ l q.
+    along P (λ r. tt) (index z) _ λ i q.
+    along P (λ r. tt) (cell η l i) _ λ v q. (refl, refl)
+decided-right ρ η (tests e) j = along (Right ρ η (tests e) j) (λ r. tt) (eval ρ e ⟫ truth) _ (λ v q. refl)
+decided-right ρ η (calls n es) j = along (Right ρ η (calls n es) j) (λ r. tt) (evals ρ es) _ (λ vs q. (refl, refl, (vs, q)))
 decided-right ρ η returns j = refl
 
 -- as many values as expressions
-pub evals-length : (ρ : Env) (es : List Expr) {vs : List Value} → evals ρ es ≡ is vs → length vs ≡ length es
-evals-length ρ [] e = ap length (sym (is-inj e))
+pub evals-length : (ρ : Env) (es : List Expr) {vs : List Value} → evals ρ es ≡ has vs → length vs ≡ length es
+evals-length ρ [] e = ap length (sym (has-inj e))
 evals-length ρ (e ∷ es) q =
-    let v = bind-is (eval ρ e) _ q in
-    let us = bind-is (evals ρ es) _ (v .2) in
-    ap length (sym (is-inj (us .2))) ∙ ap suc (evals-length ρ es (us .1))
+    let v = chain-has (eval ρ e) _ q in
+    let us = chain-has (evals ρ es) _ (v .2) in
+    ap length (sym (has-inj (us .2))) ∙ ap suc (evals-length ρ es (us .1))
 
 -- the target of an act is one of the frame's locals
 pub target-below : (t : List ℕ) (i n : ℕ) (k : Act) (j : ℕ) {x : ℕ} → ActAt t i n k j → targetOf k ≡ is x → x < n
@@ -233,20 +241,19 @@ return-at t i n s = record { mark = first s; inside = S.inside s }
 abbrev pub selectedBy : ℕ → Memory → Frame (Unit {0}) → Stack (Unit {0}) → List ℕ → List Event → Step → Next
 selectedBy a η f s ts evs (Select k t j) =
     goes (record { stack = f ∷ s; memory = stored η a 0 (Whole (pos t)); todo = ts; last = t; events = evs })
-selectedBy a η f s ts evs Return = ended blocked
-selectedBy a η f s ts evs (Assign x v j) = ended blocked
-selectedBy a η f s ts evs (Read x l i v j) = ended blocked
-selectedBy a η f s ts evs (Write l i c v j) = ended blocked
-selectedBy a η f s ts evs (Test q j) = ended blocked
-selectedBy a η f s ts evs (Call m j) = ended blocked
-selectedBy a η f s ts evs Blocked = ended blocked
+selectedBy a η f s ts evs Return = ended (blocked WrongKind)
+selectedBy a η f s ts evs (Assign x v j) = ended (blocked WrongKind)
+selectedBy a η f s ts evs (Read x l i v j) = ended (blocked WrongKind)
+selectedBy a η f s ts evs (Write l i c v j) = ended (blocked WrongKind)
+selectedBy a η f s ts evs (Test q j) = ended (blocked WrongKind)
+selectedBy a η f s ts evs (Call m j) = ended (blocked WrongKind)
+selectedBy a η f s ts evs (Blocked r) = ended (blocked r)
 
 -- A SELECT DOES WHAT ITS CHOSEN STEP MEANS.
 pub selects : (a b : ℕ) (η : Memory) (f : Frame (Unit {0})) (s : Stack (Unit {0})) (t : ℕ) (ts : List ℕ) (evs : List Event) (j : ℕ)
-    → selected a η f s t ts evs (cell η b t) ≡ selectedBy a η f s ts evs (chosen η a b t j)
-selects a b η f s t ts evs j = by (cell η b t)
+    → selected a η f s t ts evs (cell η b t ⟫ running) ≡ selectedBy a η f s ts evs (chosen η a b t j)
+selects a b η f s t ts evs j = by (cell η b t ⟫ running)
   where
-    by : (m : Maybe Value) → selected a η f s t ts evs m
-        ≡ selectedBy a η f s ts evs (orBlocked (m >>= λ v. when (running v) (is (Select (numberOf η a 0) t j))))
-    by nothing = refl
-    by (is v) = by-test (running v) (λ e. rw (e, selected)) (λ e. rw (e, selected))
+    by : (m : Try Value) → selected a η f s t ts evs m ≡ selectedBy a η f s ts evs (orBlocked (m ⟫ λ _. has (Select (numberOf η a 0) t j)))
+    by (lacks r) = refl
+    by (has v) = refl

@@ -9,14 +9,16 @@ use lib.IntN.{pos}
 use lib.Dec.{eqb}
 use borrow.Author.Tests.{eqb-true, eqb-false}
 use Rattle.value.specs.Maybe.{is, nothing}
+use Rattle.value.specs.Try.{has, lacks, orLacks}
 use Rattle.value.specs.Lists.{at, sum}
 use Rattle.value.specs.declared.Value.{Value}
 use Rattle.value.specs.declared.Value.the-variants.{Whole}
+use Rattle.value.specs.declared.Reason.the-variants.{WrongKind, IndexOutside}
 use Rattle.value.specs.Laws.Tests.{by-test}
 use Rattle.value.specs.Laws.Lists.{at-set-same, at-set-other, at-replicate, at-after, at-getD}
 use Rattle.format.specs.Encode.{each}
 use Rattle.semantics.specs.Memory.{Memory, cell, stored, fresh}
-use Rattle.engine.specs.Words.{held}
+use Rattle.engine.specs.Words.{held, valueIn}
 use Rattle.engine.specs.Work.{Puts, flat, Holds, IsCell}
 use Rattle.semantics.specs.Laws.Cells.{shape}
 
@@ -40,17 +42,17 @@ at-past (x ∷ xs) zero h = absurd (omega arith)
 at-past (x ∷ xs) (suc i) h = at-past xs i (omega arith)
 
 -- a cell is the one of its number
-pub flat-cell : (η : Memory) (l i : ℕ) → i < getD (shape η) l 0 → cell η l i ≡ at (flat η) (sum (take l (shape η)) + i)
+pub flat-cell : (η : Memory) (l i : ℕ) → i < getD (shape η) l 0 → cell η l i ≡ orLacks IndexOutside (at (flat η) (sum (take l (shape η)) + i))
 flat-cell [] l i h = absurd (omega arith)
-flat-cell (row ∷ η) zero i h = let none : 0 + i ≡ i = omega arith in rw none (sym (at-front row (flat η) i h))
+flat-cell (row ∷ η) zero i h = let none : 0 + i ≡ i = omega arith in rw none (ap (orLacks IndexOutside) (sym (at-front row (flat η) i h)))
 flat-cell (row ∷ η) (suc l) i h =
     let place : length row + sum (take l (shape η)) + i ≡ length row + (sum (take l (shape η)) + i) = omega arith in
     rw (place, at-after row (flat η)) (flat-cell η l i h)
 
 -- no cell has an index that is not below the size
-pub no-cell : (η : Memory) (l i : ℕ) → getD (shape η) l 0 ≤ i → cell η l i ≡ nothing
+pub no-cell : (η : Memory) (l i : ℕ) → getD (shape η) l 0 ≤ i → cell η l i ≡ lacks IndexOutside
 no-cell [] l i h = refl
-no-cell (row ∷ η) zero i h = at-past row i h
+no-cell (row ∷ η) zero i h = ap (orLacks IndexOutside) (at-past row i h)
 no-cell (row ∷ η) (suc l) i h = no-cell η l i h
 
 -- its number is below the number of all
@@ -60,10 +62,10 @@ flat-below (row ∷ η) zero i h = omega (arith, length-append row (flat η))
 flat-below (row ∷ η) (suc l) i h = omega (arith, length-append row (flat η), flat-below η l i h)
 
 -- a cell has something in it
-pub cell-full : (η : Memory) {l i k : ℕ} → IsCell η l i k → (u : Value) × (cell η l i ≡ is u)
+pub cell-full : (η : Memory) {l i k : ℕ} → IsCell η l i k → (u : Value) × (cell η l i ≡ has u)
 cell-full η {l} {i} c =
     let n : ℕ = sum (take l (shape η)) + i in
-    (getD (flat η) n (Whole (pos 0)), flat-cell η l i (c .size) ∙ at-getD (flat η) n (Whole (pos 0)) (flat-below η l i (c .size)))
+    (getD (flat η) n (Whole (pos 0)), flat-cell η l i (c .size) ∙ ap (orLacks IndexOutside) (at-getD (flat η) n (Whole (pos 0)) (flat-below η l i (c .size))))
 
 -- a store past the first of two rows
 set-after : {A : Type 0} (xs ys : List A) (k : ℕ) (a : A) → set (xs ++ ys) (length xs + k) a ≡ xs ++ set ys k a
@@ -96,8 +98,13 @@ module _ {η : Memory} {cs : List ℕ} (h : Holds η cs) where
   cell-word {l} {i} c = omega (arith, c .number, flat-below η l i (c .size), h .few)
 
   -- and the word holds what the cell does
-  pub cell-held : {l i k : ℕ} → IsCell η l i k → held (getD cs k 0) ≡ cell η l i
-  cell-held {l} {i} c = rw (c .number) (h .each (sum (take l (shape η)) + i) (flat-below η l i (c .size)) ∙ sym (flat-cell η l i (c .size)))
+  pub cell-held : {l i k : ℕ} → IsCell η l i k → valueIn (getD cs k 0) ≡ cell η l i
+  cell-held {l} {i} c =
+      let n : ℕ = sum (take l (shape η)) + i in
+      let below = flat-below η l i (c .size) in
+      let there = at-getD (flat η) n (Whole (pos 0)) below in
+      rw (c .number)
+      (ap (orLacks WrongKind) (h .each n below ∙ there) ∙ sym (flat-cell η l i (c .size) ∙ ap (orLacks IndexOutside) there))
 
   -- a store
   pub holds-put : {l i k : ℕ} {v : Value} {cs′ : List ℕ} → IsCell η l i k → Puts cs cs′ k v → Holds (stored η l i v) cs′

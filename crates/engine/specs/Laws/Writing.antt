@@ -8,21 +8,26 @@ use lib.Seq.{sets, sets-eq, take-append-seam, drop-append-add, drop-drop, take-s
 use lib.IntN.{pos}
 use borrow.Author.Tests.{le-leb}
 use Rattle.value.specs.Maybe.{is}
+use Rattle.value.specs.Try.{has, orLacks}
 use Rattle.value.specs.Lists.{over}
 use Rattle.value.specs.Values.{given, cellBytes, cellSize}
 use Rattle.basics.specs.Places.{withValue}
 use Rattle.value.specs.declared.Value.{Value}
 use Rattle.value.specs.declared.Value.the-variants.{Whole}
 use Rattle.value.specs.declared.Answer.{Answer}
-use Rattle.value.specs.declared.Answer.the-variants.{Is, Nothing}
-use Rattle.value.specs.Laws.Maybes.{is-inj, missing}
+use Rattle.value.specs.declared.Answer.the-variants as A
+use Rattle.value.specs.declared.Reason.the-variants.{WrongKind}
+use types.Run.{OneOf, miss}
+use denote.Enum.Declared.{tagOf}
+use Rattle.value.proofs.Answer.{the-type}
+use Rattle.value.specs.Laws.Tries.{has-inj, lacking}
 use Rattle.value.specs.Laws.Lists.{at-getD, length-over}
 use Rattle.value.specs.Laws.Bytes.{length-cell}
 use Rattle.format.specs.Encode.{each}
 use Rattle.format.specs.Laws.Sections.{length-each}
 use Rattle.semantics.specs.Memory.{Memory}
 use Rattle.semantics.specs.Buffers.{cells}
-use Rattle.engine.specs.Words.{held}
+use Rattle.engine.specs.Words.{held, valueIn}
 use Rattle.engine.specs.Work.{flat, Holds, WritesOne, Writes}
 
 -- ---- one thing after others
@@ -48,18 +53,23 @@ pub cells-flat : (η : Memory) → cells η ≡ each cellBytes (flat η)
 cells-flat [] = refl
 cells-flat (row ∷ η) = rw (each-append cellBytes row (flat η), cells-flat η)
 
-module _ {w : ℕ} {o : List ℕ} {i : ℕ} {a : Answer} where
+module _ {w : ℕ} {o : List ℕ} {i : ℕ} (a : Answer) where
   -- the value of a word
-  pub wrote-one : {v : Value} {o′ : List ℕ} → a ≡ Is v → given a ≡ held w → o′ ≡ withValue o i v → WritesOne w o i o′
+  pub wrote-one : {v : Value} {o′ : List ℕ} → a ≡ A.Is v → given a ≡ valueIn w → o′ ≡ withValue o i v → WritesOne w o i o′
   wrote-one {v} e g q = record {
     written = λ u h.
-        let same : v ≡ u = is-inj (sym (ap given e) ∙ g ∙ h) in
+        let same : v ≡ u = has-inj (sym (ap given e) ∙ g ∙ ap (orLacks WrongKind) h) in
         q ∙ ap (withValue o i) same;
   }
 
   -- there is none
-  pub wrote-none : a ≡ Nothing → given a ≡ held w → WritesOne w o i o
-  wrote-none e g = record { written = λ u h. missing (sym (ap given e) ∙ g ∙ h) }
+  pub wrote-none : OneOf (1 ∷ 2 ∷ []) (tagOf the-type a) → given a ≡ valueIn w → WritesOne w o i o
+  wrote-none n g = record { written = λ u h. go a n (g ∙ ap (orLacks WrongKind) h) }
+    where
+      go : {G : Type 0} (a : Answer) {u : Value} → OneOf (1 ∷ 2 ∷ []) (tagOf the-type a) → given a ≡ has u → G
+      go (A.Is v) n e = absurd (miss (1 ∷ 2 ∷ []) 0 tt n)
+      go A.OutOfRange n e = lacking e
+      go A.WrongKind n e = lacking e
 
 -- the first i of n cells are written
 pub record Writing (cs : List ℕ) (n : ℕ) (o o′ : List ℕ) (i : ℕ) : Type 0 where

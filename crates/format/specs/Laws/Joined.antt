@@ -17,7 +17,7 @@ first-append k end c = refl
 first-append k (step l i b) c = refl
 
 -- names of one block after another
-pub named-append : (p : Program ℕ) (X : ℕ) (b c : Block ℕ) → named p X b ≡ true → named p X c ≡ true → named p X (b ⊕ c) ≡ true
+pub named-append : {A : Type 0} (p : Program A) (X : ℕ) (b c : Block A) → named p X b ≡ true → named p X c ≡ true → named p X (b ⊕ c) ≡ true
 named-append p X end c g h = h
 named-append p X (step l i b) c g h =
     let q : (namedI p X i ≡ true) × (named p X b ≡ true) = both-passed (namedI p X i) (named p X b) g in

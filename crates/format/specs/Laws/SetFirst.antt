@@ -107,7 +107,7 @@ mutual
   passes (step a i b) s h = rw (passesI i s (h .0)) (passes b (setByI s i) (h .1))
 
 -- of a body
-reads-set? : {A : Type 0} (b : Block A) (s : Known) → Decides (there (after s b)) (ReadsSet s b)
+pub reads-set? : {A : Type 0} (b : Block A) (s : Known) → Decides (there (after s b)) (ReadsSet s b)
 reads-set? b s = record { so = λ e. inside (after s b) e (gives b s); of = λ h. rw (passes b s h) }
   where
     inside : (m : Maybe Known) → there m ≡ true → If (Leaves (setBy s b) (ReadsSet s b)) m → ReadsSet s b

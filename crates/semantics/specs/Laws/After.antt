@@ -6,7 +6,9 @@ use mathlib.Core.List.{List, [], _∷_, _++_}
 use mathlib.Core.Bool.{false}
 use lib.ListN.{take}
 use Rattle.value.specs.Maybe.{Maybe, is, nothing, _>>=_}
+use Rattle.value.specs.Try.{Try, has, lacks}
 use Rattle.value.specs.Lists.{at}
+use Rattle.value.specs.Laws.Tries.{forget}
 use Rattle.value.specs.Laws.Tests.{by-test}
 use Rattle.format.specs.Syntax.{Program, Plain}
 use Rattle.format.specs.Labels.{labelled}
@@ -23,7 +25,7 @@ pub record Point : Type 0 where
 -- thread t takes a step there
 abbrev pub onward : Program ℕ → Maybe ℕ → Point → Maybe Point
 onward q nothing σ = nothing
-onward q (is t) σ = threadStep q t (σ .state) >>= λ r. is (record { state = r .state; events = σ .events ++ r .events })
+onward q (is t) σ = forget (threadStep q t (σ .state)) >>= λ r. is (record { state = r .state; events = σ .events ++ r .events })
 
 -- the program after k steps under a schedule: after none it is at its start; after one more, the thread that the schedule's k-th entry names (they
 -- count from 0) has taken a step
@@ -83,9 +85,9 @@ module _ (q : Program ℕ) where
       by-test (done (st .threads)) (λ e. rw (finished-run q (t ∷ ts) st k evs e) (omega arith)) (λ e. on (steps-from ts) e (threadStep q t st) refl)
     where
       on : ((st : State) (k : ℕ) (evs : List Event) → k ≤ run q ts st k evs .steps) → done (st .threads) ≡ false
-          → (m : Maybe Step) → threadStep q t st ≡ m → k ≤ run q (t ∷ ts) st k evs .steps
-      on ih e nothing f = rw (blocked-run q t ts st k evs e f) (omega arith)
-      on ih e (is r) f = rw (step-run q t ts st k evs r e f) (omega (arith, ih (r .state) (suc k) (evs ++ r .events)))
+          → (m : Try Step) → threadStep q t st ≡ m → k ≤ run q (t ∷ ts) st k evs .steps
+      on ih e (lacks r) f = rw (blocked-run q t ts st k evs e f) (omega arith)
+      on ih e (has r) f = rw (step-run q t ts st k evs r e f) (omega (arith, ih (r .state) (suc k) (evs ++ r .events)))
 
   -- j steps on from a state, after k
   record Goes (ts : List ℕ) (j k : ℕ) (σ : Point) (r : Ran) : Type 0 where
@@ -106,10 +108,10 @@ module _ (q : Program ℕ) where
     where
       on : ((st : State) (k : ℕ) (evs : List Event) → k + j ≤ run q ts st k evs .steps
           → Goes ts j k (record { state = st; events = evs }) (run q (take j ts) st k evs))
-          → done (st .threads) ≡ false → (m : Maybe Step) → threadStep q t st ≡ m
+          → done (st .threads) ≡ false → (m : Try Step) → threadStep q t st ≡ m
           → Goes (t ∷ ts) (suc j) k (record { state = st; events = evs }) (run q (t ∷ take j ts) st k evs)
-      on ih e nothing f = absurd (omega (arith, ap (λ (r : Ran). r .steps) (blocked-run q t ts st k evs e f)))
-      on ih e (is r) f =
+      on ih e (lacks r) f = absurd (omega (arith, ap (λ (r : Ran). r .steps) (blocked-run q t ts st k evs e f)))
+      on ih e (has r) f =
           let more = ap (λ (r : Ran). r .steps) (step-run q t ts st k evs r e f) in
           let rest = ih (r .state) (suc k) (evs ++ r .events) (omega arith) in
           rw (step-run q t (take j ts) st k evs r e f) (record { steps = omega (arith, rest .steps); there = rw f (rest .there) })
@@ -131,13 +133,13 @@ module _ (q : Program ℕ) where
     where
       on : ((j : ℕ) (st : State) (k : ℕ) (evs : List Event) → run q ts st k evs .steps ≡ k + j
           → walk ts j (record { state = st; events = evs }) ≡ is (point (run q ts st k evs)))
-          → done (st .threads) ≡ false → (m : Maybe Step) → threadStep q t st ≡ m
+          → done (st .threads) ≡ false → (m : Try Step) → threadStep q t st ≡ m
           → walk (t ∷ ts) j (record { state = st; events = evs }) ≡ is (point (run q (t ∷ ts) st k evs))
-      on ih e nothing f =
+      on ih e (lacks r) f =
           let all = blocked-run q t ts st k evs e f in
           let zeroth : j ≡ 0 = omega (arith, ap (λ (r : Ran). r .steps) all) in
           rw (all, zeroth)
-      on ih e (is r) f =
+      on ih e (has r) f =
           let more = ap (λ (r : Ran). r .steps) (step-run q t ts st k evs r e f) in
           let onwards = steps-from ts (r .state) (suc k) (evs ++ r .events) in
           let same : j ≡ suc (j - 1) = omega arith in

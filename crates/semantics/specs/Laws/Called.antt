@@ -3,17 +3,19 @@ use Prim.Native.Nat.{ℕ, zero, suc, _+_, _*_, _/_, _≤_, _<_}
 use native.Mathlib.Nat.{zero-mul, suc-mul, add-comm}
 use native.Mathlib.Omega.{arith}
 use mathlib.Core.Path.{_≡_, refl, sym, ap, _∙_}
-use mathlib.Core.Logic.{_↔_}
+use mathlib.Core.Logic.{_↔_, _≢_}
 use mathlib.Core.List.{List, [], _∷_, _++_}
-use mathlib.Core.Bool.{true, false}
 use lib.ListN.{length, take, drop, length-append, length-take}
 use lib.Seq.{drop-drop, take-at, drop-at}
 use borrow.Author.Tests.{leb-true, leb-false, le-leb, lt-leb}
 use Rattle.value.specs.Maybe.{is}
+use Rattle.value.specs.Try.{reasonNumber}
 use Rattle.value.specs.Lists.{at, sum}
 use Rattle.value.specs.Values.{cellBytes, cellSize}
 use Rattle.value.specs.Laws.Maybes.{is-inj, missing}
 use Rattle.value.specs.Laws.Tests.{Decides, never, by-test, _and_, le?, lt?}
+use Rattle.value.specs.Laws.Reasons.{reason-number, reason-positive}
+use Rattle.value.specs.declared.Reason.{Reason}
 use Rattle.value.specs.Laws.Lists.{Each, all?, at-take, length-over}
 use Rattle.value.specs.Laws.Bytes.{Bytes, length-cell}
 use Rattle.format.specs.Syntax.{Program, Plain, Kind, concurrent, sequential}
@@ -27,7 +29,7 @@ use Rattle.semantics.specs.Threads.{End}
 use Rattle.semantics.specs.Threads as P
 use Rattle.semantics.specs.Copy as C
 use Rattle.semantics.specs.Buffers.{cells, eventSize, eventBytes, log}
-use Rattle.semantics.specs.Calls.{Outcome, result, maxEntries, scheduled, roomy, runAs}
+use Rattle.semantics.specs.Calls.{ran, Outcome, result, maxEntries, scheduled, roomy, runAs}
 use Rattle.semantics.specs.Calls.{concurrentRun, concurrentOutcome, concurrentCall, sequentialRun, sequentialOutcome, sequentialCall}
 use Rattle.semantics.specs.Laws.Cells.{shape, shape-fresh}
 use Rattle.semantics.specs.Laws.Shapes.{run-shape, copy-shape}
@@ -119,19 +121,20 @@ pub record Refused (o : Outcome) (cs es : List ℕ) : Type 0 where
   pub steps : o .answer .steps ≡ 0
   pub unused : o .answer .unused ≡ 0
   pub count : o .answer .events ≡ 0
+  pub reason : o .answer .reason ≡ 0
   pub cells : o .cells ≡ cs
   pub events : o .events ≡ es
 
 -- a call that answers another number than 0, where a run answers 0
 as-refused : (k : Kind) (v : Verdict) (go : Program Plain → Outcome) (ts cs es : List ℕ) → ((p : Program Plain) → go p .answer .number ≡ 0)
     → (runAs k v go ts cs es .answer .number ≡ 0 → ⊥) → Refused (runAs k v go ts cs es) cs es
-as-refused k (refused n) go ts cs es clean h = record { end = refl; steps = refl; unused = refl; count = refl; cells = refl; events = refl }
+as-refused k (refused n) go ts cs es clean h = record { end = refl; steps = refl; unused = refl; count = refl; reason = refl; cells = refl; events = refl }
 as-refused k (accepted p) go ts cs es clean h =
     by-test (scheduled k p ts)
     (λ a. by-test (roomy p cs)
     (λ b. absurd (h (rw (a, b, runAs) (clean p))))
-    (λ b. rw (a, b, runAs) (record { end = refl; steps = refl; unused = refl; count = refl; cells = refl; events = refl })))
-    (λ a. rw (a, runAs) (record { end = refl; steps = refl; unused = refl; count = refl; cells = refl; events = refl }))
+    (λ b. rw (a, b, runAs) (record { end = refl; steps = refl; unused = refl; count = refl; reason = refl; cells = refl; events = refl })))
+    (λ a. rw (a, runAs) (record { end = refl; steps = refl; unused = refl; count = refl; reason = refl; cells = refl; events = refl }))
 
 -- THE CONCURRENT RUN REFUSES WITH ZEROS, AND WRITES NOTHING.
 pub concurrent-refuses : (t ts cs es : List ℕ) → (concurrentCall t ts cs es .answer .number ≡ 0 → ⊥) → Refused (concurrentCall t ts cs es) cs es
@@ -193,3 +196,22 @@ concurrent-answers t ts cs es h n = as-exactly concurrent t ts cs es (concurrent
 pub sequential-answers : (b m : ℕ) (t ts cs es : List ℕ) → Bytes t → (n : ℕ)
     → (sequentialCall b m t ts cs es .answer .number ≡ n) ↔ Answers sequential t ts cs n
 sequential-answers b m t ts cs es h n = as-exactly sequential t ts cs es (sequentialOutcome b m ts cs es) (λ p. refl) h n
+
+-- ---- the reason that is answered
+
+-- A RUN ANSWERS THE NUMBER OF A REASON EXACTLY IF IT BLOCKED FOR IT.
+pub reason-exactly : (how : End) (k u n : ℕ) (r : Reason) → (ran how k u n .reason ≡ reasonNumber r) ↔ (how ≡ P.blocked r)
+reason-exactly how k u n r = (on how, λ e. rw e refl)
+  where
+    on : (how : End) → ran how k u n .reason ≡ reasonNumber r → how ≡ P.blocked r
+    on P.finished e = absurd (omega (arith, reason-positive r))
+    on P.used e = absurd (omega (arith, reason-positive r))
+    on P.spent e = absurd (omega (arith, reason-positive r))
+    on (P.blocked q) e = rw (reason-number q r e) refl
+
+-- "0 when not blocked": AND 0 EXACTLY IF IT DID NOT BLOCK.
+pub no-reason : (how : End) (k u n : ℕ) → (ran how k u n .reason ≡ 0) ↔ (ran how k u n .end ≢ 2)
+no-reason P.finished k u n = (λ e q. omega arith, λ q. refl)
+no-reason P.used k u n = (λ e q. omega arith, λ q. refl)
+no-reason P.spent k u n = (λ e q. omega arith, λ q. refl)
+no-reason (P.blocked r) k u n = (λ e q. omega (arith, reason-positive r), λ q. absurd (q refl))

@@ -6,9 +6,12 @@ use mathlib.Core.Logic.{_↔_}
 use mathlib.Core.List.{List, [], _∷_, _++_, append-assoc, append-nil}
 use mathlib.Core.Bool.{true}
 use lib.ListN.{set}
-use Rattle.value.specs.Maybe.{is, nothing}
+use Rattle.value.specs.Maybe.{is}
+use Rattle.value.specs.Try.{has, lacks, orLacks}
+use Rattle.value.specs.declared.Reason.the-variants.{FinishedThread}
 use Rattle.value.specs.Lists.{at}
-use Rattle.value.specs.Laws.Maybes.{is-inj, missing, bind-is}
+use Rattle.value.specs.Laws.Maybes.{is-inj, missing}
+use Rattle.value.specs.Laws.Tries.{has-inj, lacking, chain-has, orLacks-has}
 use Rattle.value.specs.Laws.Tests.{Decides, never, both-passed}
 use Rattle.value.specs.Laws.Lists.{Each}
 use Rattle.format.specs.Syntax.{Instr, assign, write, read, while, if, call, atomic, select, Block, end, step, _⊕_, Proc, Program, concurrent}
@@ -62,16 +65,16 @@ size-join end c = omega arith
 size-join (step l i b) c = omega (arith, size-join b c)
 
 -- a step inside an atomic block leaves one frame, with less to do
-record Left (m n : ℕ) (r : Moved ℕ) : Type 0 where
-  env : Env
-  code : Block ℕ
-  same : r .stack ≡ context m env code ∷ []
-  less : size code < n
-  right : allowed (inside m) code ≡ true
+pub record Left (m n : ℕ) (r : Moved ℕ) : Type 0 where
+  pub env : Env
+  pub code : Block ℕ
+  pub same : r .stack ≡ context m env code ∷ []
+  pub less : size code < n
+  pub right : allowed (inside m) code ≡ true
 
 module _ (procs : List (Proc ℕ)) (t : ℕ) where
   -- it does
-  left : {m : ℕ} {ρ : Env} {a : ℕ} {c : Block ℕ} {η : Memory} {i : Instr ℕ} {r : Moved ℕ} → Rule procs t m ρ a c [] η i r
+  pub left : {m : ℕ} {ρ : Env} {a : ℕ} {c : Block ℕ} {η : Memory} {i : Instr ℕ} {r : Moved ℕ} → Rule procs t m ρ a c [] η i r
       → allowedI (inside m) i ≡ true → allowed (inside m) c ≡ true → Left m (sizeI i + size c) r
   left (assigns e) h k = record { env = _; code = _; same = refl; less = omega arith; right = k }
   left (writes v o y n l) h k = record { env = _; code = _; same = refl; less = omega arith; right = k }
@@ -94,12 +97,12 @@ module _ (procs : List (Proc ℕ)) (t : ℕ) where
 
   -- a block in one go takes steps of figure 1
   to-end : (n m : ℕ) (ρ : Env) (b : Block ℕ) (η : Memory) (evs : List Event) (r : Atomic) → allowed (inside m) b ≡ true
-      → toEnd procs t n (context m ρ b ∷ []) η evs ≡ is r → Ended m ρ b η evs r
-  to-end zero m ρ end η evs r k h = rw (← is-inj h) (record { new = []; runs = stays; events = sym (append-nil evs) })
-  to-end zero m ρ (step a i c) η evs r k h = missing h
-  to-end (suc n) m ρ end η evs r k h = rw (← is-inj h) (record { new = []; runs = stays; events = sym (append-nil evs) })
+      → toEnd procs t n (context m ρ b ∷ []) η evs ≡ has r → Ended m ρ b η evs r
+  to-end zero m ρ end η evs r k h = rw (← has-inj h) (record { new = []; runs = stays; events = sym (append-nil evs) })
+  to-end zero m ρ (step a i c) η evs r k h = lacking h
+  to-end (suc n) m ρ end η evs r k h = rw (← has-inj h) (record { new = []; runs = stays; events = sym (append-nil evs) })
   to-end (suc n) m ρ (step a i c) η evs r k h =
-      let q = bind-is (instr procs t m ρ a i c [] η) _ h in
+      let q = chain-has (instr procs t m ρ a i c [] η) _ h in
       let ok = both-passed (allowedI (inside m) i) (allowed (inside m) c) k in
       let rule : Rule procs t m ρ a c [] η i (q .0) = rules-exactly procs t m ρ a c [] η i (q .0) .0 (q .1) in
       let l : Left m (sizeI i + size c) (q .0) = left rule (ok .0) (ok .1) in
@@ -112,21 +115,21 @@ module _ (procs : List (Proc ℕ)) (t : ℕ) where
       }
 
   -- no step begins without a frame
-  from-none : {s s′ : Stack ℕ} {η η′ : Memory} {evs : List Event} → Runs procs t s η s′ η′ evs → s ≡ [] → s′ ≡ []
+  pub from-none : {s s′ : Stack ℕ} {η η′ : Memory} {evs : List Event} → Runs procs t s η s′ η′ evs → s ≡ [] → s′ ≡ []
   from-none stays e = e
   from-none (goes (by-rule h) rest) e = let z : _≡_ {A = ℕ} 0 1 = cc in absurd (omega arith)
   from-none (goes returns rest) e = let z : _≡_ {A = ℕ} 0 1 = cc in absurd (omega arith)
 
   -- at its end
   at-end : (n m : ℕ) (ρ : Env) (η : Memory) (evs : List Event)
-      → toEnd procs t n (context m ρ end ∷ []) η evs ≡ is (record { env = ρ; memory = η; events = evs })
+      → toEnd procs t n (context m ρ end ∷ []) η evs ≡ has (record { env = ρ; memory = η; events = evs })
   at-end zero m ρ η evs = refl
   at-end (suc n) m ρ η evs = refl
 
   -- steps of figure 1 to the end of a block are the block in one go
   in-one : {s s′ : Stack ℕ} {η η′ : Memory} {new : List Event} → Runs procs t s η s′ η′ new
       → (n m : ℕ) (ρ ρ′ : Env) (b : Block ℕ) (evs : List Event) → s ≡ context m ρ b ∷ [] → s′ ≡ context m ρ′ end ∷ [] → size b ≤ n
-      → allowed (inside m) b ≡ true → toEnd procs t n (context m ρ b ∷ []) η evs ≡ is (record { env = ρ′; memory = η′; events = evs ++ new })
+      → allowed (inside m) b ≡ true → toEnd procs t n (context m ρ b ∷ []) η evs ≡ has (record { env = ρ′; memory = η′; events = evs ++ new })
   in-one (stays {η = η}) n m ρ ρ′ b evs e e′ h k =
       let same : context m ρ b ≡ context m ρ′ end = cc in
       let locals : ρ ≡ ρ′ = ap (λ (f : Frame ℕ). f .env) same in
@@ -138,12 +141,12 @@ module _ (procs : List (Proc ℕ)) (t : ℕ) where
       Later : Type 0
       Later = (n m : ℕ) (ρ ρ′ : Env) (b : Block ℕ) (evs : List Event) → r .stack ≡ context m ρ b ∷ [] → s′ ≡ context m ρ′ end ∷ [] → size b ≤ n
           → allowed (inside m) b ≡ true
-          → toEnd procs t n (context m ρ b ∷ []) (r .memory) evs ≡ is (record { env = ρ′; memory = η′; events = evs ++ new })
+          → toEnd procs t n (context m ρ b ∷ []) (r .memory) evs ≡ has (record { env = ρ′; memory = η′; events = evs ++ new })
 
-      by : (b : Block ℕ) → Later → frame procs t b m ρ [] η ≡ is r → size b ≤ n → allowed (inside m) b ≡ true
-          → toEnd procs t n (context m ρ b ∷ []) η evs ≡ is (record { env = ρ′; memory = η′; events = evs ++ (r .events ++ new) })
+      by : (b : Block ℕ) → Later → frame procs t b m ρ [] η ≡ has r → size b ≤ n → allowed (inside m) b ≡ true
+          → toEnd procs t n (context m ρ b ∷ []) η evs ≡ has (record { env = ρ′; memory = η′; events = evs ++ (r .events ++ new) })
       by end ih g h k =
-          let none : r .stack ≡ [] = ap (λ (r : Moved ℕ). r .stack) (sym (is-inj g)) in
+          let none : r .stack ≡ [] = ap (λ (r : Moved ℕ). r .stack) (sym (has-inj g)) in
           let no : s′ ≡ [] = from-none rest none in
           let z : _≡_ {A = ℕ} 0 1 = cc in
           absurd (omega arith)
@@ -153,51 +156,51 @@ module _ (procs : List (Proc ℕ)) (t : ℕ) where
           on n (l .env) (l .code) (l .same) (omega (arith, l .less)) (l .right)
         where
           on : (n : ℕ) (ρ₁ : Env) (c₁ : Block ℕ) → r .stack ≡ context m ρ₁ c₁ ∷ [] → size c₁ < n → allowed (inside m) c₁ ≡ true
-              → toEnd procs t n (context m ρ (step a i c) ∷ []) η evs ≡ is (record { env = ρ′; memory = η′; events = evs ++ (r .events ++ new) })
+              → toEnd procs t n (context m ρ (step a i c) ∷ []) η evs ≡ has (record { env = ρ′; memory = η′; events = evs ++ (r .events ++ new) })
           on zero ρ₁ c₁ same less right = absurd (omega arith)
           on (suc n) ρ₁ c₁ same less right =
               rw (g, same, ← append-assoc evs (r .events) new) (ih n m ρ₁ ρ′ c₁ (evs ++ r .events) same e′ (omega arith) right)
 
   -- "A finished thread .. blocks"
-  pub finished-blocks : (η : Memory) → thread procs t [] η ≡ nothing
+  pub finished-blocks : (η : Memory) → thread procs t [] η ≡ lacks FinishedThread
   finished-blocks η = refl
 
   -- ---- a thread's first instruction
 
   -- other than an atomic block, it is figure 1's
   first-of : {m : ℕ} {ρ : Env} {a : ℕ} {c : Block ℕ} {s : Stack ℕ} {η : Memory} (i : Instr ℕ) {r : Moved ℕ} → Rule procs t m ρ a c s η i r
-      → first-instr procs t m ρ a i c s η ≡ is r
+      → first-instr procs t m ρ a i c s η ≡ has r
   first-of (assign x e) h = rules-exactly procs t _ _ _ _ _ _ _ _ .1 h
   first-of (write y o e) h = rules-exactly procs t _ _ _ _ _ _ _ _ .1 h
   first-of (read x y o) h = rules-exactly procs t _ _ _ _ _ _ _ _ .1 h
   first-of (while e b) h = rules-exactly procs t _ _ _ _ _ _ _ _ .1 h
   first-of (if e b d) h = rules-exactly procs t _ _ _ _ _ _ _ _ .1 h
   first-of (call n es) h = rules-exactly procs t _ _ _ _ _ _ _ _ .1 h
-  first-of (atomic b) h = missing (rules-exactly procs t _ _ _ _ _ _ _ _ .1 h)
-  first-of (select x y) h = missing (rules-exactly procs t _ _ _ _ _ _ _ _ .1 h)
+  first-of (atomic b) h = lacking (rules-exactly procs t _ _ _ _ _ _ _ _ .1 h)
+  first-of (select x y) h = lacking (rules-exactly procs t _ _ _ _ _ _ _ _ .1 h)
 
   -- a step of figure 1 is a thread's step
-  thread-of : {s : Stack ℕ} {η : Memory} {r : Moved ℕ} → Figure1 procs t s η r → thread procs t s η ≡ is r
+  thread-of : {s : Stack ℕ} {η : Memory} {r : Moved ℕ} → Figure1 procs t s η r → thread procs t s η ≡ has r
   thread-of (by-rule {i = i} h) = first-of i h
   thread-of returns = refl
 
 -- FIGURE 2: A THREAD TAKES A STEP EXACTLY IF A RULE OF THE REPORT DOES, AND TO WHERE THE RULE SAYS. A finished thread has none.
-pub figure-2 : (p : Program ℕ) (t : ℕ) (σ : State) (r : Step) → Allowed σ t → (threadStep p t σ ≡ is r) ↔ Figure2 p t σ r
+pub figure-2 : (p : Program ℕ) (t : ℕ) (σ : State) (r : Step) → Allowed σ t → (threadStep p t σ ≡ has r) ↔ Figure2 p t σ r
 figure-2 p t σ r ok = (so, of ok)
   where
     η : Memory
     η = σ .memory
 
-    by : (m : ℕ) (ρ : Env) (c : Block ℕ) (s : Stack ℕ) (q : Moved ℕ) → at (σ .threads) t ≡ is (context m ρ c ∷ s) → code (p .procs) t c m ρ s η ≡ is q
+    by : (m : ℕ) (ρ : Env) (c : Block ℕ) (s : Stack ℕ) (q : Moved ℕ) → at (σ .threads) t ≡ is (context m ρ c ∷ s) → code (p .procs) t c m ρ s η ≡ has q
         → Figure2 p t σ (put σ t q)
-    by m ρ end s q e h = rw (← is-inj h) (seq e returns)
+    by m ρ end s q e h = rw (← has-inj h) (seq e returns)
     by m ρ (step a i c) s q e h = on i e h
       where
-        simply : (i : Instr ℕ) → at (σ .threads) t ≡ is (context m ρ (step a i c) ∷ s) → instr (p .procs) t m ρ a i c s η ≡ is q
+        simply : (i : Instr ℕ) → at (σ .threads) t ≡ is (context m ρ (step a i c) ∷ s) → instr (p .procs) t m ρ a i c s η ≡ has q
             → Figure2 p t σ (put σ t q)
         simply i e h = seq e (by-rule (rules-exactly (p .procs) t m ρ a c s η i q .0 h))
 
-        on : (i : Instr ℕ) → at (σ .threads) t ≡ is (context m ρ (step a i c) ∷ s) → first-instr (p .procs) t m ρ a i c s η ≡ is q
+        on : (i : Instr ℕ) → at (σ .threads) t ≡ is (context m ρ (step a i c) ∷ s) → first-instr (p .procs) t m ρ a i c s η ≡ has q
             → Figure2 p t σ (put σ t q)
         on (assign x e) g h = simply (assign x e) g h
         on (write y o e) g h = simply (write y o e) g h
@@ -206,22 +209,22 @@ figure-2 p t σ r ok = (so, of ok)
         on (if e b d) g h = simply (if e b d) g h
         on (call n es) g h = simply (call n es) g h
         on (atomic b) g h =
-            let z = bind-is (toEnd (p .procs) t (size b) (context m ρ b ∷ []) η []) _ h in
+            let z = chain-has (toEnd (p .procs) t (size b) (context m ρ b ∷ []) η []) _ h in
             let w = to-end (p .procs) t (size b) m ρ b η [] (z .0) (ok m ρ a b c s g) (z .1) in
-            rw (← is-inj (z .2), w .events) (whole g (w .runs))
-        on (select x y) g h = missing h
+            rw (← has-inj (z .2), w .events) (whole g (w .runs))
+        on (select x y) g h = lacking h
 
-    so : threadStep p t σ ≡ is r → Figure2 p t σ r
+    so : threadStep p t σ ≡ has r → Figure2 p t σ r
     so h =
-        let s = bind-is (at (σ .threads) t) _ h in
-        let q = bind-is (thread (p .procs) t (s .0) η) _ (s .2) in
-        rw (← is-inj (q .2)) (on (s .0) (s .1) (q .0) (q .1))
+        let s = chain-has (orLacks FinishedThread (at (σ .threads) t)) _ h in
+        let q = chain-has (thread (p .procs) t (s .0) η) _ (s .2) in
+        rw (← has-inj (q .2)) (on (s .0) (orLacks-has _ _ (s .1)) (q .0) (q .1))
       where
-        on : (s : Stack ℕ) → at (σ .threads) t ≡ is s → (q : Moved ℕ) → thread (p .procs) t s η ≡ is q → Figure2 p t σ (put σ t q)
-        on [] e q h = missing (sym (finished-blocks (p .procs) t η) ∙ h)
+        on : (s : Stack ℕ) → at (σ .threads) t ≡ is s → (q : Moved ℕ) → thread (p .procs) t s η ≡ has q → Figure2 p t σ (put σ t q)
+        on [] e q h = lacking (sym (finished-blocks (p .procs) t η) ∙ h)
         on (f ∷ s) e q h = by (f .proc) (f .env) (f .code) s q e h
 
-    of : {r : Step} → Allowed σ t → Figure2 p t σ r → threadStep p t σ ≡ is r
+    of : {r : Step} → Allowed σ t → Figure2 p t σ r → threadStep p t σ ≡ has r
     of ok (seq e f) = rw (e, thread-of (p .procs) t f)
     of ok (whole {m = m} {ρ = ρ} {ρ′ = ρ′} {a = a} {b = b} {c = c} {s = s} e runs) =
         rw (e, in-one (p .procs) t runs (size b) m ρ ρ′ b [] refl refl (omega arith) (ok m ρ a b c s e))

@@ -8,6 +8,9 @@ use lib.ListN.{set}
 use Rattle.value.specs.Maybe.{Maybe, is, nothing}
 use Rattle.value.specs.Lists.{at}
 use Rattle.value.specs.Laws.Maybes.{is-inj, missing, bind-is}
+use Rattle.value.specs.Laws.Tries.{forget, forget-is}
+use Rattle.value.specs.Try.{has, lacks}
+use Rattle.value.specs.declared.Reason.{Reason}
 use Rattle.value.specs.Laws.Tests.{both-passed}
 use Rattle.value.specs.Laws.Lists.{Each, each-at}
 use Rattle.format.specs.Syntax.{Instr, while, if, atomic, Block, step, Proc, Program, Plain, concurrent}
@@ -23,6 +26,7 @@ use Rattle.semantics.specs.Threads.{State, begun, starts, Step, threadSt
 use Rattle.semantics.specs.Laws.Figure1.{Rule, assigns, writes, reads, while-true, while-false, if-true, if-false, calls}
 use Rattle.semantics.specs.Laws.Figure1.{Figure1, by-rule, returns}
 use Rattle.semantics.specs.Laws.Figure2.{Figure2, seq, whole, Allowed, figure-2}
+use Rattle.semantics.specs.Laws.Stops.{Stops, stops-exactly}
 use Rattle.semantics.specs.Laws.After.{Point, onward, after}
 
 -- rule 4 of a frame's code, and of a stack's
@@ -30,7 +34,7 @@ abbrev Right : Stack ℕ → Type 0
 Right s = Each (λ (f : Frame ℕ). allowed (bodyIn concurrent (f .proc)) (f .code) ≡ true) s
 
 -- of all stacks but one
-each-set : {A : Type 0} (P : A → Type 0) (xs : List A) (i : ℕ) (y : A) → Each P xs → P y → Each P (set xs i y)
+pub each-set : {A : Type 0} (P : A → Type 0) (xs : List A) (i : ℕ) (y : A) → Each P xs → P y → Each P (set xs i y)
 each-set P [] i y h k = tt
 each-set P (x ∷ xs) zero y h k = (k, h .1)
 each-set P (x ∷ xs) (suc i) y h k = (h .0, each-set P xs i y (h .1) k)
@@ -108,13 +112,21 @@ module _ {p : Program Plain} (sound : Sound concurrent p) where
           → Each Right (σ′ .state .threads)
       on σ h nothing f = missing f
       on σ h (is t) f =
-          let r = bind-is (threadStep (labelled p) t (σ .state)) _ f in
+          let r = bind-is (forget (threadStep (labelled p) t (σ .state))) _ f in
           let ok = next-allowed (labelled p .procs) bodies-right (σ .state) t h in
           rw (← is-inj (r .2))
-          (turn-right (labelled p .procs) bodies-right refl (figure-2 (labelled p) t (σ .state) (r .0) ok .0 (r .1)) h)
+          (turn-right (labelled p .procs) bodies-right refl (figure-2 (labelled p) t (σ .state) (r .0) ok .0 (forget-is _ (r .1))) h)
+
+  -- an atomic block that comes next there is as rule 4 says
+  pub after-allowed : (ts : List ℕ) (k : ℕ) {σ : Point} → after (labelled p) ts k ≡ is σ → (t : ℕ) → Allowed (σ .state) t
+  after-allowed ts k {σ} e t = next-allowed (labelled p .procs) bodies-right (σ .state) t (after-right ts k e)
 
   -- THE STEPS OF A SOUND PROGRAM'S RUN ARE EXACTLY THOSE OF FIGURE 2.
   pub run-by-figure-2 : (ts : List ℕ) (k : ℕ) {σ : Point} → after (labelled p) ts k ≡ is σ → (t : ℕ) (r : Step)
-      → (threadStep (labelled p) t (σ .state) ≡ is r) ↔ Figure2 (labelled p) t (σ .state) r
-  run-by-figure-2 ts k {σ} e t r =
-      figure-2 (labelled p) t (σ .state) r (next-allowed (labelled p .procs) bodies-right (σ .state) t (after-right ts k e))
+      → (threadStep (labelled p) t (σ .state) ≡ has r) ↔ Figure2 (labelled p) t (σ .state) r
+  run-by-figure-2 ts k {σ} e t r = figure-2 (labelled p) t (σ .state) r (after-allowed ts k e t)
+
+  -- AND THEY BLOCK EXACTLY AS FIGURE 2 HAS NO STEP, FOR THESE REASONS.
+  pub run-stops : (ts : List ℕ) (k : ℕ) {σ : Point} → after (labelled p) ts k ≡ is σ → (t : ℕ) (r : Reason)
+      → (threadStep (labelled p) t (σ .state) ≡ lacks r) ↔ Stops (labelled p) t (σ .state) r
+  run-stops ts k {σ} e t r = stops-exactly (labelled p) t (σ .state) r (after-allowed ts k e t)

@@ -4,10 +4,11 @@ use mathlib.Core.Path.{_≡_, refl, sym, _∙_, ap}
 use mathlib.Core.List.{List, [], _∷_, _++_}
 use mathlib.Core.Bool.{false}
 use lib.IntN.{pos}
-use Rattle.value.specs.Maybe.{Maybe, is, nothing}
+use Rattle.value.specs.Try.{Try, has, lacks, orLacks}
+use Rattle.value.specs.declared.Reason.the-variants.{FinishedThread}
 use Rattle.value.specs.Lists.{at}
 use Rattle.value.specs.declared.Value.the-variants.{Whole}
-use Rattle.value.specs.Laws.Maybes.{is-inj, missing, bind-is}
+use Rattle.value.specs.Laws.Tries.{has-inj, lacking, chain-has}
 use Rattle.value.specs.Laws.Tests.{by-test}
 use Rattle.format.specs.Syntax.{Instr, assign, write, read, while, if, call, atomic, select, Block, end, step, Proc, Program, Plain}
 use Rattle.semantics.specs.Memory.{Env, Memory, Event}
@@ -37,7 +38,7 @@ module _ {A : Type 0} (procs : List (Proc A)) (t : ℕ) where
   rule-shape (calls p h free) = refl
 
   -- so does an instruction
-  instr-shape : (m : ℕ) (ρ : Env) (a : A) (c : Block A) (s : Stack A) (η : Memory) (i : Instr A) (r : Moved A) → instr procs t m ρ a i c s η ≡ is r
+  instr-shape : (m : ℕ) (ρ : Env) (a : A) (c : Block A) (s : Stack A) (η : Memory) (i : Instr A) (r : Moved A) → instr procs t m ρ a i c s η ≡ has r
       → shape (r .memory) ≡ shape η
   instr-shape m ρ a c s η i r p = rule-shape (rules-exactly procs t m ρ a c s η i r .0 p)
 
@@ -50,30 +51,31 @@ module _ {A : Type 0} (procs : List (Proc A)) (t : ℕ) where
 
 module _ (procs : List (Proc ℕ)) (t : ℕ) where
   -- a whole atomic block
-  toEnd-shape : (n : ℕ) (z : Stack ℕ) (η : Memory) (evs : List Event) (r : P.Atomic) → P.toEnd procs t n z η evs ≡ is r → shape (r .memory) ≡ shape η
-  toEnd-shape zero [] η evs r p = missing p
+  toEnd-shape : (n : ℕ) (z : Stack ℕ) (η : Memory) (evs : List Event) (r : P.Atomic) → P.toEnd procs t n z η evs ≡ has r → shape (r .memory) ≡ shape η
+  toEnd-shape zero [] η evs r p = lacking p
   toEnd-shape zero (f ∷ s) η evs r p = by (f .code) p
     where
-      by : (c : Block ℕ) → P.toEnd procs t zero (record { proc = f .proc; env = f .env; code = c } ∷ s) η evs ≡ is r → shape (r .memory) ≡ shape η
-      by end p = rw (← is-inj p) refl
-      by (step a i c) p = missing p
-  toEnd-shape (suc n) [] η evs r p = missing p
+      by : (c : Block ℕ) → P.toEnd procs t zero (record { proc = f .proc; env = f .env; code = c } ∷ s) η evs ≡ has r → shape (r .memory) ≡ shape η
+      by end p = rw (← has-inj p) refl
+      by (step a i c) p = lacking p
+  toEnd-shape (suc n) [] η evs r p = lacking p
   toEnd-shape (suc n) (f ∷ s) η evs r p = by (toEnd-shape n) (f .code) p
     where
-      by : ((z : Stack ℕ) (η : Memory) (evs : List Event) (r : P.Atomic) → P.toEnd procs t n z η evs ≡ is r → shape (r .memory) ≡ shape η)
-          → (c : Block ℕ) → P.toEnd procs t (suc n) (record { proc = f .proc; env = f .env; code = c } ∷ s) η evs ≡ is r → shape (r .memory) ≡ shape η
-      by ih end p = rw (← is-inj p) refl
+      by : ((z : Stack ℕ) (η : Memory) (evs : List Event) (r : P.Atomic) → P.toEnd procs t n z η evs ≡ has r → shape (r .memory) ≡ shape η)
+          → (c : Block ℕ) → P.toEnd procs t (suc n) (record { proc = f .proc; env = f .env; code = c } ∷ s) η evs ≡ has r
+          → shape (r .memory) ≡ shape η
+      by ih end p = rw (← has-inj p) refl
       by ih (step a i c) p =
-          let b = bind-is (instr procs t (f .proc) (f .env) a i c s η) _ p in
+          let b = chain-has (instr procs t (f .proc) (f .env) a i c s η) _ p in
           ih (b .0 .stack) (b .0 .memory) (evs ++ b .0 .events) r (b .2) ∙ instr-shape procs t (f .proc) (f .env) a c s η i (b .0) (b .1)
 
   -- a step of a thread
-  pub thread-shape : (s : Stack ℕ) (η : Memory) (r : Moved ℕ) → P.thread procs t s η ≡ is r → shape (r .memory) ≡ shape η
-  thread-shape [] η r p = missing (sym (finished-blocks procs t η) ∙ p)
+  pub thread-shape : (s : Stack ℕ) (η : Memory) (r : Moved ℕ) → P.thread procs t s η ≡ has r → shape (r .memory) ≡ shape η
+  thread-shape [] η r p = lacking (sym (finished-blocks procs t η) ∙ p)
   thread-shape (f ∷ s) η r p = by (f .code) p
     where
-      by : (c : Block ℕ) → P.code procs t c (f .proc) (f .env) s η ≡ is r → shape (r .memory) ≡ shape η
-      by end p = rw (← is-inj p) refl
+      by : (c : Block ℕ) → P.code procs t c (f .proc) (f .env) s η ≡ has r → shape (r .memory) ≡ shape η
+      by end p = rw (← has-inj p) refl
       by (step a (assign x e) c) p = instr-shape procs t (f .proc) (f .env) a c s η (assign x e) r p
       by (step a (write y o e) c) p = instr-shape procs t (f .proc) (f .env) a c s η (write y o e) r p
       by (step a (read x y o) c) p = instr-shape procs t (f .proc) (f .env) a c s η (read x y o) r p
@@ -81,9 +83,9 @@ module _ (procs : List (Proc ℕ)) (t : ℕ) where
       by (step a (if e b d) c) p = instr-shape procs t (f .proc) (f .env) a c s η (if e b d) r p
       by (step a (call q es) c) p = instr-shape procs t (f .proc) (f .env) a c s η (call q es) r p
       by (step a (atomic b) c) p =
-          let u = bind-is (P.toEnd procs t (P.size b) (record { proc = f .proc; env = f .env; code = b } ∷ []) η []) _ p in
-          rw (← is-inj (u .2)) (toEnd-shape (P.size b) (record { proc = f .proc; env = f .env; code = b } ∷ []) η [] (u .0) (u .1))
-      by (step a (select x y) c) p = missing p
+          let u = chain-has (P.toEnd procs t (P.size b) (record { proc = f .proc; env = f .env; code = b } ∷ []) η []) _ p in
+          rw (← has-inj (u .2)) (toEnd-shape (P.size b) (record { proc = f .proc; env = f .env; code = b } ∷ []) η [] (u .0) (u .1))
+      by (step a (select x y) c) p = lacking p
 
 -- a run keeps the shape
 pub run-shape : (p : Program ℕ) (ts : List ℕ) (st : P.State) (k : ℕ) (evs : List Event)
@@ -93,12 +95,12 @@ run-shape p (t ∷ ts) st k evs =
     by-test (P.done (st .threads)) (λ e. rw (finished-run p (t ∷ ts) st k evs e) refl) (λ e. by (run-shape p ts) e (P.threadStep p t st) refl)
   where
     by : ((st : P.State) (k : ℕ) (evs : List Event) → shape (P.run p ts st k evs .state .memory) ≡ shape (st .memory)) → P.done (st .threads) ≡ false
-        → (r : Maybe P.Step) → P.threadStep p t st ≡ r → shape (P.run p (t ∷ ts) st k evs .state .memory) ≡ shape (st .memory)
-    by ih e nothing q = rw (blocked-run p t ts st k evs e q) refl
-    by ih e (is r) q =
-        let b = bind-is (at (st .threads) t) _ q in
-        let d = bind-is (P.thread (p .procs) t (b .0) (st .memory)) _ (b .2) in
-        let same : r .state .memory ≡ d .0 .memory = ap (λ (r : P.Step). r .state .memory) (sym (is-inj (d .2))) in
+        → (r : Try P.Step) → P.threadStep p t st ≡ r → shape (P.run p (t ∷ ts) st k evs .state .memory) ≡ shape (st .memory)
+    by ih e (lacks r) q = rw (blocked-run p t ts st k evs e q) refl
+    by ih e (has r) q =
+        let b = chain-has (orLacks FinishedThread (at (st .threads) t)) _ q in
+        let d = chain-has (P.thread (p .procs) t (b .0) (st .memory)) _ (b .2) in
+        let same : r .state .memory ≡ d .0 .memory = ap (λ (r : P.Step). r .state .memory) (sym (has-inj (d .2))) in
         rw (step-run p t ts st k evs r e q)
         (ih (r .state) (suc k) (evs ++ r .events) ∙ rw same (thread-shape (p .procs) t (b .0) (st .memory) (d .0) (d .1)))
 

@@ -8,20 +8,22 @@ use lib.IntN.{ℤ, pos, negsuc, negℤ, _+ℤ_, +ℤ-negℤ-cancel, +ℤ-invr}
 use lib.Signed.{mag, leZ}
 use lib.Dec.{ltb, eqb}
 use borrow.Author.Tests.{ltb-true, lt-ltb, leb-true, le-leb}
-use Rattle.value.specs.Maybe.{is}
+use Rattle.value.specs.Try.{has}
 use Rattle.value.specs.Values.{given, neg, add, sub, equal, whole, sameZ, sameB, apply₁, apply₂}
 use Rattle.value.specs.Marks.{kindOf}
-use Rattle.value.specs.Laws.Maybes.{is-inj, missing, when-is}
+use Rattle.value.specs.Laws.Tries.{lacking, provided-has}
 use Rattle.value.specs.Laws.Tests.{Decides, decides-as, never, eq?, both-passed, pass-both}
 use Rattle.value.specs.declared.Value.{Value}
 use Rattle.value.specs.declared.Value.the-variants.{Whole, Location, Truth}
 use Rattle.value.specs.declared.Answer.{Answer}
-use Rattle.value.specs.declared.Answer.the-variants.{Is, Nothing}
+use Rattle.value.specs.declared.Answer.the-variants as A
+use Rattle.value.specs.declared.Reason.the-variants.{OutOfRange}
 
 -- an answer of the code is a value exactly if it says so
-pub given-exactly : (a : Answer) (v : Value) → (given a ≡ is v) ↔ (a ≡ Is v)
-given-exactly (Is u) v = (λ e. cc, λ e. cc)
-given-exactly Nothing v = (λ e. missing e, λ e. cc)
+pub given-exactly : (a : Answer) (v : Value) → (given a ≡ has v) ↔ (a ≡ A.Is v)
+given-exactly (A.Is u) v = (λ e. cc, λ e. cc)
+given-exactly A.OutOfRange v = (λ e. lacking e, λ e. cc)
+given-exactly A.WrongKind v = (λ e. lacking e, λ e. cc)
 
 -- ---- the range
 
@@ -41,15 +43,15 @@ range-mag (pos n) h = omega (arith, leb-true n 2147483647 (h .high))
 range-mag (negsuc n) h = omega (arith, leb-true n 2147483647 (h .low))
 
 -- A RESULT IS A VALUE EXACTLY IN THE RANGE, AND THEN IT IS ITSELF.
-pub whole-exactly : (z : ℤ) (v : Value) → (whole z ≡ is v) ↔ (InRange z × (v ≡ Whole z))
+pub whole-exactly : (z : ℤ) (v : Value) → (whole z ≡ has v) ↔ (InRange z × (v ≡ Whole z))
 whole-exactly z v = (so, of)
   where
-    so : whole z ≡ is v → InRange z × (v ≡ Whole z)
+    so : whole z ≡ has v → InRange z × (v ≡ Whole z)
     so e =
-        let got = when-is (ltb (mag z) 2147483648) (is (Whole z)) e in
-        (in-range z (ltb-true (mag z) 2147483648 (got .0)), sym (is-inj (got .1)))
+        let got = provided-has (ltb (mag z) 2147483648) OutOfRange (Whole z) e in
+        (in-range z (ltb-true (mag z) 2147483648 (got .0)), sym (got .1))
 
-    of : InRange z × (v ≡ Whole z) → whole z ≡ is v
+    of : InRange z × (v ≡ Whole z) → whole z ≡ has v
     of h = rw (lt-ltb (mag z) 2147483648 (range-mag z (h .0)), h .1)
 
 -- ---- equal
@@ -77,7 +79,7 @@ same-truth false false = record { so = λ e. refl; of = λ e. refl }
 -- a test of two values that says whether they are one
 pub record Tells (v w : Value) : Type 0 where
   pub answer : Bool
-  pub gives : apply₂ equal v w ≡ is (Truth answer)
+  pub gives : apply₂ equal v w ≡ has (Truth answer)
   pub right : Decides answer (v ≡ w)
 
 -- "equal (two of one kind)": IT IS TRUE EXACTLY IF THEY ARE ONE VALUE; `same-kind` (Marks) says that it has no value of two kinds
@@ -96,25 +98,25 @@ equal-tells (Truth a) (Location b) k = absurd (omega arith)
 -- ---- subtract and negate
 
 -- what is a value is in the range
-valued : (z : ℤ) {y : ℤ} → whole z ≡ is (Whole y) → y ≡ z
+valued : (z : ℤ) {y : ℤ} → whole z ≡ has (Whole y) → y ≡ z
 valued z {y} e = let same : Whole y ≡ Whole z = whole-exactly z (Whole y) .0 e .1 in cc
 
 -- SUBTRACT UNDOES ADD
-pub subtract-undoes : (a b c : ℤ) → InRange a → apply₂ add (Whole a) (Whole b) ≡ is (Whole c) → apply₂ sub (Whole c) (Whole b) ≡ is (Whole a)
+pub subtract-undoes : (a b c : ℤ) → InRange a → apply₂ add (Whole a) (Whole b) ≡ has (Whole c) → apply₂ sub (Whole c) (Whole b) ≡ has (Whole a)
 subtract-undoes a b c h e = rw (valued (a +ℤ b) e, +ℤ-negℤ-cancel a b) (whole-exactly a (Whole a) .1 (h, refl))
 
 -- A NUMBER AND ITS NEGATE ARE 0 TOGETHER
-pub negate-undoes : (a b : ℤ) → apply₁ neg (Whole a) ≡ is (Whole b) → apply₂ add (Whole a) (Whole b) ≡ is (Whole (pos 0))
+pub negate-undoes : (a b : ℤ) → apply₁ neg (Whole a) ≡ has (Whole b) → apply₂ add (Whole a) (Whole b) ≡ has (Whole (pos 0))
 negate-undoes a b e = rw (valued (negℤ a) e, +ℤ-invr a)
 
 -- "equal (two of one kind)": of two kinds it has no value
-pub equal-one-kind : (u v : Value) {w : Value} → apply₂ equal u v ≡ is w → kindOf u ≡ kindOf v
+pub equal-one-kind : (u v : Value) {w : Value} → apply₂ equal u v ≡ has w → kindOf u ≡ kindOf v
 equal-one-kind (Whole a) (Whole b) e = refl
-equal-one-kind (Whole a) (Location l) e = missing e
-equal-one-kind (Whole a) (Truth b) e = missing e
+equal-one-kind (Whole a) (Location l) e = lacking e
+equal-one-kind (Whole a) (Truth b) e = lacking e
 equal-one-kind (Location a) (Location b) e = refl
-equal-one-kind (Location a) (Whole z) e = missing e
-equal-one-kind (Location a) (Truth b) e = missing e
+equal-one-kind (Location a) (Whole z) e = lacking e
+equal-one-kind (Location a) (Truth b) e = lacking e
 equal-one-kind (Truth a) (Truth b) e = refl
-equal-one-kind (Truth a) (Whole z) e = missing e
-equal-one-kind (Truth a) (Location l) e = missing e
+equal-one-kind (Truth a) (Whole z) e = lacking e
+equal-one-kind (Truth a) (Location l) e = lacking e

@@ -112,7 +112,7 @@ pub +do-block+do-instr-spec : {M : Type 1} → statement M
     let told = first .before .before in
     let decided = told .before .before .before .before in
     let entry = decided .before .before .before .before .before .before .before in
-    then-after (decided .decide .ensures) (told .step .given .1) (first .if1 .taken) (inner .do-block .ensures) (c .before .end .given .1)
+    then-after (decided .decide .ensures) (told .step .given .1) (first .if1 .taken) (inner .do-block .ensures) (c .before .done .given .1)
     (entry .pre .1))
     (λ c. search needs)
     (λ c. search needs)

@@ -4,7 +4,7 @@ use mathlib.Core.Path.{ap, _∙_}
 use lib.IntN.{ℤ}
 use borrow.Author.Tests.{eq-eqb, ne-eqb, lt-ltb, le-ltb}
 use mir.Facts.{toZ-ofZ}
-use Rattle.value.specs.Maybe.{is}
+use Rattle.value.specs.Try.{has}
 use Rattle.value.specs.declared.Value.the-variants.{Whole}
 use Rattle.basics.proofs.bytes.value_of.Statement.{statement}
 use Rattle.basics.proofs.bytes.value_of.Tie as tie
@@ -16,7 +16,7 @@ value-of-spec =
     (λ c κs. search needs)
     (λ c.
     simp (eq-eqb _ _ (c .before .if1 .taken))
-    (ap (λ (z : ℤ). is (Whole z)) (toZ-ofZ {z = c .number-of .result} (search needs) ∙ c .number-of .ensures)))
+    (ap (λ (z : ℤ). has (Whole z)) (toZ-ofZ {z = c .number-of .result} (search needs) ∙ c .number-of .ensures)))
     (λ c. search needs)
     (λ c. simp (ne-eqb _ _ (c .before .before .if1 .left), eq-eqb _ _ (c .before .if2 .taken), lt-ltb _ _ (c .if3 .taken)))
     (λ c. simp (ne-eqb _ _ (c .before .before .if1 .left), eq-eqb _ _ (c .before .if2 .taken), le-ltb _ _ (c .if3 .left)))

@@ -1,7 +1,7 @@
 -- `basics::operators::add` meets its contract: the sum of two whole numbers is computed at 64 bits, and narrowed.
 use borrow.Author.Needs.{needs}
 use lib.IntN.{ℤ, _+ℤ_}
-use Rattle.value.specs.Maybe.{Maybe}
+use Rattle.value.specs.Try.{Try}
 use Rattle.value.specs.Values.{whole}
 use Rattle.value.specs.declared.Value.{Value}
 use Rattle.basics.proofs.Wide.{widened, large-add, large-asks}
@@ -9,7 +9,7 @@ use Rattle.basics.proofs.Ways.{not-whole-left, not-whole-right, both-la
 use Rattle.basics.proofs.operators.add.Statement.{statement}
 use Rattle.basics.proofs.operators.add.Tie as tie
 
-abbrev op : ℤ → ℤ → Maybe Value
+abbrev op : ℤ → ℤ → Try Value
 op a b = whole (_+ℤ_ a b)
 
 pub add-spec : {M : Type 1} → statement M

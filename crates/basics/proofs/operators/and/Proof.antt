@@ -2,7 +2,7 @@
 use borrow.Author.Needs.{needs}
 use mathlib.Core.Path.{sym, ap, ap₂, _∙_}
 use mathlib.Core.Bool.{Bool}
-use Rattle.value.specs.Maybe.{is}
+use Rattle.value.specs.Try.{has}
 use Rattle.value.specs.declared.Value.the-variants.{Truth}
 use Rattle.value.specs.Values.{truths}
 use Rattle.basics.proofs.Ways.{not-truth-left, not-truth-right, both-flags}
@@ -18,5 +18,5 @@ and-spec =
     (λ c. search needs)
     (λ c. let a = c .before .before .before .before .args in not-truth-right (a .left) (a .right) (c .match2 .keys2))
     (λ c.
-    ap (λ (t : Bool). is (Truth t)) (both-flags (c .before .before .before .before .left .given .0 .0) (c .before .right .given .0 .0))
+    ap (λ (t : Bool). has (Truth t)) (both-flags (c .before .before .before .before .left .given .0 .0) (c .before .right .given .0 .0))
     ∙ sym (ap₂ truths (c .before .before .before .before .left .given .1) (c .before .right .given .1))))

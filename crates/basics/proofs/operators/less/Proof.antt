@@ -4,15 +4,15 @@ use mathlib.Core.Path.{refl}
 use lib.IntN.{ℤ}
 use lib.Signed.{ltZ}
 use mir.Facts.{toZ-ofZ}
-use Rattle.value.specs.Maybe.{Maybe, is}
+use Rattle.value.specs.Try.{Try, has}
 use Rattle.value.specs.declared.Value.{Value}
 use Rattle.value.specs.declared.Value.the-variants.{Truth}
 use Rattle.basics.proofs.Ways.{not-whole-left, not-whole-right, both-whole}
 use Rattle.basics.proofs.operators.less.Statement.{statement}
 use Rattle.basics.proofs.operators.less.Tie as tie
 
-abbrev op : ℤ → ℤ → Maybe Value
-op a b = is (Truth (ltZ a b))
+abbrev op : ℤ → ℤ → Try Value
+op a b = has (Truth (ltZ a b))
 
 pub less-spec : {M : Type 1} → statement M
 less-spec =

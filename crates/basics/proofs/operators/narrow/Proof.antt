@@ -4,7 +4,7 @@ use lib.IntN.{ℤ}
 use mir.Syntax.{w32, w64}
 use mir.Val.{SFits, ofZ, toZ}
 use mir.Facts.{toZ-ofZ}
-use Rattle.value.specs.Maybe.{is}
+use Rattle.value.specs.Try.{has}
 use Rattle.value.specs.declared.Value.the-variants.{Whole}
 use Rattle.basics.proofs.Ways.{too-low, too-high, within, within-fits}
 use Rattle.basics.proofs.operators.narrow.Statement.{statement}
@@ -27,4 +27,4 @@ narrow-spec =
     (λ c. too-low (c .before .args .x) (rw (toZ-ofZ (c .before .fits .x)) at (c .if1 .taken)))
     (λ c. too-high (c .before .before .args .x) (rw (toZ-ofZ (c .before .before .fits .x)) at (c .if2 .taken)))
     read-fits
-    (λ c. ap (λ (z : ℤ). is (Whole z)) (toZ-ofZ (read-fits c) ∙ toZ-ofZ (c .before .before .fits .x)) ∙ within (fits c)))
+    (λ c. ap (λ (z : ℤ). has (Whole z)) (toZ-ofZ (read-fits c) ∙ toZ-ofZ (c .before .before .fits .x)) ∙ within (fits c)))

@@ -34,21 +34,22 @@ go-spec =
     (λ c. search needs)
     (λ c. search needs)
     (λ c κs. search needs)
+    (λ c κs. search needs)
     (λ c.
-    let stepped = c .before .before .before .before .before in
+    let stepped = c .before .before .before .before .before .before .before in
     let second = stepped .before .before .before .before .before .before .before in
     let first = second .before in
     let asked = first .before in
     let start = asked .before .before in
     stepped-long (start .loop .inv) (asked .finished .ensures) (first .if1 .left) (second .if2 .left) (stepped .step .ensures))
     (λ c.
-    let stepped = c .before .before .before .before .before in
+    let stepped = c .before .before .before .before .before .before .before in
     let second = stepped .before .before .before .before .before .before .before in
     let first = second .before in
     let asked = first .before in
     let start = asked .before .before in
     going-blocked (start .loop .inv) (asked .finished .ensures) (first .if1 .left) (second .if2 .left) (stepped .step .ensures)
-    (c .before .enum-told .given .1) (c .outcome3 .ensures))
+    (c .before .before .before .reason .given .1) (c .before .number .ensures) (c .outcome3 .ensures))
     (λ c.
     let start = c .before .before .before .before .before .before .before .before .before .before .before .before .before .before .before .before in
     record { fits = omega (arith, start .loop .inv .low, start .loop .inv .start .entries .few) })

@@ -8,9 +8,9 @@ pub decide-assign-spec : {M : Type 1} → statement M
 decide-assign-spec =
     tie.close
     (tie.spec
-    (λ c. search needs)
-    (λ c. search needs)
     (λ c. search (assign-ways, needs))
-    (λ c. search needs)
-    (λ c κs. search needs)
+    (λ c κs. search (assign-ways, needs))
+    (λ c. search (assign-ways, needs))
+    (λ c. search (assign-ways, needs))
+    (λ c κs. search (assign-ways, needs))
     (λ c. search (assign-ways, needs)))

@@ -8,9 +8,9 @@ pub decide-test-spec : {M : Type 1} → statement M
 decide-test-spec =
     tie.close
     (tie.spec
-    (λ c. search needs)
-    (λ c. search needs)
     (λ c. search (test-ways, needs))
-    (λ c. search needs)
+    (λ c κs. search (test-ways, needs))
+    (λ c. search (test-ways, needs))
+    (λ c. search (test-ways, needs))
     (λ c. search (test-ways, needs))
     (λ c. search (test-ways, needs)))

@@ -8,14 +8,15 @@ pub decide-write-spec : {M : Type 1} → statement M
 decide-write-spec =
     tie.close
     (tie.spec
-    (λ c. search needs)
-    (λ c. search needs)
+    (λ c. search (write-ways, needs))
+    (λ c κs. search (write-ways, needs))
     (λ c. search (write-ways, needs))
     (λ c. search (write-inside (c .before .before .before .before .before .pre), needs))
     (λ c κs. search (write-inside (c .before .before .before .before .before .pre), needs))
     (λ c κs. search (write-ways, needs))
-    (λ c κs. search needs)
-    (λ c. search needs)
-    (λ c. search needs)
+    (λ c κs. search (write-ways, needs))
+    (λ c. search (write-ways, needs))
+    (λ c. search (write-ways, needs))
+    (λ c κs. search (write-ways, needs))
     (λ c. search (write-ways, needs))
     (λ c. search (write-ways, needs)))

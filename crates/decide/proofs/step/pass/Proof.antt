@@ -21,7 +21,7 @@ pass-spec =
     (λ c. search (passing-ways, needs))
     (λ c κs. search (passing-ways, needs))
     (λ c. search (passing-ways, needs))
-    (λ c. search (passing-ways, needs))
+    (λ c κs. search (passing-ways, needs))
     (λ c. search (passing-ways, needs))
     (λ c. search (passing-ways, needs))
     (λ c κs. search (passing-ways, needs))

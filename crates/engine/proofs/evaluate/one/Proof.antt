@@ -8,14 +8,14 @@ pub one-spec : {M : Type 1} → statement M
 one-spec =
     tie.close
     (tie.spec
-    (λ c. search needs)
-    (λ c. search needs)
     (λ c. search (ways, needs))
-    (λ c. search needs)
+    (λ c κs. search (ways, needs))
     (λ c. search (ways, needs))
-    (λ c κs. search needs)
     (λ c. search (ways, needs))
-    (λ c. search needs)
     (λ c. search (ways, needs))
-    (λ c κs. search needs)
+    (λ c κs. search (ways, needs))
+    (λ c. search (ways, needs))
+    (λ c. search (ways, needs))
+    (λ c. search (ways, needs))
+    (λ c κs. search (ways, needs))
     (λ c. search (ways, needs)))

@@ -7,9 +7,15 @@ use Rattle.engine.proofs.evaluate.two.Tie as tie
 pub two-spec : {M : Type 1} → statement M
 two-spec =
     tie.close (tie.spec
-    (λ c κs. search needs)
-    (λ c κs. search needs)
-    (λ c κs. search needs)
-    (λ c. search needs)
+    (λ c. search (ways, needs))
+    (λ c κs. search (ways, needs))
+    (λ c. search (ways, needs))
+    (λ c. search (ways, needs))
+    (λ c κs. search (ways, needs))
+    (λ c. search (ways, needs))
+    (λ c κs. search (ways, needs))
+    (λ c κs. search (ways, needs))
+    (λ c κs. search (ways, needs))
+    (λ c. search (ways, needs))
     (λ c. search (ways, needs))
     (λ c. search (ways, needs)))

@@ -8,15 +8,9 @@ pub wholes-spec : {M : Type 1} → statement M
 wholes-spec =
     tie.close
     (tie.spec
-    (λ c. search needs)
-    (λ c. search needs)
     (λ c. search (ways, needs))
-    (λ c. search needs)
     (λ c. search (ways, needs))
-    (λ c. search needs)
-    (λ c. search needs)
     (λ c. search (ways, needs))
-    (λ c. search needs)
     (λ c. search (ways, needs))
-    (λ c κs. search needs)
+    (λ c κs. search (ways, needs))
     (λ c. search (ways, needs)))

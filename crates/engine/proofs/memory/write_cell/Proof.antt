@@ -8,10 +8,9 @@ pub write-cell-spec : {M : Type 1} → statement M
 write-cell-spec =
     tie.close
     (tie.spec
-    (λ c κs. search needs)
-    (λ c. search needs)
-    (λ c κs. search needs)
-    (λ c. search needs)
-    (λ c. search needs)
+    (λ c κs. search (writing-ways, needs))
+    (λ c. search (writing-ways, needs))
+    (λ c κs. search (writing-ways, needs))
+    (λ c. search (writing-ways, needs))
     (λ c. search (writing-ways, needs))
     (λ c. search (writing-ways, needs)))

@@ -12,6 +12,7 @@ put-line-spec =
     (λ c. search needs)
     (λ c. search line-ways)
     (λ c κs. search needs)
+    (λ c. search needs)
     (λ c κs. search needs)
     (λ c. search needs)
     (λ c. search line-ways))

@@ -36,6 +36,7 @@ go-spec =
     (λ c κs. (search going-ways, search going-ways, search needs, search going-ways))
     (λ c. search needs)
     (λ c κs. search needs)
+    (λ c κs. search needs)
     (λ c. search going-ways)
     (λ c. search going-ways)
     (λ c κs.
