@@ -39,7 +39,7 @@ use: kit
 lib: kit
 	tools/check-lib
 
-# not part of the test: instructions and time a step of the sequential machine
+# not part of the test: instructions and time a step of the sequential machine, and an allotment of the bench
 bench: zaru
 	@tools/need python3 python3
 	tools/bench

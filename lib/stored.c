@@ -11,23 +11,32 @@
 #include <unistd.h>
 
 /* MARGIN: what must be left of each stack, for signal handlers and for what a thread of another program keeps there. */
-enum { HEADER = 36, LONGEST_LINE = 200, GUARD = 1 << 20, PAINT = 0xA5, MARGIN = 8192 };
+enum { HEADER = 36, LONGEST_LINE = 300, GUARD = 1 << 20, PAINT = 0xA5, MARGIN = 8192 };
 
-/* The calls by their number in a case, each with its stack: GUARD bytes that nobody may touch, then the bytes that a thread gets. */
+/* The calls by their number in a case, each with the numbers of its answer and its stack: GUARD bytes that nobody may touch, then the bytes
+ * that a thread gets. The run program's line, 6, is no call for C. */
 static struct call {
     const char *name;
+    int numbers;
     size_t size;
     uint8_t *stack;
     unsigned cases;
 } calls[] = {
-    {"", 0, NULL, 0},
-    {"zaru_read_concurrent", ZARU_STACK_READ, NULL, 0},
-    {"zaru_read_sequential", ZARU_STACK_READ, NULL, 0},
-    {"zaru_translate", ZARU_STACK_TRANSLATE, NULL, 0},
-    {"zaru_run_concurrent", ZARU_STACK_RUN_CONCURRENT, NULL, 0},
-    {"zaru_run_sequential", ZARU_STACK_RUN_SEQUENTIAL, NULL, 0},
+    {"", 0, 0, NULL, 0},
+    {"zaru_read_concurrent", ZARU_READ_NUMBERS, ZARU_STACK_READ, NULL, 0},
+    {"zaru_read_sequential", ZARU_READ_NUMBERS, ZARU_STACK_READ, NULL, 0},
+    {"zaru_translate", ZARU_TRANSLATE_NUMBERS, ZARU_STACK_TRANSLATE, NULL, 0},
+    {"zaru_run_concurrent", ZARU_RUN_NUMBERS, ZARU_STACK_RUN_CONCURRENT, NULL, 0},
+    {"zaru_run_sequential", ZARU_RUN_NUMBERS, ZARU_STACK_RUN_SEQUENTIAL, NULL, 0},
+    {"", 0, 0, NULL, 0},
+    {"zaru_bench", ZARU_BENCH_NUMBERS, ZARU_STACK_BENCH, NULL, 0},
 };
 enum { CALLS = sizeof calls / sizeof *calls };
+
+static int is_call(unsigned op)
+{
+    return op < CALLS && calls[op].numbers > 0;
+}
 
 /* One case: what is asked for, the lent buffers, and the answer's numbers. */
 static struct {
@@ -36,7 +45,7 @@ static struct {
     size_t table_length, schedule_length, h, cells_length, events_length, out_length;
     uint64_t budget;
     uint8_t cells[45056], events[45056], out[70000];
-    uint64_t answer[ZARU_READ_NUMBERS];
+    uint64_t answer[ZARU_BENCH_NUMBERS];
 } job;
 
 __attribute__((noreturn)) static void fail(const char *what, const char *about)
@@ -90,6 +99,9 @@ static void *work(void *unused)
     case 5:
         zaru_run_sequential(job.table, job.table_length, job.schedule, job.schedule_length, job.budget, job.h, job.cells,
                             job.cells_length, job.events, job.events_length, job.answer, ZARU_RUN_NUMBERS);
+        break;
+    case 7:
+        zaru_bench(job.table, job.table_length, job.budget, job.h, job.cells, job.cells_length, job.answer, ZARU_BENCH_NUMBERS);
         break;
     }
     return unused;
@@ -146,15 +158,15 @@ static size_t used(const struct call *call)
 /* The line that the second implementation has for this answer, without its newline. */
 static void write_line(char *line)
 {
-    int numbers = job.op <= 2 ? ZARU_READ_NUMBERS : job.op == 3 ? ZARU_TRANSLATE_NUMBERS : ZARU_RUN_NUMBERS;
     line += sprintf(line, "%u", job.op);
-    for (int i = 0; i < numbers; i += 1)
+    for (int i = 0; i < calls[job.op].numbers; i += 1)
         line += sprintf(line, " %llu", (unsigned long long)job.answer[i]);
     if (job.op == 3)
-        sprintf(line, " %016llx", (unsigned long long)hash(job.out, job.out_length));
+        line += sprintf(line, " %016llx", (unsigned long long)hash(job.out, job.out_length));
     if (job.op >= 4)
-        sprintf(line, " %016llx %016llx", (unsigned long long)hash(job.cells, job.cells_length),
-                (unsigned long long)hash(job.events, job.events_length));
+        line += sprintf(line, " %016llx", (unsigned long long)hash(job.cells, job.cells_length));
+    if (job.op == 4 || job.op == 5)
+        sprintf(line, " %016llx", (unsigned long long)hash(job.events, job.events_length));
 }
 
 static uint8_t *whole_file(const char *name, size_t *length)
@@ -194,9 +206,9 @@ static const uint8_t *take_case(const uint8_t *header)
 /* How many bytes of lent buffers follow the line of this case. */
 static size_t shown_length(void)
 {
-    if (job.shown == 0 || job.op < 3 || job.op > 5)
+    if (job.shown == 0 || !is_call(job.op) || job.op < 3)
         return 0;
-    return job.op == 3 ? job.out_length : job.cells_length + job.events_length;
+    return job.op == 3 ? job.out_length : job.op == 7 ? job.cells_length : job.cells_length + job.events_length;
 }
 
 /* Makes the call of the case, and holds its answer against the stored line. */
@@ -226,20 +238,22 @@ int main(int count, char **words)
     const uint8_t *at = whole_file(words[1], &batch_length), *line = whole_file(words[2], &left);
     struct sigaction action = {.sa_handler = left_stack, .sa_flags = SA_ONSTACK};
     sigaction(SIGSEGV, &action, NULL);
-    for (int op = 1; op < CALLS; op += 1)
-        make_stack(&calls[op]);
+    for (unsigned op = 0; op < CALLS; op += 1)
+        if (is_call(op))
+            make_stack(&calls[op]);
     while (*at != 0) {
         at = take_case(at);
         const uint8_t *end = memchr(line, '\n', left);
         if (end == NULL)
             fail("a case without a line:", calls[job.op < CALLS ? job.op : 0].name);
         size_t length = (size_t)(end - line);
-        if (job.op < CALLS)
+        if (is_call(job.op))
             check_case(line, length);
         line += length + 1 + shown_length();
         left -= length + 1 + shown_length();
     }
-    for (int op = 1; op < CALLS; op += 1)
-        check_stack(&calls[op]);
+    for (unsigned op = 0; op < CALLS; op += 1)
+        if (is_call(op))
+            check_stack(&calls[op]);
     return 0;
 }

@@ -1,4 +1,4 @@
-/* The C calls on programs A and B of the paper: what they answer, and which bytes they leave alone. */
+/* The C calls on programs A and B of the paper, and on one that blocks in few orders: what they answer, and which bytes they leave alone. */
 #include "zaru.h"
 #include <stdio.h>
 #include <string.h>
@@ -14,6 +14,13 @@ static const uint8_t LOST[] = {0, 0, 1, 1, 0, 1, 0, 1};
 
 /* Thread 0 is finished after four entries; the fifth chooses it again. */
 static const uint8_t AGAIN[] = {0, 0, 0, 0, 0, 1};
+
+/* D: examples/rare_block.zaru. It blocks only where a share is lost. */
+static const uint8_t D[] = {
+    0x20, 0, 0x02, 0, 0, 0x22, 1, 0, 0x01, 0, 0, 0, 0, 0x21, 0, 0x01, 0, 0, 0, 0, 0x10, 0x05, 1, 0x01, 1, 0, 0, 0, 0x20, 2, 0x02, 1, 0,
+    0x26, 0x22, 1, 2, 0x01, 0, 0, 0, 0, 0x21, 2, 0x01, 0, 0, 0, 0, 0x10, 0x05, 1, 0x01, 1, 0, 0, 0, 0x00,
+    0x24, 0x14, 0x05, 1, 0x01, 1, 0, 0, 0, 0x22, 1, 0, 0x01, 0, 0, 0, 0, 0x22, 1, 0, 0x11, 0x01, 2, 0, 0, 0, 0x05, 1, 0x00, 0x00,
+    0x00, 0, 3, 0, 0, 0, 0, 1, 0, 1, 0, 0, 0, 0, 0, 0x43, 0x50, 1, 0, 2, 0, 2, 0, 14, 0, 0, 0, 119, 0, 0, 0};
 
 static int failures = 0;
 
@@ -114,10 +121,56 @@ static void runs(size_t length)
     expect("four bytes for a cell", answer[0], 12);
 }
 
+/* The order that a find is: each thread, in rising order, as often as its counts say. */
+static size_t order_of(const uint64_t *answer, uint8_t threads, uint8_t *order)
+{
+    size_t length = 0;
+    for (int i = 0; i < ZARU_BENCH_COUNTS; i += 1)
+        for (uint64_t step = 0; step < answer[ZARU_BENCH_FIRST_COUNT + i]; step += 1)
+            order[length++] = (uint8_t)(i % threads);
+    return length;
+}
+
+static void benches(void)
+{
+    uint64_t answer[ZARU_BENCH_NUMBERS];
+    uint8_t cells[12], other[12], order[192];
+    memset(cells, 0xEE, sizeof cells);
+    memset(other, 0xEE, sizeof other);
+    zaru_bench(B, sizeof B, 0, 4, cells, 4, answer, ZARU_BENCH_NUMBERS);
+    expect("no round", answer[0], 13);
+    zaru_bench(B, sizeof B, UINT64_MAX, UINT64_MAX, cells, sizeof cells, answer, ZARU_BENCH_NUMBERS);
+    expect("too many rounds", answer[0], 13);
+    zaru_bench(B, sizeof B, 1, 1, cells, 4, answer, ZARU_BENCH_NUMBERS);
+    expect("four bytes for the bench's cell", answer[0], 12);
+    untouched("refused bench", cells, 0, sizeof cells);
+    zaru_bench(B, sizeof B, 2, 2, cells, sizeof cells, answer, ZARU_BENCH_NUMBERS);
+    for (int i = 0; i < ZARU_BENCH_NUMBERS; i += 1)
+        expect("none of B's orders blocks", answer[i], 0);
+    expect("the last order loses a share", cells[1], 1);
+    untouched("behind the bench's cell", cells, 5, sizeof cells);
+    zaru_bench(D, sizeof D, 2, 6, cells, sizeof cells, answer, ZARU_BENCH_NUMBERS);
+    const uint64_t wanted[ZARU_BENCH_NUMBERS] = {0, 1, 139, 0, 2, 5, 6};
+    for (int i = 0; i < ZARU_BENCH_NUMBERS; i += 1)
+        expect("bench of D", answer[i], wanted[i]);
+    size_t length = order_of(answer, 2, order);
+    uint64_t run[ZARU_RUN_NUMBERS];
+    zaru_run_concurrent(D, sizeof D, order, length, other, sizeof other, other, 0, run, ZARU_RUN_NUMBERS);
+    expect("the order found blocks", run[1], ZARU_BLOCKED);
+    expect("at its last entry", run[3], 1);
+    expect("by an index outside", run[5], ZARU_REASON_INDEX_OUTSIDE);
+    expect("equal cells", (uint64_t)memcmp(cells, other, sizeof cells), 0);
+    uint64_t few[4] = {99, 99, 99, 99};
+    zaru_bench(D, sizeof D, 2, 6, cells, sizeof cells, few, 3);
+    expect("the allotment's number", few[2], 139);
+    expect("no count", few[3], 99);
+}
+
 int main(void)
 {
     reads();
     runs(translations());
+    benches();
     if (failures == 0)
         printf("the C library answers as the paper says\n");
     return failures != 0;

@@ -1,6 +1,6 @@
-/* Zarukohen for C: read, translate and run tables. The calls are proved: on a stack that is large enough (below) none traps or runs
- * without end, whatever the bytes, and each determines every number of its answer and every byte of the lent buffers. docs/CONTRACTS.md
- * says in words what each promises.
+/* Zarukohen for C: read, translate and run tables, and try their orders. The calls are proved: on a stack that is large enough (below)
+ * none traps or runs without end, whatever the bytes, and each determines every number of its answer and every byte of the lent buffers.
+ * docs/CONTRACTS.md says in words what each promises.
  *
  * A buffer is a pointer and its length. Pointers must be valid for their lengths; a buffer of length 0 needs a non-null pointer. Lent
  * buffers must not overlap each other or the inputs. The numbers of an answer go into `answer`, each where the array has a place for it.
@@ -31,7 +31,10 @@ enum {
 };
 
 /* How many numbers the answers have. */
-enum { ZARU_READ_NUMBERS = 6, ZARU_TRANSLATE_NUMBERS = 2, ZARU_RUN_NUMBERS = 6 };
+enum { ZARU_READ_NUMBERS = 6, ZARU_TRANSLATE_NUMBERS = 2, ZARU_RUN_NUMBERS = 6, ZARU_BENCH_NUMBERS = 22 };
+
+/* The places of the bench's counts in its answer, and the most allotments that it tries. */
+enum { ZARU_BENCH_FIRST_COUNT = 3, ZARU_BENCH_COUNTS = 19, ZARU_MOST_ALLOTMENTS = 1000000 };
 
 /* The most steps that a translated program's copy may need, and the longest copy. */
 #define ZARU_BUDGET UINT64_C(140000000)
@@ -44,6 +47,7 @@ enum { ZARU_READ_NUMBERS = 6, ZARU_TRANSLATE_NUMBERS = 2, ZARU_RUN_NUMBERS = 6 }
 #define ZARU_STACK_TRANSLATE (48 * 1024)
 #define ZARU_STACK_RUN_CONCURRENT (112 * 1024)
 #define ZARU_STACK_RUN_SEQUENTIAL (352 * 1024)
+#define ZARU_STACK_BENCH (108 * 1024)
 
 /* answer: number, procedures, locations, threads, labels (sequential: 0), cells. */
 void zaru_read_concurrent(const uint8_t *table, size_t table_length, uint64_t *answer, size_t answer_length);
@@ -60,6 +64,16 @@ void zaru_run_concurrent(const uint8_t *table, size_t table_length, const uint8_
 void zaru_run_sequential(const uint8_t *table, size_t table_length, const uint8_t *schedule, size_t schedule_length,
                          uint64_t budget, size_t h, uint8_t *cells, size_t cells_length, uint8_t *events,
                          size_t events_length, uint64_t *answer, size_t answer_length);
+
+/* The round-robin bench: tries the orders of `rounds` rounds (k), in each round the threads in rising order, each given from 0 to `most`
+ * steps (s), up to the first that blocks. An order is an allotment: k times T counts, round by round; steps of a finished thread are left
+ * out. Allotment i is i written to base s + 1, the first count varying slowest, and there are (s + 1) to the power of k times T.
+ * answer: number, found (1 or 0), the allotment's number, its counts (19 places, the rest 0); without a find all zeros. Cells are those of
+ * the last run: of the one that blocked, before the blocked step, or of the last allotment. The schedule that the counts are, count c of
+ * thread t being c times t, makes zaru_run_concurrent block, and tells why.
+ * Refused by 13: k below 1, s not 1 to 64, or more than 1,000,000 allotments; it is judged after 8 and before 12. */
+void zaru_bench(const uint8_t *table, size_t table_length, uint64_t rounds, uint64_t most, uint8_t *cells,
+                size_t cells_length, uint64_t *answer, size_t answer_length);
 
 #ifdef __cplusplus
 }

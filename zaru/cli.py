@@ -9,7 +9,7 @@ from dataclasses import dataclass
 from pathlib import Path
 from typing import Callable, Dict, List, Optional, Sequence, Tuple
 
-from zaru import arguments, asm, blocked, engine, refusals
+from zaru import arguments, asm, bench, blocked, engine, refusals
 from zaru.accepted import READ_OPS, accepted_program
 from zaru.arguments import UsageError, Words
 from zaru.blocked import BUDGET
@@ -197,6 +197,17 @@ def command_trace(words: Words) -> List[str]:
     return trace(program, source.names_for(program), source.table, schedule)
 
 
+def command_bench(words: Words) -> List[str]:
+    if len(words.positional) != 3:
+        raise UsageError("a table, the number of rounds and the most steps of a thread in a round are needed")
+    name, rounds_word, steps_word = words.positional
+    rounds = arguments.whole("the number of rounds", rounds_word, MOST_IN_EIGHT_BYTES)
+    steps = arguments.whole("the most steps", steps_word, MOST_IN_FOUR_BYTES)
+    source = source_of(name)
+    program = accepted_program(CONCURRENT, source.table)
+    return bench.tell(program, name, source.table, rounds, steps)
+
+
 def command_copy(words: Words) -> List[str]:
     budget = arguments.whole("the budget", words.options.get("--budget", str(BUDGET)), MOST_IN_EIGHT_BYTES)
     h = arguments.whole("h", words.options.get("--h", str(MOST_IN_FOUR_BYTES)), MOST_IN_FOUR_BYTES)
@@ -281,6 +292,21 @@ parts that can block so: which of several it was is not known.
 An order has at most {LONGEST_ORDER} entries here.
 """,
     ),
+    "bench": Command(
+        "zaru bench TABLE ROUNDS STEPS",
+        command_bench,
+        """
+Tries the round-robin orders of a concurrent table and stops at the first whose run blocks.
+
+In each round every thread has a turn, thread 0 first, and takes from 0 to STEPS steps in it; a thread that is finished
+rests. An order says how many steps each turn has. They are tried by rising steps of the first turn, among these by
+rising steps of the second, and so on. STEPS is 1 to 64, and of (STEPS + 1) to the power of ROUNDS * T orders, for T
+threads, there may be 1,000,000.
+
+Of the first order that blocks it prints the steps by rounds and threads, the schedule that they are, why the run blocks,
+and the command that shows it step by step. Or it says that none blocks.
+""",
+    ),
     "copy": Command(
         "zaru copy COPY ORDER.. [--budget N] [--h N]",
         command_copy,
@@ -358,6 +384,7 @@ zaru: concurrent programs, their sequential copies, and what both do in a given 
   zaru translate TABLE -o COPY      writes its sequential copy
   zaru run TABLE ORDER..            runs program and copy in this order of threads
   zaru trace TABLE ORDER..          the same, a line for each step
+  zaru bench TABLE ROUNDS STEPS     tries round-robin orders: the first that blocks
   zaru copy COPY ORDER..            runs a sequential table alone; --budget N, --h N
   zaru show c|s TABLE               the table as text, with its labels
   zaru asm TEXT -o TABLE            text to table

@@ -17,10 +17,10 @@ from typing import List, Tuple
 
 from zaru.built import newer_source
 
-READ_CONCURRENT, READ_SEQUENTIAL, TRANSLATE, RUN_CONCURRENT, RUN_SEQUENTIAL, RUN_LINE = range(1, 7)
+READ_CONCURRENT, READ_SEQUENTIAL, TRANSLATE, RUN_CONCURRENT, RUN_SEQUENTIAL, RUN_LINE, BENCH = range(1, 8)
 GREETING = 90
 # The version of requests and lines; crates/cases/src/main.rt has it too.
-VERSION = 2
+VERSION = 3
 
 HEADER = 36
 # What the program is ready for.
@@ -39,6 +39,8 @@ BUILD = "`make zaru` builds it"
 
 ENDS = ("finished", "used", "blocked", "budget")
 LAST_REASON = 4
+# "at most 19 counts, the rest 0"
+COUNTS = 19
 
 
 class EngineError(Exception):
@@ -47,7 +49,7 @@ class EngineError(Exception):
 
 @dataclass(frozen=True)
 class Request:
-    """A call, with the lengths of the buffers that are lent to it."""
+    """A call, with the lengths of the buffers that are lent to it. The bench has its rounds as the budget, its steps as h."""
 
     op: int
     table: bytes
@@ -61,7 +63,7 @@ class Request:
     def header(self) -> bytes:
         lengths = [(len(self.table), 4), (len(self.schedule), 4), (self.budget, 8), (self.h, 4)]
         lengths += [(self.cells, 4), (self.events, 4), (self.out, 4)]
-        wants_bytes = self.op in (TRANSLATE, RUN_CONCURRENT, RUN_SEQUENTIAL)
+        wants_bytes = self.op in (TRANSLATE, RUN_CONCURRENT, RUN_SEQUENTIAL, BENCH)
         numbers = b"".join(number.to_bytes(length, "little") for number, length in lengths)
         return bytes([self.op, wants_bytes, 0, 0]) + numbers
 
@@ -69,6 +71,8 @@ class Request:
         """How many bytes of lent buffers come back."""
         if self.op == TRANSLATE:
             return self.out
+        if self.op == BENCH:
+            return self.cells
         return self.cells + self.events if self.op in (RUN_CONCURRENT, RUN_SEQUENTIAL) else 0
 
 
@@ -109,6 +113,16 @@ class Run:
     reason: int
     cell_bytes: bytes
     event_bytes: bytes
+
+
+@dataclass(frozen=True)
+class Bench:
+    """What the bench answers: was an order found that blocks, its number and its counts; the last run's cells (5 bytes each)."""
+
+    found: bool
+    number: int
+    counts: Tuple[int, ...]
+    cell_bytes: bytes
 
 
 class Refused(Exception):
@@ -209,6 +223,14 @@ def read(op: int, table: bytes) -> Shape:
 def translate(table: bytes) -> bytes:
     answer = accepted(ask([Request(TRANSLATE, table, out=COPY_ROOM)])[0])
     return answer.lent[: answer.number(1)]
+
+
+def bench(table: bytes, rounds: int, steps: int) -> Bench:
+    answer = accepted(ask([Request(BENCH, table, budget=rounds, h=steps, cells=CELL_ROOM)])[0])
+    found, number, *counts = (answer.number(place) for place in range(1, COUNTS + 3))
+    if found not in (0, 1) or (not found and any([number, *counts])):
+        raise EngineError(f"{engine_path()} answered `{' '.join(answer.words)}`: {BUILD}")
+    return Bench(found == 1, number, tuple(counts), answer.lent)
 
 
 def run_of(request: Request, answer: Answer) -> Run:

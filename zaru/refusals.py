@@ -19,6 +19,7 @@ REFUSALS = {
     10: "translator, and each later call that writes a table or text: output buffer too short for it",
     11: "run: schedule over 4,096 entries, or (concurrent) an entry not below T",
     12: "run: cell buffer shorter than 5 bytes a cell",
+    13: "bench: k (the rounds) below 1, s (the steps) not 1..64, or more than 1,000,000 allotments",
 }
 
 

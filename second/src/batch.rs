@@ -3,7 +3,8 @@
 //! A case is a header of 36 bytes, a table and a schedule. The header is: op (1 byte), whether the
 //! lent buffers are to be shown (1 byte, 0 or 1), 2 zero bytes, table length (4), schedule length
 //! (4), budget (8), h (4), cell buffer length (4), event buffer length (4), out buffer length (4),
-//! low byte first. A header whose op is 0 ends the batch.
+//! low byte first. A header whose op is 0 ends the batch. The bench has its rounds in the budget's
+//! place and the most steps of a count in h's.
 
 use crate::calls::*;
 use crate::line::line;
@@ -15,11 +16,13 @@ pub const RUN_CONCURRENT: u8 = 4;
 pub const RUN_SEQUENTIAL: u8 = 5;
 /// The table is the run program's whole standard input.
 pub const LINE: u8 = 6;
+/// The budget is the number of rounds, h the most steps of a count.
+pub const BENCH: u8 = 7;
 /// Asks for the version of cases and lines.
 pub const GREETING: u8 = 90;
 
 /// One more whenever a case or a line changes its form.
-pub const VERSION: u64 = 2;
+pub const VERSION: u64 = 3;
 
 const HEADER: usize = 36;
 
@@ -91,7 +94,7 @@ impl Case {
             events: four(28),
             out: four(32),
         };
-        let is_known = matches!(case.op, READ_CONCURRENT..=LINE | GREETING);
+        let is_known = matches!(case.op, READ_CONCURRENT..=BENCH | GREETING);
         is_known.then_some((case, rest))
     }
 
@@ -112,6 +115,7 @@ impl Case {
             TRANSLATE => self.translation(),
             RUN_CONCURRENT | RUN_SEQUENTIAL => self.run(),
             LINE => self.told(format!("{} {}", self.op, line(&self.table))),
+            BENCH => self.bench(),
             _ => self.told(format!("{} {VERSION}", self.op)),
         }
     }
@@ -152,6 +156,16 @@ impl Case {
             fnv(&events)
         );
         self.lending(line, [cells, events].concat())
+    }
+
+    fn bench(&self) -> Answer {
+        let mut cells = lent(self.cells);
+        let answer = bench(&self.table, self.budget, u64::from(self.h), &mut cells);
+        let found = u8::from(answer.found);
+        let numbers = format!("{} {} {found} {}", self.op, answer.number, answer.allotment);
+        let counts = answer.counts.map(|count| count.to_string()).join(" ");
+        let hash = fnv(&cells);
+        self.lending(format!("{numbers} {counts} {hash:016x}"), cells)
     }
 
     fn told(&self, line: String) -> Answer {
@@ -203,6 +217,7 @@ fn fnv(bytes: &[u8]) -> u64 {
 #[cfg(test)]
 mod tests {
     use super::*;
+    use crate::bench::COUNTS;
     use crate::samples::A;
 
     #[test]
@@ -277,7 +292,11 @@ mod tests {
             format!("5 1 0 0 0 0 0 {empty} {empty}")
         );
         assert_eq!(line(LINE), "6 refused 1");
-        assert_eq!(line(GREETING), "90 2");
+        assert_eq!(
+            line(BENCH),
+            format!("7 13 0 0{} {empty}", " 0".repeat(COUNTS))
+        );
+        assert_eq!(line(GREETING), "90 3");
     }
 
     #[test]

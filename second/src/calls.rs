@@ -2,6 +2,7 @@
 //!
 //! "A refusal returns its number and zeros and writes nothing."
 
+use crate::bench::{self, Search};
 use crate::program::{Kind, Program};
 use crate::record::{write_cells, Events, Run};
 use crate::verdict::verdict;
@@ -35,6 +36,16 @@ pub struct RunAnswer {
     pub unused: u64,
     pub events: u64,
     pub reason: u8,
+}
+
+/// The bench "answers that allotment (at most 19 counts, the rest 0) and its number from 0, or
+/// "none""; without a find the number and all counts are 0.
+#[derive(Clone, Copy, PartialEq, Eq, Debug, Default)]
+pub struct BenchAnswer {
+    pub number: u8,
+    pub found: bool,
+    pub allotment: u64,
+    pub counts: [u8; bench::COUNTS],
 }
 
 pub fn read_concurrent(table: &[u8]) -> ReadAnswer {
@@ -166,5 +177,40 @@ fn run_answer(run: Result<Run, u8>, cells: &mut [u8]) -> RunAnswer {
                 reason: run.end.reason(),
             }
         }
+    }
+}
+
+/// "Refusals: 13 [..] after 8; 12 as in a run, after 13."
+pub fn bench(table: &[u8], k: u64, s: u64, cells: &mut [u8]) -> BenchAnswer {
+    let search = verdict(table, Kind::Concurrent).and_then(|program| {
+        let allotment = bench::first_allotment(k, s, program.mains.len())?;
+        cells_fit(&program, cells)?;
+        Ok(bench::search(&program, allotment, s as u8))
+    });
+    match search {
+        Err(number) => BenchAnswer {
+            number,
+            ..BenchAnswer::default()
+        },
+        Ok(search) => {
+            write_cells(&search.heap, cells);
+            bench_answer(&search)
+        }
+    }
+}
+
+fn bench_answer(search: &Search) -> BenchAnswer {
+    let Some((number, allotment)) = &search.blocked else {
+        return BenchAnswer::default();
+    };
+    let mut counts = [0; bench::COUNTS];
+    for (place, count) in counts.iter_mut().zip(allotment) {
+        *place = *count;
+    }
+    BenchAnswer {
+        number: 0,
+        found: true,
+        allotment: *number,
+        counts,
     }
 }

@@ -2,6 +2,8 @@
 //! rules, the translation and both machines walk these trees.
 
 pub mod batch;
+pub mod bench;
+pub mod bench_samples;
 pub mod bodies;
 pub mod builder;
 pub mod calls;

@@ -106,6 +106,15 @@ class WrongUse(Command):
         self.check("an order of 513 entries is too long; the most is 512", "trace", "b.table", ",".join("0" * 513))
         self.check("an order of 5,001 entries is too long; the most is 5,000", "run", "b.table", ",".join("0" * 5001))
 
+    def test_bounds_of_the_bench(self) -> None:
+        needed = "a table, the number of rounds and the most steps of a thread in a round are needed"
+        for words in ([], ["b.table"], ["b.table", "1"], ["b.table", "1", "1", "1"]):
+            self.check(needed, "bench", *words)
+        self.check("the number of rounds is a number from 0 to 18,446,744,073,709,551,615, not x", "bench", "b.table", "x", "1")
+        self.check("the number of rounds is a number from 0 to 18,446,744,073,709,551,615, not -1", "bench", "b.table", "-1", "1")
+        self.check("the most steps is a number from 0 to 4,294,967,295, not 4294967296", "bench", "b.table", "1", "4294967296")
+        self.check("unknown option --h", "bench", "b.table", "1", "1", "--h", "1")
+
     def test_files(self) -> None:
         self.check("none.table cannot be read: No such file or directory", "read", "c", "none.table")
         self.check(". cannot be read: Is a directory", "read", "c", ".")
@@ -132,14 +141,14 @@ class WrongEngine(Command):
         self.check(path, f"cannot be run: [Errno 13] Permission denied: '{path}'")
 
     def test_no_greeting(self) -> None:
-        for said in ("true", "echo 90", "echo 90 1", "echo 90 22", "echo 1 0 1 1 2 4 1"):
-            self.check_script(said, "does not greet with version 2: `make zaru` builds it")
+        for said in ("true", "echo 90", "echo 90 2", "echo 90 33", "echo 1 0 1 1 2 4 1"):
+            self.check_script(said, "does not greet with version 3: `make zaru` builds it")
 
     def test_no_answer(self) -> None:
-        self.check_script("echo 90 2", "did not answer call 1: `make zaru` builds it")
-        self.check_script("echo 90 2; echo 2 0 1 1 0 0 1", "did not answer call 1: `make zaru` builds it")
-        self.check_script("echo 90 2; echo 1 0 1 x", "answered `0 1 x`: `make zaru` builds it")
-        self.check_script("echo 90 2; echo 1", "answered ``: `make zaru` builds it")
+        self.check_script("echo 90 3", "did not answer call 1: `make zaru` builds it")
+        self.check_script("echo 90 3; echo 2 0 1 1 0 0 1", "did not answer call 1: `make zaru` builds it")
+        self.check_script("echo 90 3; echo 1 0 1 x", "answered `0 1 x`: `make zaru` builds it")
+        self.check_script("echo 90 3; echo 1", "answered ``: `make zaru` builds it")
 
     def test_a_reason_that_does_not_fit(self) -> None:
         """A reason without a blocked run, a blocked run without one, and numbers that there are none of."""
@@ -151,11 +160,11 @@ class WrongEngine(Command):
         self.assertEqual(engine_module.run_of(Request(engine_module.RUN_CONCURRENT, samples.B), answer).reason, 3)
 
     def test_more_than_an_answer(self) -> None:
-        lines = "echo 90 2; echo 1 0 1 1 2 4 1"
+        lines = "echo 90 3; echo 1 0 1 1 2 4 1"
         self.check_script(f"{lines}; echo", "answered more than it was asked: `make zaru` builds it")
 
     def test_bad_ends(self) -> None:
-        lines = "echo 90 2; echo 1 0 1 1 2 4 1"
+        lines = "echo 90 3; echo 1 0 1 1 2 4 1"
         self.check_script(f"{lines}; exit 7", "ended with status 7: `make zaru` builds it")
         self.check_script(f"{lines}; kill -SEGV $$", "was ended by signal SIGSEGV: `make zaru` builds it")
 
@@ -172,7 +181,7 @@ class Faults(Command):
         """Every command that takes a text: the last number of each is read as one more."""
         message = "b.zaru: a fault of zaru: the text that it shows is read as another program"
         commands = ["read c b.zaru", "translate b.zaru -o new", "translate b.zaru -o new.zaru", "run b.zaru 0 0"]
-        commands += ["trace b.zaru 0 0", "copy b.zaru 0", "show c b.zaru", "asm b.zaru -o new"]
+        commands += ["trace b.zaru 0 0", "bench b.zaru 1 1", "copy b.zaru 0", "show c b.zaru", "asm b.zaru -o new"]
         with mock.patch("zaru.asm.literal", lambda token, sign: t.Number(sign * int(token.text) + 1)):
             for command in commands:
                 self.check(message, *command.split())
@@ -236,7 +245,7 @@ class WithoutEngine(Command):
         overview = self.zaru("help")
         self.assertEqual((overview.status, overview.err), (0, ""))
         self.assertEqual(self.zaru("--help"), overview)
-        for command in "read translate run trace copy show asm help".split():
+        for command in "read translate run trace bench copy show asm help".split():
             self.assertIn(f"  zaru {command} ", overview.out)
             told = self.zaru("help", command)
             self.assertTrue(told.out.startswith(f"usage: zaru {command}"), told)

@@ -8,7 +8,9 @@
 // A line has the call's number, the numbers of its answer, and a hash of each lent buffer. Where they are to be shown, their bytes
 // follow it. Before a call byte i of a lent buffer is the low byte of 7 * i + 13.
 //
-// What can be called: the six calls below by 1 to 6, and the greeting by 90 (hexadecimal 5A, far from the calls that may still come). A
+// The bench has its rounds in the budget's place and the most steps of a count in h's.
+//
+// What can be called: the seven calls below by 1 to 7, and the greeting by 90 (hexadecimal 5A, far from the calls that may still come). A
 // greeting's line has the version of requests and lines, so that the command `zaru` does not read the lines of another program.
 mod buffers;
 mod print;
@@ -49,10 +51,12 @@ const RUN_SEQUENTIAL: u8 = 5;
 
 const RUN_PROGRAM: u8 = 6;
 
+const BENCH: u8 = 7;
+
 const GREETING: u8 = 90;
 
 // One more whenever a request, or a line that answers one, changes its form. `zaru/engine.py` and `second/src/batch.rs` have it too.
-const VERSION: u64 = 2;
+const VERSION: u64 = 3;
 
 // What is asked for, beside the table and the schedule.
 struct Request {
@@ -176,6 +180,29 @@ fn run_machine(request: Request, table: &[u8], schedule: &[u8]) {
     lend_cells(request, table, schedule, &mut cells, &mut events);
 }
 
+// Tries a table's round-robin orders with a lent buffer.
+fn answer_bench(request: Request, table: &[u8], cells: &mut [u8]) {
+    buffers::fill(cells);
+    let r = bench::bench(table, request.budget, request.h as u64, cells);
+    print::bench(BENCH, r);
+    print::hash(cells);
+    print::end_line();
+    print::show(request.shown, cells);
+}
+
+// Lends the first bytes of a buffer to the bench.
+fn lend_bench(request: Request, table: &[u8], cells: &mut [u8]) {
+    let n = request.cells;
+    if n <= cells.len() {
+        answer_bench(request, table, &mut cells[..n]);
+    }
+}
+
+fn try_orders(request: Request, table: &[u8]) {
+    let mut cells = [0u8; LONGEST_CELLS];
+    lend_bench(request, table, &mut cells);
+}
+
 // The run program's line on its whole input.
 fn run_program(input: &[u8]) {
     let mut line = [0u8; LINE];
@@ -193,6 +220,7 @@ fn answer(request: Request, table: &[u8], schedule: &[u8]) -> bool {
         RUN_CONCURRENT => run_machine(request, table, schedule),
         RUN_SEQUENTIAL => run_machine(request, table, schedule),
         RUN_PROGRAM => run_program(table),
+        BENCH => try_orders(request, table),
         GREETING => print::greeting(GREETING, VERSION),
         _ => return false,
     }

@@ -1,8 +1,12 @@
 // The lines on standard output.
 use super::buffers;
+use allotments::BenchAnswer;
 use format::ReadAnswer;
 use semantics::RunAnswer;
 use translation::WriteAnswer;
+
+// "at most 19 counts, the rest 0".
+const COUNTS: usize = 19;
 
 // A space, then the number.
 fn number(n: u64) {
@@ -49,6 +53,19 @@ pub fn run(call: u8, r: RunAnswer) {
     number(r.unused as u64);
     number(r.events);
     number(r.reason as u64);
+}
+
+// The bench's answer.
+pub fn bench(call: u8, r: BenchAnswer) {
+    io::print_decimal(1, call as u64);
+    number(r.number as u64);
+    number(r.found as u64);
+    number(r.allotment);
+    let mut i = 0;
+    while i < COUNTS {
+        number(r.counts[i] as u64);
+        i += 1;
+    }
 }
 
 // A line that has its newline.

@@ -1,15 +1,19 @@
 -- Numbers stored one after the other in a lent array.
-use Prim.Native.Nat.{ℕ, zero, suc, _+_, _≤_}
+use Prim.Native.Nat.{ℕ, zero, suc, _+_, _≤_, _<_}
 use native.Mathlib.Omega.{arith}
-use mathlib.Core.Path.{_≡_, refl, ap, ap₂, _∙_}
+use mathlib.Core.Path.{_≡_, refl, sym, ap, ap₂, _∙_}
 use mathlib.Core.List.{List, [], _∷_}
-use lib.ListN.{length, set}
+use lib.ListN.{length, getD, set, drop, length-set, drop-of-length-le}
+use lib.Seq.{drop-cons}
 use Rattle.format.specs.declared.ReadAnswer.{ReadAnswer}
 use Rattle.translation.specs.declared.WriteAnswer.{WriteAnswer}
 use Rattle.translation.specs.Calls.{Written}
 use Rattle.semantics.specs.declared.RunAnswer.{RunAnswer}
 use Rattle.semantics.specs.Calls.{Outcome}
-use Rattle.clib.specs.Numbers.{stored, readNumbers, writeNumbers, runNumbers, Translated, translated, Ran, ran}
+use Rattle.allotments.specs.declared.BenchAnswer.{BenchAnswer}
+use Rattle.allotments.specs.Bench as Bench
+use Rattle.clib.specs.Numbers.{stored, readNumbers, writeNumbers, runNumbers, benchNumbers, flag}
+use Rattle.clib.specs.Numbers.{Translated, translated, Ran, ran, Benched, benched}
 
 -- past the end nothing is stored
 pub set-past : (xs : List ℕ) (i n : ℕ) → length xs ≤ i → xs ≡ set xs i n
@@ -36,6 +40,44 @@ pub run-stored : (r : RunAnswer) (xs ys zs : List ℕ) → ys ≡ set (set (set 
     → zs ≡ set (set (set ys 3 (r .unused)) 4 (r .events)) 5 (r .reason) → zs ≡ stored 0 (runNumbers r) xs
 run-stored r xs ys zs e f = f ∙ ap (λ us. set (set (set us 3 (r .unused)) 4 (r .events)) 5 (r .reason)) e
 
+-- counts are stored one by one from place 3 on: what the rest of them leaves is what all leave
+pub record Storing (xs cs ys : List ℕ) (i : ℕ) : Type 0 where
+  pub back : stored (i + 3) (drop i cs) ys ≡ stored 3 cs xs
+  pub same : length ys ≡ length xs
+  pub long : length cs ≡ 19
+  pub within : i ≤ 19
+
+-- none is stored yet
+pub storing-begins : (xs cs : List ℕ) → length cs ≡ 19 → Storing xs cs xs 0
+storing-begins xs cs e = record { back = refl; same = refl; long = e; within = omega arith }
+
+-- one more
+pub storing-goes : {xs cs ys zs : List ℕ} {i : ℕ} → Storing xs cs ys i → i < 19 → zs ≡ set ys (i + 3) (getD cs i 0)
+    → Storing xs cs zs (i + 1)
+storing-goes {xs = xs} {cs = cs} {ys = ys} {zs = zs} {i = i} s h f =
+    let here : drop i cs ≡ getD cs i 0 ∷ drop (suc i) cs = drop-cons cs i 0 (omega (arith, s .long)) in
+    let place : i + 1 + 3 ≡ suc (i + 3) = omega arith in
+    let after : i + 1 ≡ suc i = omega arith in
+    let next : stored (suc (i + 3)) (drop (suc i) cs) zs ≡ stored 3 cs xs
+    = ap (stored (suc (i + 3)) (drop (suc i) cs)) f ∙ sym (ap (λ ns. stored (i + 3) ns ys) here) ∙ s .back
+    in
+    record {
+      back = ap₂ (λ n m. stored n (drop m cs) zs) place after ∙ next;
+      same = ap length f ∙ length-set ys (i + 3) (getD cs i 0) ∙ s .same;
+      long = s .long;
+      within = omega arith;
+    }
+
+-- all
+pub storing-ends : {xs cs ys : List ℕ} {i : ℕ} → Storing xs cs ys i → 19 ≤ i → ys ≡ stored 3 cs xs
+storing-ends {xs = xs} {cs = cs} {ys = ys} {i = i} s h =
+    ap (λ ns. stored (i + 3) ns ys) (sym (drop-of-length-le cs {i = i} (omega (arith, s .long)))) ∙ s .back
+
+-- the numbers of the bench
+pub bench-stored : (r : BenchAnswer) (xs ys zs : List ℕ) → ys ≡ set (set (set xs 0 (r .number)) 1 (flag (r .found))) 2 (r .allotment)
+    → zs ≡ stored 3 (r .counts) ys → zs ≡ stored 0 (benchNumbers r) xs
+bench-stored r xs ys zs e f = f ∙ ap (stored 3 (r .counts)) e
+
 -- the answer of a read is what it is said to be
 pub read-told : (r s : ReadAnswer) (xs ys : List ℕ) → r ≡ s → ys ≡ stored 0 (readNumbers r) xs → ys ≡ stored 0 (readNumbers s) xs
 read-told r s xs ys e f = f ∙ ap (λ r. stored 0 (readNumbers r) xs) e
@@ -50,5 +92,24 @@ pub run-told : (r : RunAnswer) (cs es xs ys : List ℕ) (o : Outcome) → record
     → ys ≡ stored 0 (runNumbers r) xs → _≡_ {A = Ran} (record { cells = cs; events = es; answer = ys }) (ran o xs)
 run-told r cs es xs ys o e f = ap (λ ys. record { cells = cs; events = es; answer = ys }) f ∙ ap (λ o. ran o xs) e
 
+-- of the bench
+pub bench-told : (r : BenchAnswer) (cs xs ys : List ℕ) (o : Bench.Outcome) → record { answer = r; cells = cs } ≡ o
+    → ys ≡ stored 0 (benchNumbers r) xs → _≡_ {A = Benched} (record { cells = cs; answer = ys }) (benched o xs)
+bench-told r cs xs ys o e f = ap (λ ys. record { cells = cs; answer = ys }) f ∙ ap (λ o. benched o xs) e
+
 -- one law for each function
-pub ruleset stores = (set-past, three, read-stored, write-stored, run-stored, read-told, write-told, run-told)
+pub ruleset stores = (
+  set-past,
+  three,
+  storing-begins,
+  storing-goes,
+  storing-ends,
+  read-stored,
+  write-stored,
+  run-stored,
+  bench-stored,
+  read-told,
+  write-told,
+  run-told,
+  bench-told,
+)

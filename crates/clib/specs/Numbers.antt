@@ -1,5 +1,6 @@
 -- The numbers of an answer in a lent array, for callers that have no structs of ours.
 use Prim.Native.Nat.{ℕ, suc}
+use mathlib.Core.Bool.{Bool, true, false}
 use mathlib.Core.List.{List, [], _∷_}
 use lib.ListN.{set}
 use Rattle.format.specs.declared.ReadAnswer.{ReadAnswer}
@@ -7,6 +8,8 @@ use Rattle.translation.specs.declared.WriteAnswer.{WriteAnswer}
 use Rattle.translation.specs.Calls.{Written}
 use Rattle.semantics.specs.declared.RunAnswer.{RunAnswer}
 use Rattle.semantics.specs.Calls.{Outcome}
+use Rattle.allotments.specs.declared.BenchAnswer.{BenchAnswer}
+use Rattle.allotments.specs.Bench as Bench
 
 -- numbers from place i on, each where there is such a place; all others stay
 abbrev pub stored : ℕ → List ℕ → List ℕ → List ℕ
@@ -25,6 +28,15 @@ writeNumbers r = r .number ∷ r .length ∷ []
 abbrev pub runNumbers : RunAnswer → List ℕ
 runNumbers r = r .number ∷ r .end ∷ r .steps ∷ r .unused ∷ r .events ∷ r .reason ∷ []
 
+-- found is 1, none is 0
+abbrev pub flag : Bool → ℕ
+flag true = 1
+flag false = 0
+
+-- the number, whether an allotment was found, its number and its counts
+abbrev pub benchNumbers : BenchAnswer → List ℕ
+benchNumbers r = r .number ∷ flag (r .found) ∷ r .allotment ∷ r .counts
+
 -- what a translation leaves in both lent arrays
 pub record Translated : Type 0 where
   pub out : List ℕ
@@ -41,3 +53,11 @@ pub record Ran : Type 0 where
 
 abbrev pub ran : Outcome → List ℕ → Ran
 ran o answer = record { cells = o .cells; events = o .events; answer = stored 0 (runNumbers (o .answer)) answer }
+
+-- what the bench leaves in both lent arrays
+pub record Benched : Type 0 where
+  pub cells : List ℕ
+  pub answer : List ℕ
+
+abbrev pub benched : Bench.Outcome → List ℕ → Benched
+benched o answer = record { cells = o .cells; answer = stored 0 (benchNumbers (o .answer)) answer }

@@ -1,5 +1,6 @@
 // The calls for programs in C: a slice is a pointer and a length, and the numbers of an answer go into a lent array, each where the
-// array has a place for it. May use `reader`, `translator`, `machines` and the types that they answer. Read specs/Numbers.antt first.
+// array has a place for it. May use `reader`, `translator`, `machines`, `bench` and the types that they answer. Read specs/Numbers.antt first.
+use allotments::BenchAnswer;
 use format::ReadAnswer;
 use semantics::RunAnswer;
 use translation::WriteAnswer;
@@ -10,7 +11,12 @@ ghost use Rattle.format.specs.Syntax.{concurrent, sequential};
 ghost use Rattle.format.specs.Calls.{readCall};
 ghost use Rattle.translation.specs.Calls.{translateCall};
 ghost use Rattle.semantics.specs.Calls.{concurrentCall, sequentialCall};
-ghost use Rattle.clib.specs.Numbers.{stored, readNumbers, writeNumbers, runNumbers, Translated, translated, Ran, ran};
+ghost use Rattle.allotments.specs.Bench.{benchCall};
+ghost use Rattle.clib.specs.Numbers.{stored, readNumbers, writeNumbers, runNumbers, benchNumbers};
+ghost use Rattle.clib.specs.Numbers.{Translated, translated, Ran, ran, Benched, benched};
+
+// "at most 19 counts, the rest 0".
+const COUNTS: usize = 19;
 
 // Number i of an answer.
 fn store(answer: &mut [u64], i: usize, n: u64)
@@ -59,6 +65,25 @@ fn store_run(answer: &mut [u64], r: RunAnswer)
 {
     store_three(answer, 0, r.number as u64, r.end as u64, r.steps);
     store_three(answer, 3, r.unused as u64, r.events, r.reason as u64);
+}
+
+// The counts of an allotment, from place 3 on.
+fn store_counts(answer: &mut [u64], r: BenchAnswer)
+    ensures { λ _. ⌜ now (answer .exit) ≡ stored 3 (r .counts) (now (answer .entry)) ⌝ }
+{
+    let mut i = 0;
+    while i < COUNTS {
+        store(answer, i + 3, r.counts[i] as u64);
+        i += 1;
+    }
+}
+
+// The 22 numbers of the bench.
+fn store_bench(answer: &mut [u64], r: BenchAnswer)
+    ensures { λ _. ⌜ now (answer .exit) ≡ stored 0 (benchNumbers r) (now (answer .entry)) ⌝ }
+{
+    store_three(answer, 0, r.number as u64, r.found as u64, r.allotment);
+    store_counts(answer, r);
 }
 
 // Reads a concurrent table.
@@ -121,4 +146,20 @@ pub extern "C" fn zaru_run_sequential(
 {
     let r = machines::run_sequential(table, schedule, budget, h, cells, events);
     store_run(answer, r);
+}
+
+// Tries a concurrent table's round-robin orders.
+#[no_mangle]
+pub extern "C" fn zaru_bench(
+    table: &[u8],
+    rounds: u64,
+    most: u64,
+    cells: &mut [u8],
+    answer: &mut [u64],
+)
+    ensures { λ _. ⌜ _≡_ {A = Benched} (record { cells = now (cells .exit); answer = now (answer .exit) })
+        (benched (benchCall (now (table .entry)) rounds most (now (cells .entry))) (now (answer .entry))) ⌝ }
+{
+    let r = bench::bench(table, rounds, most, cells);
+    store_bench(answer, r);
 }

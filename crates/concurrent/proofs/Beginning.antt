@@ -153,7 +153,8 @@ body-of (p ∷ ps) (suc m) e = body-of ps m e
 -- each thread begins with one frame, whose locals are not set
 module _ {p : Program Plain} {t map bounds labels depths ls : List ℕ} {i : ℕ} (sound : Sound concurrent p) (mapped : Mapped p map bounds)
     (mains : (k m : ℕ) → at (p .mains) k ≡ is m → numberAt 2 t (i + 2 * k) ≡ m) (B : Begins t i (length (p .mains)) bounds labels depths)
-    (zeros : (k : ℕ) → getD ls k 0 ≡ 0) (long : length ls ≡ threadWords) where
+    (zeros : (k x : ℕ) → k < length (p .mains) → x < frameWords → getD ls (frameWords * (threadFrames * k) + x) 0 ≡ 0)
+    (long : length ls ≡ threadWords) where
   -- the frame of thread k
   first-frame : (k m : ℕ) (q : Proc ℕ) → at (p .mains) k ≡ is m → at (labelled p .procs) m ≡ is q
       → FrameAt p ls (getD labels (threadFrames * k + 0) 0) (threadFrames * k + 0) (entered m q [])
@@ -170,7 +171,13 @@ module _ {p : Program Plain} {t map bounds labels depths ls : List ℕ} {i : ℕ
             ∙ mapped .begins m (at-below (p .procs) m (found .1)) ∙ ap (first (endsOf p m)) (body-of (labelled p .procs) m f);
         framed =
             framed-entered {fb = frameWords * (threadFrames * k + 0)} {n = q .locals} [] (framed-none (omega arith)) (omega arith) fits
-            (record { beside = beside-same; zero = λ x a b. zeros x });
+            (record {
+              beside = beside-same;
+              zero = λ x a b.
+                  let y : ℕ = x - frameWords * (threadFrames * k) in
+                  let same : x ≡ frameWords * (threadFrames * k) + y = omega arith in
+                  rw same (zeros k y low (omega (arith, few)));
+            });
         full = λ r g. length-replicate (q .locals - 0) nothing ∙ omega (arith, ap (λ (z : Proc ℕ). z .locals) (is-inj (sym f ∙ g)));
       }
 

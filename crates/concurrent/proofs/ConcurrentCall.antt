@@ -39,7 +39,8 @@ use Rattle.semantics.specs.Memory.{Memory}
 use Rattle.semantics.specs.Threads as P
 use Rattle.semantics.specs.Buffers.{cells}
 use Rattle.semantics.specs.Calls.{Outcome, refusal, untouched, maxEntries, scheduled, roomy, runAs, concurrentOutcome, concurrentCall, result}
-use Rattle.engine.specs.Work.{threadWords, programWords, flat, Bases, sizesAt, Starts, Writes}
+use Rattle.engine.specs.Work.{frameWords, threadWords, programWords, flat, Bases, sizesAt, Starts, Writes}
+use Rattle.atomic.specs.Threaded.{threadFrames}
 use Rattle.concurrent.specs.Concurrent.{scheduledBelow, SaysScheduled, Entries, MainsAt, Begins, Starting, RanAs, Runs, Accepted, Outcomes}
 use Rattle.engine.specs.Laws.Holding.{length-flat, holds-fresh}
 use Rattle.engine.specs.Laws.Starting.{sizes-stand}
@@ -65,7 +66,7 @@ module _ {t : List ℕ} {P M T c : ℕ} (a : Accepted t P M T c) where
   }
 
   -- the label map is that of its program
-  accepted-map : {map bounds : List ℕ} {n : ℕ} → MapsLabels t P map bounds n → Mapped (a .program) map bounds
+  pub accepted-map : {map bounds : List ℕ} {n : ℕ} → MapsLabels t P map bounds n → Mapped (a .program) map bounds
   accepted-map W =
       let formed : Formed concurrent t (a .program) = rw (a .same) (sound-formed concurrent (a .program) (a .sound)) in
       W .gives (a .program) formed (sym (a .procs)) (a .sound .labels) .0
@@ -75,7 +76,7 @@ module _ {t : List ℕ} {P M T c : ℕ} (a : Accepted t P M T c) where
   mains-at = omega (arith, trailer-at concurrent (a .program) (a .same), length-table concurrent (a .program) (a .same), a .threads)
 
   -- the main of thread k
-  main-read : (k m : ℕ) → at (a .program .mains) k ≡ is m → numberAt 2 t (length t - trailerSize - 2 * T + 2 * k) ≡ m
+  pub main-read : (k m : ℕ) → at (a .program .mains) k ≡ is m → numberAt 2 t (length t - trailerSize - 2 * T + 2 * k) ≡ m
   main-read k m e =
       let found = main-at (a .sound) k m e in
       let low : m < 256 ^ 2 = omega (arith, at-below (a .program .procs) m (found .1), a .sound .procs .high) in
@@ -97,7 +98,7 @@ module _ {t : List ℕ} {P M T c : ℕ} (a : Accepted t P M T c) where
   }
 
   -- its sizes stand before them
-  sizes-at : sizesAt t (length t - trailerSize - 2 * T - 2 * M) M ≡ a .program .sizes
+  pub sizes-at : sizesAt t (length t - trailerSize - 2 * T - 2 * M) M ≡ a .program .sizes
   sizes-at =
       let p : Program Plain = a .program in
       let bodies : List ℕ = each block (bodiesOf (p .procs)) in
@@ -138,7 +139,7 @@ accepted-starting {t} {T = T} {bounds = bounds} {ss} {labels} {depths} a es W S 
   entries = es;
   threads =
       starts-threaded (a .sound) (accepted-map a W) (main-read a)
-      (subst (λ (n : ℕ). Begins t (length t - trailerSize - 2 * T) n bounds labels depths) (a .threads) B) (zeros threadWords)
+      (subst (λ (n : ℕ). Begins t (length t - trailerSize - 2 * T) n bounds labels depths) (a .threads) B) (λ k x l m. zeros threadWords (frameWords * (threadFrames * k) + x))
       (length-replicate {A = ℕ} threadWords 0);
   long = length-replicate {A = ℕ} threadWords 0;
   cells = holds-fresh (a .program .sizes) {n = programWords} (omega (arith, a .sound .cells));

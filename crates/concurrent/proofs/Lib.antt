@@ -2,6 +2,8 @@
 
 -- the first frames of the threads of the concurrent machine
 pub mod Beginning
+-- the state that a run of a prepared program begins with
+pub mod Renewing
 -- the run of the concurrent machine, step by step
 pub mod ConcurrentRun
 -- the call of the concurrent machine, from the table to the answer

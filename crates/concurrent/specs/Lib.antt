@@ -6,5 +6,7 @@ pub mod Turning
 pub mod Stepping
 -- the run of the concurrent machine at work
 pub mod Concurrent
+-- a program that is prepared once and run many times
+pub mod Anew
 -- what these are worth
 pub mod Laws

@@ -54,7 +54,7 @@ fn finished(depths: &[usize; THREADS], threads: usize) -> bool
 }
 
 // "Then per thread its main procedure", from `at` on: each thread begins with one frame, at the first label of its main.
-fn begin(
+pub fn begin(
     t: &[u8],
     at: usize,
     threads: usize,
@@ -137,7 +137,7 @@ fn go(
 }
 
 // The final cells, `count` of them.
-fn write_out(words: &[u64; PROGRAM_WORDS], count: usize, out: &mut [u8])
+pub fn write_out(words: &[u64; PROGRAM_WORDS], count: usize, out: &mut [u8])
     requires { ⌜ count ≤ programWords ⌝ }
     ensures { λ _. ⌜ Writes (now (words .entry)) count (now (out .entry)) (now (out .exit)) ⌝ }
 {

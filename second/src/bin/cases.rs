@@ -5,6 +5,7 @@
 //! calls are written, behind the greeting. The seed is fixed, so both files are always the same.
 
 use second::batch::*;
+use second::bench_samples::{benched, blocks_after, d, racing};
 use second::builder::*;
 use second::calls::{read_concurrent, read_sequential, run_sequential, translate};
 use second::concurrent::Concurrent;
@@ -28,11 +29,14 @@ const LARGE_PROGRAMS: usize = 4;
 const RANDOM_SEQUENTIAL_PROGRAMS: usize = 200;
 const LARGE_SEQUENTIAL_PROGRAMS: usize = 10;
 const DAMAGED_TABLES: usize = 500;
+const RANDOM_BENCHES: usize = 400;
+/// No stored bench tries more allotments.
+const MOST_TRIED: u64 = 5_000;
 
 fn main() -> std::io::Result<()> {
     let paths: Vec<String> = std::env::args().skip(1).collect();
     let (stdin, stdout, ops) = match paths.as_slice() {
-        [stdin, stdout] => (stdin, stdout, "123456"),
+        [stdin, stdout] => (stdin, stdout, "1234567"),
         [stdin, stdout, ops] => (stdin, stdout, ops.as_str()),
         _ => {
             eprintln!("usage: cases STDIN STDOUT [OPS]");
@@ -90,6 +94,13 @@ fn whole_batch(ops: &str) -> Batch {
     batch.section = "damaged tables";
     for number in 0..DAMAGED_TABLES {
         damaged_table(number, &mut batch, &mut random);
+    }
+    batch.section = "benches";
+    benches(&mut batch);
+    batch.section = "random benches";
+    let mut random = Random::new(SEED + 102);
+    for number in 0..RANDOM_BENCHES {
+        random_bench(number, &mut batch, &mut random);
     }
     batch.input.extend(last_header());
     batch
@@ -153,6 +164,7 @@ fn outcome(line: &str) -> String {
         "3" => "translate",
         "4" => "run_concurrent",
         "5" => "run_sequential",
+        "7" => "bench",
         _ => "line",
     };
     let result = match (words[0], words[1], words[2]) {
@@ -161,6 +173,8 @@ fn outcome(line: &str) -> String {
         ("6", end, _) => end.to_string(),
         ("4" | "5", "0", "2") => format!("blocked by {}", words[6]),
         ("4" | "5", "0", end) => end_name(end).to_string(),
+        ("7", "0", "0") => "none".to_string(),
+        ("7", "0", _) => "found".to_string(),
         (_, "0", _) => "accepted".to_string(),
         (_, number, _) => format!("refused {number:>2}"),
     };
@@ -224,6 +238,17 @@ fn input_case(input: &[u8]) -> Case {
     Case {
         op: LINE,
         table: input.to_vec(),
+        ..Case::default()
+    }
+}
+
+fn bench_case(table: &[u8], rounds: u64, most: u32, cells: u32) -> Case {
+    Case {
+        op: BENCH,
+        table: table.to_vec(),
+        budget: rounds,
+        h: most,
+        cells,
         ..Case::default()
     }
 }
@@ -799,4 +824,109 @@ fn damaged_sequential(batch: &mut Batch, random: &mut Random) {
     let bytes = damaged(&write::table(&program, Kind::Sequential), random);
     batch.add(read_case(Kind::Sequential, &bytes));
     batch.add(sequential_case(&bytes, program.sizes.len(), random));
+}
+
+// ---- the bench ----
+
+/// The worked benches that do not take long, each instruction that blocks, and refusals.
+fn benches(batch: &mut Batch) {
+    for sample in benched() {
+        if sample.tried <= MOST_TRIED {
+            let cells = cell_bytes(Kind::Concurrent, &sample.table);
+            let case = |cells| bench_case(&sample.table, sample.rounds, sample.most, cells);
+            batch.add(shown(case(cells)));
+            batch.add(case(cells + 7));
+            batch.add(case(0));
+        }
+    }
+    for sample in blocks() {
+        if !sample.is_assign() {
+            bench_of(batch, &table(&reason_samples::concurrent(&sample)));
+        }
+        if sample.may_be_in_atomic() && !sample.is_assign() {
+            bench_of(batch, &table(&reason_samples::in_atomic(&sample)));
+            bench_of(batch, &table(&reason_samples::in_a_branch(&sample)));
+        }
+    }
+    refused_benches(batch);
+    largest_benches(batch);
+}
+
+/// Two rounds of up to four steps.
+fn bench_of(batch: &mut Batch, table: &[u8]) {
+    let cells = cell_bytes(Kind::Concurrent, table);
+    batch.add(bench_case(table, 2, 4, cells));
+}
+
+/// Numbers 1 to 8 come before 13, and 13 before 12.
+fn refused_benches(batch: &mut Batch) {
+    for Judged { kind, table, .. } in judged() {
+        if table.len() > 20_000 {
+            continue;
+        }
+        let cells = cell_bytes(Kind::Concurrent, &table);
+        batch.add(bench_case(&table, 1, 1, cells));
+        if kind == Kind::Concurrent && table.len() < 1_000 {
+            batch.add(bench_case(&table, 0, 1, 0));
+            batch.add(bench_case(&table, u64::MAX, u32::MAX, cells));
+        }
+    }
+    for source in [table(&b()), table(&d())] {
+        let enough = cell_bytes(Kind::Concurrent, &source);
+        for (rounds, most) in [(1, 1), (0, 1), (1, 0), (1, 65), (10, 1)] {
+            for cells in [0, enough - 1, enough, enough + 1] {
+                batch.add(bench_case(&source, rounds, most, cells));
+            }
+        }
+    }
+}
+
+/// The deepest program, all cells, 400 labels, and threads that block behind many steps.
+fn largest_benches(batch: &mut Batch) {
+    let deep = table(&deepest(Kind::Concurrent));
+    let cells = cell_bytes(Kind::Concurrent, &deep);
+    batch.add(bench_case(&deep, 1, 1, cells));
+    let chain = Program {
+        mains: vec![0],
+        ..deepest(Kind::Concurrent)
+    };
+    // Each of its 16 procedures takes 16 steps to call the next one.
+    for (rounds, most) in [(1, 64), (2, 64), (4, 7)] {
+        batch.add(bench_case(&table(&chain), rounds, most, cells));
+    }
+    let long = table_of_length(Kind::Concurrent, 16_384);
+    batch.add(bench_case(&long, 3, 2, 10));
+    for steps in [64, 65, 127, 128] {
+        for threads in [1, 2] {
+            let late = table(&blocks_after(steps, threads));
+            batch.add(bench_case(&late, 2 / threads as u64, 64, 5));
+        }
+    }
+}
+
+/// Threads that race, or any random program, or a damaged table.
+fn random_bench(number: usize, batch: &mut Batch, random: &mut Random) {
+    let program = match number % 4 {
+        0 => program_of(Kind::Concurrent, Scale::Small, random),
+        _ => racing(random),
+    };
+    let good = write::table(&program, Kind::Concurrent);
+    let table = match number % 16 {
+        0 => damaged(&good, random),
+        _ => good,
+    };
+    let cells = about(cell_bytes(Kind::Concurrent, &table), random);
+    let (rounds, most) = bench_bounds(program.mains.len(), random);
+    batch.add(bench_case(&table, rounds, most, cells));
+}
+
+/// Bounds with some thousand allotments at most.
+fn bench_bounds(threads: usize, random: &mut Random) -> (u64, u32) {
+    loop {
+        let (rounds, most) = (random.between(1, 6), random.between(1, 20) as u32);
+        let allotments = u64::from(most + 1).checked_pow((rounds * threads) as u32);
+        if allotments.is_some_and(|allotments| allotments <= MOST_TRIED) {
+            return (rounds as u64, most);
+        }
+    }
 }
