@@ -36,9 +36,9 @@ pub enum Two {
 impl Expression {
     /// The value of an expression, or the reason why it has none.
     ///
-    /// "An operator with an operand that has no value, or of the wrong kind, has none itself".
-    /// Both operands are always evaluated: "and (both sides are evaluated)". "The left operand, its
-    /// kind included, is judged before the right, and the range of the result last".
+    /// "An operator with an operand that has no value, or of the wrong kind, has none itself". "The
+    /// left operand, its kind included, is judged before the right, and the range of the result
+    /// last". Of and "a false left side gives false and the right side isn't evaluated".
     pub fn value(&self, locals: &Locals) -> Result<Value, Reason> {
         match self {
             Expression::Constant(value) => Ok(*value),
@@ -50,6 +50,9 @@ impl Expression {
             Expression::Two(operator, left, right) => {
                 let left = left.value(locals)?;
                 takes_on_its_left(*operator, left)?;
+                if (*operator, left) == (Two::And, Value::Truth(false)) {
+                    return Ok(left);
+                }
                 let right = right.value(locals)?;
                 two(*operator, left, right)
             }

@@ -1,6 +1,7 @@
 //! Zarukohen's second implementation, written from the paper: tables are read into trees, and the
 //! rules, the translation and both machines walk these trees.
 
+pub mod and_samples;
 pub mod batch;
 pub mod bench;
 pub mod bench_samples;

@@ -446,6 +446,11 @@ pub fn worked() -> Vec<Worked> {
         schedule: turns,
         line: "finished 16 480 0 10 0",
     });
+    all.extend(AND_TABLES.map(|(_, text, line)| Worked {
+        table: bytes(text),
+        schedule: vec![0; 9],
+        line,
+    }));
     let b = table(&crate::samples::b());
     let schedules: [(&[u8], &'static str); 4] = [
         (&[0, 0, 1, 1, 0, 1, 0, 1], "finished 8 198 0 4 0"),
@@ -523,6 +528,23 @@ const LOOKS_WHERE_ONE_WAS_LOST: &str = "
     24 14 05 01 01 01 00 00 00 22 01 00 01 00 00 00 00 22 01 00 11 01 02 00 00 00 05 01 00 00 00
     00 03 00 00 00 00 01 00 01 00 00 00 00 00
     43 50 01 00 02 00 02 00 0E 00 00 00 77 00 00 00";
+
+/// x := true, then an empty if whose test is an `and`; one thread. The first one's x is on the right
+/// of false: it is not evaluated, and loaded and priced all the same.
+const AND_TABLES: [(&str, &str, &str); 2] = [
+    (
+        "false and (x < 0)",
+        "20 00 04 24 15 03 13 05 00 01 00 00 00 00 00 00 00 00 01 00 00 00 00 00 00
+        43 50 01 00 00 00 01 00 08 00 00 00 29 00 00 00",
+        "finished 3 65 6 0 0",
+    ),
+    (
+        "x and (x < 0)",
+        "20 00 04 24 15 05 00 13 05 00 01 00 00 00 00 00 00 00 00 01 00 00 00 00 00 00
+        43 50 01 00 00 00 01 00 08 00 00 00 2A 00 00 00",
+        "blocked 1 36 8 0 2",
+    ),
+];
 
 fn table_with(third: &str, length: u8) -> Vec<u8> {
     let mut all = bytes("20 00 02 00 00 20 01 01 00 00 00 00");

@@ -127,7 +127,7 @@ fn blocking_bodies() -> Vec<(&'static str, Reason, u64, u64, Block)> {
             WrongKind,
             0,
             0,
-            vec![assign(0, and(truth(false), number(1)))],
+            vec![assign(0, and(truth(true), number(1)))],
         ),
         (
             "assign: location plus number",

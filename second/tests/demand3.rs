@@ -1,6 +1,7 @@
 //! Demand 3 on random programs: the copy reaches its loop head a (k+1)th time exactly when the
 //! program takes k steps, and what can be compared there is equal.
 
+use second::and_samples;
 use second::builder::*;
 use second::calls::*;
 use second::concurrent::{Concurrent, Done};
@@ -351,6 +352,20 @@ fn demand_3_on_each_reason() {
             let end = check(&program, &[0; 5]);
             assert_eq!(end, End::Blocked(sample.reason), "{}", sample.name);
         }
+    }
+}
+
+/// Every way through `and`: the copy goes on, or blocks by the same reason.
+#[test]
+fn demand_3_on_each_and() {
+    for placed in and_samples::all_placed() {
+        let end = check(&and_samples::concurrent(&placed), &[0; 12]);
+        let wanted = match placed.shown {
+            Err(reason) => End::Blocked(reason),
+            Ok(_) if placed.is_endless => End::Used,
+            Ok(_) => End::Finished,
+        };
+        assert_eq!(end, wanted, "{}", placed.name);
     }
 }
 

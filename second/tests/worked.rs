@@ -289,7 +289,8 @@ fn range() {
     assert_eq!(value(sum), Some(Value::Whole(-1)));
 }
 
-/// "An operator with an operand that has no value, or of the wrong kind, has none itself".
+/// "An operator with an operand that has no value, or of the wrong kind, has none itself". Of and a
+/// false left side decides alone.
 #[test]
 fn kinds_of_operands() {
     let nothing = || negate(number(i32::MIN));
@@ -309,7 +310,11 @@ fn kinds_of_operands() {
         assert_eq!(value(not(left.clone())).is_some(), i == 2);
         assert_eq!(value(negate(left.clone())).is_some(), i == 0);
     }
-    assert_eq!(value(and(truth(false), nothing())), None);
+    assert_eq!(
+        value(and(truth(false), nothing())),
+        Some(Value::Truth(false))
+    );
+    assert_eq!(value(and(nothing(), truth(false))), None);
     assert_eq!(
         value(and(truth(false), truth(true))),
         Some(Value::Truth(false))

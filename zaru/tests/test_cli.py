@@ -289,6 +289,27 @@ class WithEngine(Command):
         sentence = "blocked after 1 step: thread 0 at label 2: the sum is outside the number range"
         self.assertEqual(self.good("run", "sum.zaru", *"000").splitlines()[1:], [sentence])
 
+    def test_and(self) -> None:
+        """Behind a false left side nothing blocks; behind a true one it does. The copy's steps are those of its loads."""
+
+        def of(test: str, *order: str) -> List[str]:
+            text = f"concurrent\nprocedure w()\nlocals x\nx := true\nif {test}\nend\nend\nthread w\n"
+            self.file("and.zaru", text.encode())
+            return self.good("run", "and.zaru", *order).splitlines()
+
+        nine = "0" * 9
+        self.assertEqual(of("false and x < 0", *nine), ["finished 3 65 6 0 0"])
+        self.assertEqual(of("false and 1 < 0", *nine), ["finished 3 63 6 0 0"])
+        self.assertEqual(of("not x and (x and (x < 0 and x))", *nine), ["finished 3 65 6 0 0"])
+        sentence = "blocked after 1 step: thread 0 at label 2: an operand has the wrong kind"
+        for test in ("x and x < 0", "x and (x and x < 0)", "0 and false"):
+            self.assertEqual(of(test, *nine)[1:], [sentence], test)
+        sentence = "blocked after 1 step: thread 0 at label 2: the sum is outside the number range"
+        self.assertEqual(of("x and 2147483647 + 1 < 0", *nine)[1:], [sentence])
+        text = "concurrent\nprocedure w()\nlocals y\nif false and y\nend\nend\nthread w\n"
+        self.file("unset.zaru", text.encode())
+        self.refused(8, "run", "unset.zaru", "0")
+
     def test_translate_and_copy(self) -> None:
         self.assertEqual(self.good("translate", "a.table", "-o", "a.copy"), "a.copy: 173 bytes\n")
         self.assertEqual(self.good("translate", "b.zaru", "-o", "b.copy"), "b.copy: 419 bytes\n")

@@ -52,6 +52,11 @@ class Words(unittest.TestCase):
         self.assertEqual(said(2, "if v + 1", "end"), "an operand or the test has the wrong kind")
         self.assertEqual(said(2, "if v < 1", "end"), "an operand has the wrong kind")
 
+    def test_both_sides_of_and_are_named(self) -> None:
+        """Nothing is evaluated, so a side that may have been skipped is not left out."""
+        self.assertEqual(said(1, "v := v - 1 < w and w * 2 < v"), "the difference or the product is outside the number range")
+        self.assertEqual(said(2, "if v and w", "end"), "an operand has the wrong kind")
+
     def test_wrong_kind_of_an_access(self) -> None:
         self.assertEqual(said(2, "v := p[0]"), "the pointer is no location")
         self.assertEqual(said(2, "p[1 + 2] := v"), "the pointer is no location")

@@ -11,10 +11,11 @@ use borrow.Author.Tests.{eqb-true, eqb-false}
 use mir.Syntax.{w32}
 use mir.Val.{SFits, ofZ, toZ}
 use mir.Facts.{toZ-ofZ}
+use Rattle.value.specs.Maybe.{pick}
 use Rattle.value.specs.Try.{has, _⟫_, provided, orLacks}
 use Rattle.value.specs.Values.{One, not, neg, Two, add, sub, mul, less, equal, and, apply₂, given, unword}
 use Rattle.basics.specs.Places.{numberAt}
-use Rattle.value.specs.Marks.{mark₁, mark₂, twoMark, markOf, leftKind, ofKind}
+use Rattle.value.specs.Marks.{mark₁, mark₂, twoMark, markOf, leftKind, ofKind, decided}
 use Rattle.basics.specs.Columns.{rowOf, operandsOf, applied₁, applied₂}
 use Rattle.value.specs.declared.Value.{Value}
 use Rattle.value.specs.declared.Value.the-variants.{Whole, Location, Truth}
@@ -30,7 +31,7 @@ use Rattle.format.specs.Laws.Stands.{first, others}
 use Rattle.format.specs.Laws.Grammar.{ExprAt, OneAt, TwoAt, whole-here, location-here, no-here, yes-here, one-here, two-here, expr-inside, expr-deep}
 use Rattle.semantics.specs.Memory.{eval}
 use Rattle.engine.specs.Words.{valueIn}
-use Rattle.engine.specs.Evaluated.{suited, operated₁, operated₂, Below, Ready, valued, Evaluates}
+use Rattle.engine.specs.Evaluated.{suited, decidedAt, operated₁, operated₂, Below, Ready, valued, Evaluates}
 use Rattle.engine.specs.declared.evaluate.Valued.{Valued}
 use Rattle.engine.specs.Laws.Work.{framed-get}
 
@@ -207,9 +208,11 @@ module _ {t ls : List ℕ} {fb i d : ℕ} where
         let w = s .2 in
         let u = X .value (left h l (sym c ∙ n)) in
         let v = Y .value (right h l c n X) in
-        g ∙ ap₂ (λ a m. a ⟫ suited (markOf m) ⟫ λ u. given (y .answer) ⟫ λ v. applied₂ (markOf m) u v) u (s .1)
-        ∙ ap₂ (λ b k. eval (h .env) (w .a) ⟫ suited k ⟫ λ u. b ⟫ λ v. applied₂ k u v) v (mark₂-marks o)
-        ∙ ap (λ k. eval (h .env) (w .a) ⟫ (λ u. provided (ofKind k u) WrongKind u) ⟫ λ u. eval (h .env) (w .b) ⟫ λ v. apply₂ o u v) (takes-left o)
+        let no = has (Truth false) in
+        g ∙ ap₂ (λ a m. a ⟫ suited (markOf m) ⟫ λ u. pick (decidedAt (markOf m) u) no (given (y .answer) ⟫ λ v. applied₂ (markOf m) u v)) u (s .1)
+        ∙ ap₂ (λ b k. eval (h .env) (w .a) ⟫ suited k ⟫ λ u. pick (decidedAt k u) no (b ⟫ λ v. applied₂ k u v)) v (mark₂-marks o)
+        ∙ ap (λ k. eval (h .env) (w .a) ⟫ (λ u. provided (ofKind k u) WrongKind u) ⟫ λ u.
+        pick (decided o u) no (eval (h .env) (w .b) ⟫ λ v. apply₂ o u v)) (takes-left o)
         ∙ sym (ap (eval (h .env)) (w .is));
     next = λ h. Y .next (right h l c n X);
   }

@@ -18,7 +18,7 @@ use Rattle.basics.specs.Reasons.{lackOf}
 use Rattle.basics.specs.Laws.Reasons.{None, none-lacks}
 use Rattle.value.specs.Laws.Tests.{by-test, never, either-right}
 use Rattle.value.specs.Maybe.{pick, both}
-use Rattle.value.specs.Try.{Try, lacks, _⟫_, provided}
+use Rattle.value.specs.Try.{Try, has, lacks, _⟫_, provided}
 use Rattle.value.specs.Values.{not, neg, add, sub, mul, less, equal, and, apply₂, given}
 use Rattle.value.specs.Marks.{Mark, wholeMark, locationMark, noMark, yesMark, localMark, oneMark, twoMark, noExpr, markOf}
 use Rattle.basics.specs.Columns.{applied₁, applied₂}
@@ -31,7 +31,7 @@ use Rattle.value.specs.declared.Value.the-variants.{Whole, Location, Truth}
 use Rattle.value.specs.declared.Answer.{Answer}
 use Rattle.value.specs.declared.Answer.the-variants as A
 use Rattle.value.specs.declared.Reason.the-variants.{OutOfRange, WrongKind}
-use Rattle.engine.specs.Evaluated.{operated₁, operated₂}
+use Rattle.engine.specs.Evaluated.{decidedAt, operated₁, operated₂}
 use Rattle.basics.proofs.Ways as ops
 
 -- what the code reads of a whole number is that number
@@ -46,6 +46,28 @@ other : (v : Value) → Other v → ofKind 1 v ≡ false
 other (Whole a) h = absurd (miss (1 ∷ 2 ∷ []) 0 tt h)
 other (Location a) h = refl
 other (Truth a) h = refl
+
+-- no truth value
+untrue : (v : Value) → OneOf (0 ∷ 1 ∷ []) (tagOf the-type v) → ofKind 3 v ≡ false
+untrue (Whole a) h = refl
+untrue (Location a) h = refl
+untrue (Truth a) h = absurd (miss (0 ∷ 1 ∷ []) 2 tt h)
+
+-- only and is decided by its left operand alone
+undecided : (k : Mark) (u : Value) → (rowOf k .takes ≡ 3 → ⊥) → decidedAt k u ≡ false
+undecided (twoMark and) u n = absurd (n refl)
+undecided (twoMark add) u n = refl
+undecided (twoMark sub) u n = refl
+undecided (twoMark mul) u n = refl
+undecided (twoMark less) u n = refl
+undecided (twoMark equal) u n = refl
+undecided (oneMark o) u n = refl
+undecided wholeMark u n = refl
+undecided locationMark u n = refl
+undecided noMark u n = refl
+undecided yesMark u n = refl
+undecided localMark u n = refl
+undecided noExpr u n = refl
 
 -- a test with one that fails
 neither : (a : Bool) → both a false ≡ false
@@ -135,17 +157,47 @@ module _ (m : ℕ) where
     none-left h e = rw (none-lacks l h) e
 
     -- the right one has none
-    pub none-right : {u : Value} {k : ℕ} {x : Try Value} → k ≡ takesOf m → l ≡ A.Is u → None r
+    pub none-right : {u : Value} {k : ℕ} {x : Try Value} → k ≡ takesOf m → (k ≡ 3 → ⊥) → l ≡ A.Is u → None r
         → x ≡ (provided (ofKind k u) WrongKind u ⟫ λ _. lacks (lackOf r)) → x ≡ operated₂ m (given l) (given r)
     unfolding operated₂
-    none-right {u} e f h g = rw (f, none-lacks r h) (rw e at g)
+    none-right {u} e n f h g = rw (f, none-lacks r h) ((rw e at g) ∙ sym (go (ofKind (takesOf m) u)))
+      where
+        go : (b : Bool) → (provided b WrongKind u ⟫ λ u. pick (decidedAt (markOf m) u) (has (Truth false)) (lacks (lackOf r)))
+            ≡ (provided b WrongKind u ⟫ λ _. lacks (lackOf r))
+        go true = rw (undecided (markOf m) u (λ q. n (e ∙ q)))
+        go false = refl
 
     -- both are at hand: an operand of the wrong kind gives 2, whichever it is
-    pub at-hand : {u v : Value} {x : Try Value} → l ≡ A.Is u → r ≡ A.Is v → x ≡ applied₂ (markOf m) u v → x ≡ operated₂ m (given l) (given r)
+    pub at-hand : {u v : Value} {k : ℕ} {x : Try Value} → k ≡ takesOf m → (k ≡ 3 → ⊥) → l ≡ A.Is u → r ≡ A.Is v → x ≡ applied₂ (markOf m) u v
+        → x ≡ operated₂ m (given l) (given r)
     unfolding operated₂
-    at-hand {u} {v} e f g = rw (e, f) (by-test (ofKind (takesOf m) u)
-        (λ t. g ∙ rw t)
+    at-hand {u} {v} z n e f g = rw (e, f) (by-test (ofKind (takesOf m) u)
+        (λ t. g ∙ rw (t, undecided (markOf m) u (λ q. n (z ∙ q))))
         (λ t. g ∙ sym (unsuited u v (rw t)) ∙ rw t))
+
+-- ---- and: the left operand is at hand
+
+module _ (r : Answer) (u : Value) where
+  -- it is no truth value
+  pub and-other : OneOf (0 ∷ 1 ∷ []) (tagOf the-type u) → lacks WrongKind ≡ operated₂ (mark₂ and) (has u) (given r)
+  unfolding operated₂
+  and-other h = rw (untrue u h)
+
+  -- it is false
+  pub and-false : {a : Bool} → u ≡ Truth a → B.not a ≡ true → has (Truth false) ≡ operated₂ (mark₂ and) (has u) (given r)
+  unfolding operated₂
+  and-false e q = rw (e, q)
+
+  -- it is true, and the right one has no value
+  pub and-none : {a : Bool} {x : Try Value} → u ≡ Truth a → B.not a ≡ false → None r → x ≡ lacks (lackOf r) → x ≡ operated₂ (mark₂ and) (has u) (given r)
+  unfolding operated₂
+  and-none e q h g = rw (e, q, none-lacks r h) g
+
+  -- or has one
+  pub and-both : {a : Bool} {v : Value} {x : Try Value} → u ≡ Truth a → B.not a ≡ false → r ≡ A.Is v → x ≡ apply₂ and (Truth a) v
+      → x ≡ operated₂ (mark₂ and) (has u) (given r)
+  unfolding operated₂
+  and-both e q f g = rw (e, q, f) g
 
 -- ---- the operator of a mark, by the kind of its operands
 
@@ -161,14 +213,14 @@ by-kind? m k = pick (eqb (rowOf k .operands) 2)
 by-kind : (m : ℕ) → by-kind? m (markOf m) ≡ true
 by-kind m = looked-up by-kind? marks noExpr (λ n. refl) refl m
 
-module _ (m : ℕ) (l r : Answer) {u v : Value} (e : l ≡ A.Is u) (f : r ≡ A.Is v) {k : ℕ} {x : Try Value} (n : operandsOf m ≡ 2) (t : k ≡ takesOf m) where
+module _ (m : ℕ) (l r : Answer) {u : Value} {k : ℕ} {x : Try Value} (n : operandsOf m ≡ 2) (t : k ≡ takesOf m) (e : l ≡ A.Is u) where
   -- truth values
-  pub by-truths : k ≡ 3 → x ≡ apply₂ and u v → x ≡ operated₂ m (given l) (given r)
-  by-truths q g = at-hand m l r e f (g ∙ rw (eqb-true m (mark₂ and) (rw (n, sym t ∙ q) at (by-kind m))))
+  pub by-truths : k ≡ 3 → x ≡ operated₂ (mark₂ and) (has u) (given r) → x ≡ operated₂ m (given l) (given r)
+  by-truths q g = rw (e, eqb-true m (mark₂ and) (rw (n, sym t ∙ q) at (by-kind m))) g
 
   -- any kind
-  pub by-any : k ≡ 0 → x ≡ apply₂ equal u v → x ≡ operated₂ m (given l) (given r)
-  by-any q g = at-hand m l r e f (g ∙ rw (eqb-true m (mark₂ equal) (rw (n, sym t ∙ q) at (by-kind m))))
+  pub by-any : {v : Value} → (k ≡ 3 → ⊥) → r ≡ A.Is v → k ≡ 0 → x ≡ apply₂ equal u v → x ≡ operated₂ m (given l) (given r)
+  by-any o f q g = at-hand m l r t o e f (g ∙ rw (eqb-true m (mark₂ equal) (rw (n, sym t ∙ q) at (by-kind m))))
 
 -- no other kind is left than whole numbers
 pub by-wholes : (m : ℕ) {k : ℕ} → operandsOf m ≡ 2 → k ≡ takesOf m → (k ≡ 3 → ⊥) → (k ≡ 0 → ⊥) → takesOf m ≡ 1
@@ -219,6 +271,10 @@ pub ruleset ways = (
   none-left,
   none-right,
   at-hand,
+  and-other,
+  and-false,
+  and-none,
+  and-both,
   by-truths,
   by-any,
   by-wholes,

@@ -2,12 +2,15 @@
 use Prim.Native.Nat.{ℕ, _<_}
 use mathlib.Core.Path.{_≡_}
 use mathlib.Core.List.{List}
+use mathlib.Core.Bool.{Bool, false}
 use lib.ListN.{length}
-use Rattle.value.specs.Try.{Try, _⟫_, provided}
+use Rattle.value.specs.Maybe.{pick}
+use Rattle.value.specs.Try.{Try, has, _⟫_, provided}
 use Rattle.value.specs.Values.{given}
-use Rattle.value.specs.Marks.{Mark, markOf, ofKind}
+use Rattle.value.specs.Marks.{Mark, wholeMark, locationMark, noMark, yesMark, localMark, oneMark, twoMark, noExpr, markOf, ofKind, decided}
 use Rattle.basics.specs.Columns.{rowOf, applied₁, applied₂}
 use Rattle.value.specs.declared.Value.{Value}
+use Rattle.value.specs.declared.Value.the-variants.{Truth}
 use Rattle.value.specs.declared.Answer.{Answer}
 use Rattle.value.specs.declared.Reason.the-variants.{WrongKind}
 use Rattle.format.specs.Syntax.{Expr, constant, local, one, two}
@@ -24,9 +27,20 @@ suited k u = provided (ofKind (rowOf k .takes) u) WrongKind u
 unfoldable pub operated₁ : ℕ → Try Value → Try Value
 operated₁ m a = a ⟫ applied₁ (markOf m)
 
--- and of two such
+-- does the left operand alone decide the operator of a mark
+abbrev pub decidedAt : Mark → Value → Bool
+decidedAt (twoMark o) u = decided o u
+decidedAt (oneMark o) u = false
+decidedAt wholeMark u = false
+decidedAt locationMark u = false
+decidedAt noMark u = false
+decidedAt yesMark u = false
+decidedAt localMark u = false
+decidedAt noExpr u = false
+
+-- what it gives of two such; where the left one decides, the right one is not looked at
 unfoldable pub operated₂ : ℕ → Try Value → Try Value → Try Value
-operated₂ m a b = a ⟫ suited (markOf m) ⟫ λ u. b ⟫ λ v. applied₂ (markOf m) u v
+operated₂ m a b = a ⟫ suited (markOf m) ⟫ λ u. pick (decidedAt (markOf m) u) (has (Truth false)) (b ⟫ λ v. applied₂ (markOf m) u v)
 
 -- each local of an expression is below n
 abbrev pub Below : ℕ → Expr → Type 0

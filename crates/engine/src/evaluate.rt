@@ -10,10 +10,10 @@ use value::Value;
 ghost use mathlib.Core.Path.{_≡_};
 ghost use Prim.Native.Nat.{_≤_, _<_};
 ghost use lib.ListN.{getD};
-ghost use Rattle.value.specs.Try.{lacks, _⟫_, provided};
+ghost use Rattle.value.specs.Try.{has, lacks, _⟫_, provided};
 ghost use Rattle.value.specs.declared.Reason.the-variants.{WrongKind};
 ghost use Rattle.value.specs.Values.{given, equal, and, apply₂};
-ghost use Rattle.value.specs.Marks.{markOf, kindOf, ofKind};
+ghost use Rattle.value.specs.Marks.{mark₂, markOf, kindOf, ofKind};
 ghost use Rattle.format.specs.Decode.{maxDepth};
 ghost use Rattle.basics.specs.Columns.{operandsOf, takesOf, applied₂};
 ghost use Rattle.basics.specs.Reasons.{lackOf};
@@ -100,11 +100,21 @@ fn wholes(mark: u8, left: Value, right: Value) -> Answer
     operators::apply_two(mark, Value::Whole(a), Value::Whole(b))
 }
 
-// "and (both sides are evaluated)".
-fn truths(left: Value, right: Value) -> Answer
-    ensures { λ r. ⌜ given r ≡ apply₂ and left right ⌝ }
+// "and": "a false left side gives false and the right side isn't evaluated. If the left side is true the rule stays". The right side's answer is there,
+// since the evaluator walks over it, and is not looked at.
+fn truths(left: Value, right: Answer) -> Answer
+    ensures { λ r. ⌜ given r ≡ operated₂ (mark₂ and) (has left) (given right) ⌝ }
 {
-    operators::and(left, right)
+    let Value::Truth(a) = left else {
+        return Answer::WrongKind;
+    };
+    if !a {
+        return Answer::Is(Value::Truth(false));
+    }
+    let Answer::Is(v) = right else {
+        return lacking(right);
+    };
+    operators::and(Value::Truth(a), v)
 }
 
 // "equal (two of one kind)".
@@ -122,14 +132,16 @@ fn two(mark: u8, kind: u8, left: Answer, right: Answer) -> Answer
     let Answer::Is(u) = left else {
         return lacking(left);
     };
+    if kind == marks::TRUTH {
+        return truths(u, right);
+    }
     let Answer::Is(v) = right else {
         return without_right(kind, u, right);
     };
-    match kind {
-        marks::ANY => same(u, v),
-        marks::TRUTH => truths(u, v),
-        _ => wholes(mark, u, v),
+    if kind == marks::ANY {
+        return same(u, v);
     }
+    wholes(mark, u, v)
 }
 
 // And of one.

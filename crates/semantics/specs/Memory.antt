@@ -1,16 +1,16 @@
 -- Environments, memory and events.
 use Prim.Native.Nat.{ℕ}
 use mathlib.Core.List.{List, [], _∷_}
-use mathlib.Core.Bool.{Bool}
+use mathlib.Core.Bool.{Bool, false}
 use lib.ListN.{getD, set, replicate}
 use lib.IntN.{ℤ, pos, negsuc}
-use Rattle.value.specs.Maybe.{Maybe, is, nothing, _>>=_}
+use Rattle.value.specs.Maybe.{Maybe, is, nothing, _>>=_, pick}
 use Rattle.value.specs.Try.{Try, has, lacks, _⟫_, orLacks}
 use Rattle.value.specs.Lists.{at}
 use Rattle.value.specs.Values.{apply₁, apply₂}
-use Rattle.value.specs.Marks.{judged}
+use Rattle.value.specs.Marks.{judged, decided}
 use Rattle.value.specs.declared.Value.{Value}
-use Rattle.value.specs.declared.Value.the-variants.{Whole}
+use Rattle.value.specs.declared.Value.the-variants.{Whole, Truth}
 use Rattle.value.specs.declared.Reason.the-variants.{WrongKind, IndexOutside}
 use Rattle.format.specs.Syntax.{Expr, constant, local, one, two}
 
@@ -27,12 +27,13 @@ abbrev pub bound : Env → ℕ → Value → Env
 bound ρ x v = set ρ x (is v)
 
 -- document 01: "An operator with an operand that has no value, or of the wrong kind, has none itself"; request #101: "The left operand, its kind
--- included, is judged before the right, and the range of the result last". Number 8 keeps out a local that is not set: 2 here
+-- included, is judged before the right, and the range of the result last"; request #103: "a false left side gives false and the right side isn't
+-- evaluated", of `and`. Number 8 keeps out a local that is not set: 2 here
 abbrev pub eval : Env → Expr → Try Value
 eval ρ (constant v) = has v
 eval ρ (local x) = orLacks WrongKind (lookup ρ x)
 eval ρ (one o a) = eval ρ a ⟫ apply₁ o
-eval ρ (two o a b) = eval ρ a ⟫ judged o ⟫ λ u. eval ρ b ⟫ λ v. apply₂ o u v
+eval ρ (two o a b) = eval ρ a ⟫ judged o ⟫ λ u. pick (decided o u) (has (Truth false)) (eval ρ b ⟫ λ v. apply₂ o u v)
 
 -- several expressions, all of which must have a value: the first that has none decides
 abbrev pub evals : Env → List Expr → Try (List Value)

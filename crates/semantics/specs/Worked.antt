@@ -7,7 +7,7 @@ use mathlib.Core.Bool.{true, false}
 use lib.ListN.{replicate}
 use lib.IntN.{pos, negsuc}
 use Rattle.value.specs.Maybe.{is, nothing}
-use Rattle.value.specs.Try.{Try, lacks}
+use Rattle.value.specs.Try.{Try, has, lacks}
 use Rattle.value.specs.Values.{not, neg, add, sub, less, equal, and}
 use Rattle.value.specs.declared.Reason.the-variants.{OutOfRange, WrongKind, IndexOutside, FinishedThread}
 use Rattle.value.specs.declared.Value.the-variants.{Whole, Location, Truth}
@@ -211,6 +211,29 @@ pub reasons-of-expressions :
     × (evals ρ (num 0 ∷ large ∷ wrong ∷ []) ≡ lacks OutOfRange)
     × (evals ρ (num 0 ∷ wrong ∷ large ∷ []) ≡ lacks WrongKind)
 reasons-of-expressions = (refl, refl, refl, refl, refl, refl, refl, refl, refl, refl, refl, refl, refl, refl, refl, refl, refl)
+
+-- false
+abbrev noExpr : Expr
+noExpr = constant (Truth false)
+
+-- AND: "a false left side gives false and the right side isn't evaluated. If the left side is true the rule stays"; nested both ways, in an operand
+pub ands :
+    (eval ρ (two and noExpr yesExpr) ≡ has (Truth false))
+    × (eval ρ (two and noExpr large) ≡ has (Truth false))
+    × (eval ρ (two and noExpr wrong) ≡ has (Truth false))
+    × (eval ρ (two and noExpr (num 0)) ≡ has (Truth false))
+    × (eval ρ (two and noExpr (local 0)) ≡ has (Truth false))
+    × (eval ρ (two and yesExpr noExpr) ≡ has (Truth false))
+    × (eval ρ (two and yesExpr yesExpr) ≡ has (Truth true))
+    × (eval ρ (two and yesExpr wrong) ≡ lacks WrongKind)
+    × (eval ρ (two and large noExpr) ≡ lacks OutOfRange)
+    × (eval ρ (two and (num 0) noExpr) ≡ lacks WrongKind)
+    × (eval ρ (two and (two and (two and yesExpr noExpr) large) wrong) ≡ has (Truth false))
+    × (eval ρ (two and yesExpr (two and noExpr (two and large wrong))) ≡ has (Truth false))
+    × (eval ρ (two and yesExpr (two and yesExpr (two and large noExpr))) ≡ lacks OutOfRange)
+    × (eval ρ (one not (two and noExpr large)) ≡ has (Truth true))
+    × (eval ρ (two equal noExpr large) ≡ lacks OutOfRange)
+ands = (refl, refl, refl, refl, refl, refl, refl, refl, refl, refl, refl, refl, refl, refl, refl)
 
 -- an instruction there, where location 0 has size 1 and there is one procedure
 abbrev at-once : Instr ℕ → Try (Moved ℕ)

@@ -1,7 +1,8 @@
 -- The marks of expressions: document 01, "Values and expressions", the table of marks.
 use Prim.Native.Nat.{ℕ}
 use mathlib.Core.List.{List, [], _∷_}
-use mathlib.Core.Bool.{Bool}
+use mathlib.Core.Bool.{Bool, false}
+use mathlib.Core.Bool as B
 use lib.ListN.{getD}
 use lib.Dec.{eqb}
 use Rattle.value.specs.Maybe.{either}
@@ -65,3 +66,14 @@ leftKind and = 3
 -- request #101: "The left operand, its kind included, is judged before the right"
 abbrev pub judged : Two → Value → Try Value
 judged o u = provided (ofKind (leftKind o) u) WrongKind u
+
+-- request #103: "a false left side gives false and the right side isn't evaluated". Does the left operand alone decide?
+abbrev pub decided : Two → Value → Bool
+decided and (Truth b) = B.not b
+decided and (Whole z) = false
+decided and (Location l) = false
+decided add u = false
+decided sub u = false
+decided mul u = false
+decided less u = false
+decided equal u = false

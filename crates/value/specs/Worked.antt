@@ -8,7 +8,7 @@ use lib.IntN.{pos, negℤ}
 use Rattle.value.specs.Try.{has, lacks, reasonNumber}
 use Rattle.value.specs.Lists.{sum}
 use Rattle.value.specs.Values.{not, neg, add, sub, mul, less, equal, and, apply₁, apply₂, bytes, cellBytes}
-use Rattle.value.specs.Marks.{mark₁, mark₂, judged}
+use Rattle.value.specs.Marks.{mark₁, mark₂, judged, decided}
 use Rattle.value.specs.declared.Reason.the-variants.{OutOfRange, WrongKind, IndexOutside, FinishedThread}
 use Rattle.value.specs.declared.Value.{Value}
 use Rattle.value.specs.declared.Value.the-variants.{Whole, Location, Truth}
@@ -54,6 +54,16 @@ pub reasons :
     × (judged and (plus 0) ≡ lacks WrongKind)
     × (judged less (Truth true) ≡ lacks WrongKind)
 reasons = (refl, refl, refl, refl, refl, refl, refl, refl, refl, refl, refl, refl)
+
+-- WHERE THE LEFT OPERAND DECIDES: "a false left side gives false and the right side isn't evaluated"; no other operator and no other value
+pub decisions :
+    (decided and (Truth false) ≡ true)
+    × (decided and (Truth true) ≡ false)
+    × (decided and (plus 0) ≡ false)
+    × (decided and (Location 0) ≡ false)
+    × (decided equal (Truth false) ≡ false)
+    × (decided mul (plus 0) ≡ false)
+decisions = (refl, refl, refl, refl, refl, refl)
 
 -- THEIR NUMBERS: "1 outside the number range, 2 wrong kind. Machines add 3 index outside, 4 finished thread chosen"
 pub reason-numbers : map reasonNumber (OutOfRange ∷ WrongKind ∷ IndexOutside ∷ FinishedThread ∷ []) ≡ 1 ∷ 2 ∷ 3 ∷ 4 ∷ []

@@ -4,6 +4,7 @@
 //! and a summary to standard error. With OPS, a word of digits such as `12`, only the cases of those
 //! calls are written, behind the greeting. The seed is fixed, so both files are always the same.
 
+use second::and_samples::{self, all_placed};
 use second::batch::*;
 use second::bench_samples::{benched, blocks_after, d, racing};
 use second::builder::*;
@@ -69,6 +70,8 @@ fn whole_batch(ops: &str) -> Batch {
     runs(&mut batch);
     batch.section = "reasons";
     reasons(&mut batch);
+    batch.section = "and";
+    ands(&mut batch);
     batch.section = "schedules and cell buffers";
     schedules(&mut batch);
     cell_buffers(&mut batch);
@@ -459,6 +462,18 @@ fn reasons(batch: &mut Batch) {
         if !sample.may_be_in_atomic() {
             blocked_copy(batch, &plain, &[0; 5]);
         }
+    }
+}
+
+/// `and` with every operand at every place; of long rows, assignments alone.
+fn ands(batch: &mut Batch) {
+    for placed in all_placed() {
+        if placed.may_be_sequential() {
+            let sequential = table(&and_samples::sequential(&placed));
+            let case = run_case(Kind::Sequential, &sequential, &[], 10, 22);
+            batch.add(Case { budget: 40, ..case });
+        }
+        blocked_program(batch, &table(&and_samples::concurrent(&placed)), &[0; 12]);
     }
 }
 

@@ -1,5 +1,6 @@
 -- The evaluator and the two machines without reasons, as document 01 alone has them: line by line what stood in Memory, Step, Threads and Copy before
--- request #101. No other definition uses these; Forget says that they are those files without the reason.
+-- request #101. The machines are over an evaluator: document 01's is `eval`, which evaluates both sides of every `and`. No other definition uses these;
+-- Forget says that they are those files without the reason, over today's evaluator, and where that one differs.
 use Prim.Native.Nat.{ℕ, zero, suc}
 use mathlib.Core.List.{List, [], _∷_, _++_}
 use mathlib.Core.Bool.{Bool, true, false}
@@ -28,10 +29,14 @@ eval ρ (local x) = lookup ρ x
 eval ρ (one o a) = eval ρ a >>= apply₁ o
 eval ρ (two o a b) = eval ρ a >>= λ u. eval ρ b >>= λ v. apply₂ o u v
 
+-- what gives expressions their values
+abbrev pub Evaluator : Type 0
+Evaluator = Env → Expr → Maybe Value
+
 -- several expressions, all of which must have a value
-abbrev pub evals : Env → List Expr → Maybe (List Value)
-evals ρ [] = is []
-evals ρ (e ∷ es) = eval ρ e >>= λ v. evals ρ es >>= λ vs. is (v ∷ vs)
+abbrev pub evals : Evaluator → Env → List Expr → Maybe (List Value)
+evals by ρ [] = is []
+evals by ρ (e ∷ es) = by ρ e >>= λ v. evals by ρ es >>= λ vs. is (v ∷ vs)
 
 -- a whole number that can be an index
 abbrev pub index : Value → Maybe ℕ
@@ -46,16 +51,16 @@ cell η l i = at η l >>= λ row. at row i
 
 -- ---- Step
 
-module _ {A : Type 0} (procs : List (Proc A)) (t : ℕ) where
+module _ {A : Type 0} (by : Evaluator) (procs : List (Proc A)) (t : ℕ) where
   -- instruction i with tag a, first in procedure m, before c and above the frames s; a call has the report's condition that its procedure
   -- runs in no frame, which is never broken after rule 7
   abbrev pub instr : ℕ → Env → A → Instr A → Block A → Stack A → Memory → Maybe (Moved A)
   instr m ρ a (assign x e) c s η =
-      eval ρ e >>= λ v.
+      by ρ e >>= λ v.
       is (quiet (record { proc = m; env = bound ρ x v; code = c } ∷ s) η)
   instr m ρ a (write y o e) c s η =
-      eval ρ e >>= λ v.
-      eval ρ o >>= index >>= λ i.
+      by ρ e >>= λ v.
+      by ρ o >>= index >>= λ i.
       lookup ρ y >>= place >>= λ l.
       cell η l i >>= λ _.
       is (record {
@@ -64,7 +69,7 @@ module _ {A : Type 0} (procs : List (Proc A)) (t : ℕ) where
         events = record { thread = t; way = writing; place = l; index = i; value = v } ∷ [];
       })
   instr m ρ a (read x y o) c s η =
-      eval ρ o >>= index >>= λ i.
+      by ρ o >>= index >>= λ i.
       lookup ρ y >>= place >>= λ l.
       cell η l i >>= λ v.
       is (record {
@@ -73,13 +78,13 @@ module _ {A : Type 0} (procs : List (Proc A)) (t : ℕ) where
         events = record { thread = t; way = reading; place = l; index = i; value = v } ∷ [];
       })
   instr m ρ a (while e b) c s η =
-      eval ρ e >>= truth >>= λ q.
+      by ρ e >>= truth >>= λ q.
       is (quiet (record { proc = m; env = ρ; code = pick q (b ⊕ step a (while e b) c) c } ∷ s) η)
   instr m ρ a (if e b d) c s η =
-      eval ρ e >>= truth >>= λ q.
+      by ρ e >>= truth >>= λ q.
       is (quiet (record { proc = m; env = ρ; code = pick q b d ⊕ c } ∷ s) η)
   instr m ρ a (call n es) c s η =
-      evals ρ es >>= λ vs.
+      evals by ρ es >>= λ vs.
       at procs n >>= λ p.
       when (B.not (either (eqb n m) (runs n s)))
       (is (quiet (entered n p vs ∷ record { proc = m; env = ρ; code = c } ∷ s) η))
@@ -88,7 +93,7 @@ module _ {A : Type 0} (procs : List (Proc A)) (t : ℕ) where
 
 -- ---- Threads
 
-module _ (procs : List (Proc ℕ)) (t : ℕ) where
+module _ (by : Evaluator) (procs : List (Proc ℕ)) (t : ℕ) where
   -- steps of a stack until one frame with no code is left, at most n of them
   abbrev pub toEnd : ℕ → Stack ℕ → Memory → List Event → Maybe Atomic
   toEnd zero [] η evs = nothing
@@ -96,7 +101,7 @@ module _ (procs : List (Proc ℕ)) (t : ℕ) where
   toEnd (suc n) [] η evs = nothing
   toEnd (suc n) (f ∷ s) η evs = elim (f .code) [
     | end ↦ is (record { env = f .env; memory = η; events = evs })
-    | step a i c ↦ (instr procs t (f .proc) (f .env) a i c s η >>= λ r. toEnd n (r .stack) (r .memory) (evs ++ r .events))
+    | step a i c ↦ (instr by procs t (f .proc) (f .env) a i c s η >>= λ r. toEnd n (r .stack) (r .memory) (evs ++ r .events))
   ]
 
   -- the first instruction of a thread's code: a whole atomic block, or one step
@@ -104,12 +109,12 @@ module _ (procs : List (Proc ℕ)) (t : ℕ) where
   first-instr m ρ a (atomic b) c s η =
       toEnd (size b) (record { proc = m; env = ρ; code = b } ∷ []) η [] >>= λ r.
       is (record { stack = record { proc = m; env = r .env; code = c } ∷ s; memory = r .memory; events = r .events })
-  first-instr m ρ a (assign x e) c s η = instr procs t m ρ a (assign x e) c s η
-  first-instr m ρ a (write y o e) c s η = instr procs t m ρ a (write y o e) c s η
-  first-instr m ρ a (read x y o) c s η = instr procs t m ρ a (read x y o) c s η
-  first-instr m ρ a (while e b) c s η = instr procs t m ρ a (while e b) c s η
-  first-instr m ρ a (if e b d) c s η = instr procs t m ρ a (if e b d) c s η
-  first-instr m ρ a (call n es) c s η = instr procs t m ρ a (call n es) c s η
+  first-instr m ρ a (assign x e) c s η = instr by procs t m ρ a (assign x e) c s η
+  first-instr m ρ a (write y o e) c s η = instr by procs t m ρ a (write y o e) c s η
+  first-instr m ρ a (read x y o) c s η = instr by procs t m ρ a (read x y o) c s η
+  first-instr m ρ a (while e b) c s η = instr by procs t m ρ a (while e b) c s η
+  first-instr m ρ a (if e b d) c s η = instr by procs t m ρ a (if e b d) c s η
+  first-instr m ρ a (call n es) c s η = instr by procs t m ρ a (call n es) c s η
   first-instr m ρ a (select x y) c s η = nothing
 
   -- the code of the top frame, or its return
@@ -123,10 +128,10 @@ module _ (procs : List (Proc ℕ)) (t : ℕ) where
   thread (f ∷ s) η = code (f .code) (f .proc) (f .env) s η
 
 -- thread t takes a step
-abbrev pub threadStep : Program ℕ → ℕ → State → Maybe Step
-threadStep p t s =
+abbrev pub threadStep : Evaluator → Program ℕ → ℕ → State → Maybe Step
+threadStep by p t s =
     at (s .threads) t >>= λ stack.
-    thread (p .procs) t stack (s .memory) >>= λ r.
+    thread by (p .procs) t stack (s .memory) >>= λ r.
     is (record { state = record { threads = set (s .threads) t (r .stack); memory = r .memory }; events = r .events })
 
 -- finished, schedule used up, blocked; the last is a sequential run at its budget
@@ -142,16 +147,16 @@ pub record Ran : Type 0 where
   pub events : List Event
 
 -- under a schedule, from a state, after k steps and some events
-abbrev pub run : Program ℕ → List ℕ → State → ℕ → List Event → Ran
-run p [] s k evs = elim (done (s .threads)) [
+abbrev pub run : Evaluator → Program ℕ → List ℕ → State → ℕ → List Event → Ran
+run by p [] s k evs = elim (done (s .threads)) [
   | true ↦ record { how = finished; steps = k; unused = 0; state = s; events = evs }
   | false ↦ record { how = used; steps = k; unused = 0; state = s; events = evs }
 ]
-run p (t ∷ ts) s k evs = elim (done (s .threads)) [
+run by p (t ∷ ts) s k evs = elim (done (s .threads)) [
   | true ↦ record { how = finished; steps = k; unused = suc (length ts); state = s; events = evs }
-  | false ↦ elim (threadStep p t s) [
+  | false ↦ elim (threadStep by p t s) [
     | nothing ↦ record { how = blocked; steps = k; unused = suc (length ts); state = s; events = evs }
-    | is r ↦ run p ts (r .state) (suc k) (evs ++ r .events)
+    | is r ↦ run by p ts (r .state) (suc k) (evs ++ r .events)
   ]
 ]
 
@@ -189,16 +194,16 @@ choose a b η f s [] evs = ended used
 choose a b η f s (t ∷ ts) evs = selected a η f s t ts evs (cell η b t)
 
 -- the machine records the events of the locations below h
-module _ (h : ℕ) (procs : List (Proc Plain)) where
+module _ (by : Evaluator) (h : ℕ) (procs : List (Proc Plain)) where
   -- an instruction before c, in procedure m with locals ρ above s
   abbrev pub copyOne : ℕ → Env → Instr Plain → Block Plain → Stack Plain → Memory → List ℕ → ℕ → List Event → Next
   copyOne m ρ (select a b) c s η ts t evs = choose a b η (record { proc = m; env = ρ; code = c }) s ts evs
-  copyOne m ρ (assign x e) c s η ts t evs = moved h ts t evs (instr procs t m ρ tt (assign x e) c s η)
-  copyOne m ρ (write y o e) c s η ts t evs = moved h ts t evs (instr procs t m ρ tt (write y o e) c s η)
-  copyOne m ρ (read x y o) c s η ts t evs = moved h ts t evs (instr procs t m ρ tt (read x y o) c s η)
-  copyOne m ρ (while e b) c s η ts t evs = moved h ts t evs (instr procs t m ρ tt (while e b) c s η)
-  copyOne m ρ (if e b d) c s η ts t evs = moved h ts t evs (instr procs t m ρ tt (if e b d) c s η)
-  copyOne m ρ (call n es) c s η ts t evs = moved h ts t evs (instr procs t m ρ tt (call n es) c s η)
+  copyOne m ρ (assign x e) c s η ts t evs = moved h ts t evs (instr by procs t m ρ tt (assign x e) c s η)
+  copyOne m ρ (write y o e) c s η ts t evs = moved h ts t evs (instr by procs t m ρ tt (write y o e) c s η)
+  copyOne m ρ (read x y o) c s η ts t evs = moved h ts t evs (instr by procs t m ρ tt (read x y o) c s η)
+  copyOne m ρ (while e b) c s η ts t evs = moved h ts t evs (instr by procs t m ρ tt (while e b) c s η)
+  copyOne m ρ (if e b d) c s η ts t evs = moved h ts t evs (instr by procs t m ρ tt (if e b d) c s η)
+  copyOne m ρ (call n es) c s η ts t evs = moved h ts t evs (instr by procs t m ρ tt (call n es) c s η)
   copyOne m ρ (atomic b) c s η ts t evs = ended blocked
 
   -- code, or a return
@@ -230,9 +235,9 @@ atBudget (ended spent) = spent
 atBudget (goes c) = spent
 
 -- at most n more steps, after k
-abbrev pub copyRun : ℕ → List (Proc Plain) → ℕ → ℕ → Config → CopyRan
-copyRun h procs zero k c = record { how = atBudget (next h procs c); steps = k; config = c }
-copyRun h procs (suc n) k c = elim (next h procs c) [
+abbrev pub copyRun : Evaluator → ℕ → List (Proc Plain) → ℕ → ℕ → Config → CopyRan
+copyRun by h procs zero k c = record { how = atBudget (next by h procs c); steps = k; config = c }
+copyRun by h procs (suc n) k c = elim (next by h procs c) [
   | ended how ↦ record { how = how; steps = k; config = c }
-  | goes d ↦ copyRun h procs n (suc k) d
+  | goes d ↦ copyRun by h procs n (suc k) d
 ]

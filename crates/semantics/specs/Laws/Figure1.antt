@@ -1,7 +1,7 @@
 -- Report RR-2017-03, figure 1: its rules as the report writes them, and that Step takes exactly these steps.
 use Prim.Native.Nat.{ℕ, zero, suc, _-_, _≤_, _<_}
 use native.Mathlib.Omega.{arith}
-use mathlib.Core.Path.{_≡_, refl}
+use mathlib.Core.Path.{_≡_, refl, sym, _∙_}
 use mathlib.Core.Logic.{_↔_, _≢_}
 use mathlib.Core.List.{List, [], _∷_, _++_, map}
 use mathlib.Core.Bool.{Bool, true, false}
@@ -13,14 +13,14 @@ use borrow.Author.Tests.{eqb-false, ne-eqb, not-true}
 use Rattle.value.specs.Maybe.{is, nothing, pick, either}
 use Rattle.value.specs.Try.{Try, has, lacks, _⟫_, orLacks}
 use Rattle.value.specs.Lists.{at}
-use Rattle.value.specs.Values.{One, Two, apply₁, apply₂}
-use Rattle.value.specs.Marks.{judged}
+use Rattle.value.specs.Values.{One, Two, and, apply₁, apply₂}
+use Rattle.value.specs.Marks.{judged, decided}
 use Rattle.value.specs.declared.Value.{Value}
 use Rattle.value.specs.declared.Value.the-variants.{Whole, Location, Truth}
 use Rattle.value.specs.declared.Reason.the-variants.{WrongKind, FinishedThread}
 use Rattle.value.specs.Laws.Tries.{has-inj, lacking, chain-has, provided-has, orLacks-has}
-use Rattle.value.specs.Laws.Reasons.{number-is, judged-passes, value-left}
-use Rattle.value.specs.Laws.Tests.{either-failed}
+use Rattle.value.specs.Laws.Reasons.{number-is, judged-passes, value-left, Settles, false-left, decided?, settles-gives}
+use Rattle.value.specs.Laws.Tests.{either-failed, by-test}
 use Rattle.value.specs.Laws.Lists.{Each}
 use Rattle.format.specs.Syntax.{Expr, constant, local, one, two, Instr, assign, write, read, while, if, call, atomic, select}
 use Rattle.format.specs.Syntax.{Block, end, step, _⊕_, Proc}
@@ -31,12 +31,14 @@ use Rattle.semantics.specs.Step.{Frame, Stack, Moved, entered, runs, ins
 
 -- ---- ⟦e⟧ρ = v
 
--- document 01: "An operator with an operand that has no value, or of the wrong kind, has none itself"
+-- document 01: "An operator with an operand that has no value, or of the wrong kind, has none itself"; request #103: "a false left side gives false
+-- and the right side isn't evaluated"
 pub data Has (ρ : Env) : Expr → Value → Type 0 where
   itself : {v : Value} → Has ρ (constant v) v
   set : {x : ℕ} {v : Value} → lookup ρ x ≡ is v → Has ρ (local x) v
   of-one : {o : One} {a : Expr} {u v : Value} → Has ρ a u → apply₁ o u ≡ has v → Has ρ (one o a) v
   of-two : {o : Two} {a b : Expr} {u w v : Value} → Has ρ a u → Has ρ b w → apply₂ o u w ≡ has v → Has ρ (two o a b) v
+  not-right : {a b : Expr} → Has ρ a (Truth false) → Has ρ (two and a b) (Truth false)
 
 -- an expression that comes to v has the value v
 so-has : (ρ : Env) (e : Expr) {v : Value} → eval ρ e ≡ has v → Has ρ e v
@@ -47,15 +49,24 @@ so-has ρ (two o a b) h =
     let k = chain-has (eval ρ a ⟫ judged o) _ h in
     let p = chain-has (eval ρ a) _ (k .1) in
     let same : p .0 ≡ k .0 = judged-passes o (p .0) (k .0) .0 (p .2) .1 in
-    let q = chain-has (eval ρ b) _ (k .2) in
-    of-two (so-has ρ a (rw same at (p .1))) (so-has ρ b (q .1)) (q .2)
+    let x = so-has ρ a (rw same at (p .1)) in
+    by-test (decided o (k .0))
+    (λ d. rw (← has-inj (rw d at (k .2))) (skip (decided? o (k .0) .so d) x))
+    (λ d. let q = chain-has (eval ρ b) _ (rw d at (k .2)) in of-two x (so-has ρ b (q .1)) (q .2))
+  where
+    skip : {o : Two} {u : Value} → Settles o u → Has ρ a u → Has ρ (two o a b) (Truth false)
+    skip false-left x = not-right x
 
 -- and the other way
 comes : {ρ : Env} {e : Expr} {v : Value} → Has ρ e v → eval ρ e ≡ has v
 comes itself = refl
 comes (set h) = rw h
 comes (of-one h e) = rw (comes h) e
-comes (of-two {o = o} {u = u} {w = w} h k e) = rw (comes h, judged-passes o u u .1 (value-left o u w e, refl), comes k) e
+comes (not-right h) = rw (comes h)
+comes (of-two {o = o} {u = u} {w = w} {v = v} h k e) =
+    by-test (decided o u)
+    (λ d. rw (comes h, judged-passes o u u .1 (value-left o u w e, refl), d, settles-gives (decided? o u .so d) w e))
+    (λ d. rw (comes h, judged-passes o u u .1 (value-left o u w e, refl), d, comes k) e)
 
 -- AN EXPRESSION HAS THE VALUE THAT IT COMES TO, AND NO OTHER.
 pub eval-exactly : (ρ : Env) (e : Expr) (v : Value) → (eval ρ e ≡ has v) ↔ Has ρ e v

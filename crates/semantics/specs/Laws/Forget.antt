@@ -1,4 +1,5 @@
--- Forgetting the reason gives back the definitions that document 01 has: the same values, steps and runs, and ends that differ in the reason alone.
+-- Forgetting the reason gives back the machines that document 01 has, over today's evaluator: the same steps and runs, and ends that differ in the
+-- reason alone. That evaluator is document 01's but for `and` (request #103): Kept says where.
 use Prim.Native.Nat.{ℕ, zero, suc}
 use mathlib.Core.Path.{_≡_, refl, sym, ap, _∙_}
 use mathlib.Core.List.{List, [], _∷_, _++_}
@@ -32,35 +33,20 @@ use Rattle.semantics.specs.Laws.Bare as Bare
 
 -- ---- expressions
 
--- AN EXPRESSION, WITHOUT ITS REASON
-pub forget-eval : (ρ : Env) (e : Expr) → forget (eval ρ e) ≡ Bare.eval ρ e
-forget-eval ρ (constant v) = refl
-forget-eval ρ (local x) = forget-orLacks WrongKind (lookup ρ x)
-forget-eval ρ (one o a) = forget-chain (eval ρ a) _ (Bare.eval ρ a) _ (forget-eval ρ a) (forget-one o)
-forget-eval ρ (two o a b) = on (eval ρ a) (Bare.eval ρ a) (forget-eval ρ a) (forget-eval ρ b)
-  where
-    by : (u : Value) (x : Try Value) → judged o u ≡ x → forget (eval ρ b) ≡ Bare.eval ρ b
-        → forget (x ⟫ λ u. eval ρ b ⟫ λ v. apply₂ o u v) ≡ (Bare.eval ρ b >>= λ v. BareValues.apply₂ o u v)
-    by u (has w) e f =
-        let same : u ≡ w = judged-passes o u w .0 e .1 in
-        rw same (forget-chain (eval ρ b) _ (Bare.eval ρ b) _ f (λ v. forget-two o w v))
-    by u (lacks r) e f = sym (bind-none (Bare.eval ρ b) _ (refused-left o u e))
-
-    on : (x : Try Value) (m : Maybe Value) → forget x ≡ m → forget (eval ρ b) ≡ Bare.eval ρ b
-        → forget (x ⟫ judged o ⟫ λ u. eval ρ b ⟫ λ v. apply₂ o u v) ≡ (m >>= λ u. Bare.eval ρ b >>= λ v. BareValues.apply₂ o u v)
-    on (has u) m e f = rw (← e) (by u (judged o u) refl f)
-    on (lacks r) m e f = rw (← e) refl
+-- today's evaluator, without its reasons
+abbrev pub now : Bare.Evaluator
+now ρ e = forget (eval ρ e)
 
 -- SEVERAL EXPRESSIONS
-pub forget-evals : (ρ : Env) (es : List Expr) → forget (evals ρ es) ≡ Bare.evals ρ es
+pub forget-evals : (ρ : Env) (es : List Expr) → forget (evals ρ es) ≡ Bare.evals now ρ es
 forget-evals ρ [] = refl
 forget-evals ρ (e ∷ es) =
-    forget-chain (eval ρ e) _ (Bare.eval ρ e) _ (forget-eval ρ e) (λ v.
-    forget-chain (evals ρ es) _ (Bare.evals ρ es) _ (forget-evals ρ es) (λ vs. refl))
+    forget-chain (eval ρ e) _ (now ρ e) _ refl (λ v.
+    forget-chain (evals ρ es) _ (Bare.evals now ρ es) _ (forget-evals ρ es) (λ vs. refl))
 
 -- a test
-forget-test : (ρ : Env) (e : Expr) → forget (eval ρ e ⟫ truth) ≡ (Bare.eval ρ e >>= BareValues.truth)
-forget-test ρ e = forget-chain (eval ρ e) _ (Bare.eval ρ e) _ (forget-eval ρ e) forget-truth
+forget-test : (ρ : Env) (e : Expr) → forget (eval ρ e ⟫ truth) ≡ (now ρ e >>= BareValues.truth)
+forget-test ρ e = forget-chain (eval ρ e) _ (now ρ e) _ refl forget-truth
 
 -- what goes on to a reason, wherever it goes, is nothing
 forget-lacks : {A B : Type 0} (x : Try A) {f : A → Try B} {r : Reason} → ((a : A) → f a ≡ lacks r) → forget (x ⟫ f) ≡ nothing
@@ -81,8 +67,8 @@ module _ (ρ : Env) (η : Memory) (y : ℕ) (o : Expr) where
   -- what is made of the cell y[o]: document 01 asks for the index before the pointer, which is seen in the reason alone
   forget-reached : {B : Type 0} (f : ℕ → ℕ → Value → B)
       → forget (eval ρ o ⟫ number ⟫ λ z. eval ρ (local y) ⟫ place ⟫ λ l. index z ⟫ λ i. cell η l i ⟫ λ v. has (f l i v))
-      ≡ (Bare.eval ρ o >>= Bare.index >>= λ i. lookup ρ y >>= BareValues.place >>= λ l. Bare.cell η l i >>= λ v. is (f l i v))
-  forget-reached f = on (eval ρ o) (Bare.eval ρ o) (forget-eval ρ o)
+      ≡ (now ρ o >>= Bare.index >>= λ i. lookup ρ y >>= BareValues.place >>= λ l. Bare.cell η l i >>= λ v. is (f l i v))
+  forget-reached f = on (eval ρ o) (now ρ o) refl
     where
       on : (x : Try Value) (m : Maybe Value) → forget x ≡ m
           → forget (x ⟫ number ⟫ λ z. eval ρ (local y) ⟫ place ⟫ λ l. index z ⟫ λ i. cell η l i ⟫ λ v. has (f l i v))
@@ -98,17 +84,17 @@ module _ (ρ : Env) (η : Memory) (y : ℕ) (o : Expr) where
 module _ {A : Type 0} (procs : List (Proc A)) (t : ℕ) where
   -- AN INSTRUCTION, WITHOUT ITS REASON
   pub forget-instr : (m : ℕ) (ρ : Env) (a : A) (i : Instr A) (c : Block A) (s : Stack A) (η : Memory)
-      → forget (instr procs t m ρ a i c s η) ≡ Bare.instr procs t m ρ a i c s η
-  forget-instr m ρ a (assign x e) c s η = forget-chain (eval ρ e) _ (Bare.eval ρ e) _ (forget-eval ρ e) (λ v. refl)
+      → forget (instr procs t m ρ a i c s η) ≡ Bare.instr now procs t m ρ a i c s η
+  forget-instr m ρ a (assign x e) c s η = forget-chain (eval ρ e) _ (now ρ e) _ refl (λ v. refl)
   forget-instr m ρ a (write y o e) c s η =
-      forget-chain (eval ρ e) _ (Bare.eval ρ e) _ (forget-eval ρ e) (λ v. forget-reached ρ η y o _)
+      forget-chain (eval ρ e) _ (now ρ e) _ refl (λ v. forget-reached ρ η y o _)
   forget-instr m ρ a (read x y o) c s η = forget-reached ρ η y o _
   forget-instr m ρ a (while e b) c s η =
-      forget-chain (eval ρ e ⟫ truth) _ (Bare.eval ρ e >>= BareValues.truth) _ (forget-test ρ e) (λ q. refl)
+      forget-chain (eval ρ e ⟫ truth) _ (now ρ e >>= BareValues.truth) _ (forget-test ρ e) (λ q. refl)
   forget-instr m ρ a (if e b d) c s η =
-      forget-chain (eval ρ e ⟫ truth) _ (Bare.eval ρ e >>= BareValues.truth) _ (forget-test ρ e) (λ q. refl)
+      forget-chain (eval ρ e ⟫ truth) _ (now ρ e >>= BareValues.truth) _ (forget-test ρ e) (λ q. refl)
   forget-instr m ρ a (call n es) c s η =
-      forget-chain (evals ρ es) _ (Bare.evals ρ es) _ (forget-evals ρ es) (λ vs.
+      forget-chain (evals ρ es) _ (Bare.evals now ρ es) _ (forget-evals ρ es) (λ vs.
       forget-chain (orLacks WrongKind (at procs n)) _ (at procs n) _ (forget-orLacks WrongKind (at procs n)) (λ p.
       forget-provided (B.not (either (eqb n m) (runs n s))) WrongKind _))
   forget-instr m ρ a (atomic b) c s η = refl
@@ -118,29 +104,29 @@ module _ {A : Type 0} (procs : List (Proc A)) (t : ℕ) where
 
 module _ (procs : List (Proc ℕ)) (t : ℕ) where
   -- an atomic block
-  forget-toEnd : (n : ℕ) (z : Stack ℕ) (η : Memory) (evs : List Event) → forget (toEnd procs t n z η evs) ≡ Bare.toEnd procs t n z η evs
+  forget-toEnd : (n : ℕ) (z : Stack ℕ) (η : Memory) (evs : List Event) → forget (toEnd procs t n z η evs) ≡ Bare.toEnd now procs t n z η evs
   forget-toEnd zero [] η evs = refl
   forget-toEnd zero (f ∷ s) η evs = by (f .code)
     where
       by : (c : Block ℕ)
           → forget (toEnd procs t zero (record { proc = f .proc; env = f .env; code = c } ∷ s) η evs)
-          ≡ Bare.toEnd procs t zero (record { proc = f .proc; env = f .env; code = c } ∷ s) η evs
+          ≡ Bare.toEnd now procs t zero (record { proc = f .proc; env = f .env; code = c } ∷ s) η evs
       by end = refl
       by (step a i c) = refl
   forget-toEnd (suc n) [] η evs = refl
   forget-toEnd (suc n) (f ∷ s) η evs = by (forget-toEnd n) (f .code)
     where
-      by : ((z : Stack ℕ) (η : Memory) (evs : List Event) → forget (toEnd procs t n z η evs) ≡ Bare.toEnd procs t n z η evs) → (c : Block ℕ)
+      by : ((z : Stack ℕ) (η : Memory) (evs : List Event) → forget (toEnd procs t n z η evs) ≡ Bare.toEnd now procs t n z η evs) → (c : Block ℕ)
           → forget (toEnd procs t (suc n) (record { proc = f .proc; env = f .env; code = c } ∷ s) η evs)
-          ≡ Bare.toEnd procs t (suc n) (record { proc = f .proc; env = f .env; code = c } ∷ s) η evs
+          ≡ Bare.toEnd now procs t (suc n) (record { proc = f .proc; env = f .env; code = c } ∷ s) η evs
       by ih end = refl
       by ih (step a i c) =
-          forget-chain (instr procs t (f .proc) (f .env) a i c s η) _ (Bare.instr procs t (f .proc) (f .env) a i c s η) _
+          forget-chain (instr procs t (f .proc) (f .env) a i c s η) _ (Bare.instr now procs t (f .proc) (f .env) a i c s η) _
           (forget-instr procs t (f .proc) (f .env) a i c s η) (λ r. ih (r .stack) (r .memory) (evs ++ r .events))
 
   -- a thread's first instruction
   forget-first : (m : ℕ) (ρ : Env) (a : ℕ) (i : Instr ℕ) (c : Block ℕ) (s : Stack ℕ) (η : Memory)
-      → forget (first-instr procs t m ρ a i c s η) ≡ Bare.first-instr procs t m ρ a i c s η
+      → forget (first-instr procs t m ρ a i c s η) ≡ Bare.first-instr now procs t m ρ a i c s η
   forget-first m ρ a (assign x e) c s η = forget-instr procs t m ρ a (assign x e) c s η
   forget-first m ρ a (write y o e) c s η = forget-instr procs t m ρ a (write y o e) c s η
   forget-first m ρ a (read x y o) c s η = forget-instr procs t m ρ a (read x y o) c s η
@@ -149,24 +135,24 @@ module _ (procs : List (Proc ℕ)) (t : ℕ) where
   forget-first m ρ a (call n es) c s η = forget-instr procs t m ρ a (call n es) c s η
   forget-first m ρ a (atomic b) c s η =
       let f : Frame ℕ = record { proc = m; env = ρ; code = b } in
-      forget-chain (toEnd procs t (size b) (f ∷ []) η []) _ (Bare.toEnd procs t (size b) (f ∷ []) η []) _
+      forget-chain (toEnd procs t (size b) (f ∷ []) η []) _ (Bare.toEnd now procs t (size b) (f ∷ []) η []) _
       (forget-toEnd (size b) (f ∷ []) η []) (λ r. refl)
   forget-first m ρ a (select x y) c s η = refl
 
   -- A STEP OF A THREAD, WITHOUT ITS REASON
-  pub forget-thread : (s : Stack ℕ) (η : Memory) → forget (thread procs t s η) ≡ Bare.thread procs t s η
+  pub forget-thread : (s : Stack ℕ) (η : Memory) → forget (thread procs t s η) ≡ Bare.thread now procs t s η
   forget-thread [] η = refl
   forget-thread (f ∷ s) η = by (f .code)
     where
-      by : (c : Block ℕ) → forget (code procs t c (f .proc) (f .env) s η) ≡ Bare.code procs t c (f .proc) (f .env) s η
+      by : (c : Block ℕ) → forget (code procs t c (f .proc) (f .env) s η) ≡ Bare.code now procs t c (f .proc) (f .env) s η
       by end = refl
       by (step a i c) = forget-first (f .proc) (f .env) a i c s η
 
 -- OF THE THREAD THAT IS CHOSEN
-pub forget-step : (p : Program ℕ) (t : ℕ) (σ : State) → forget (threadStep p t σ) ≡ Bare.threadStep p t σ
+pub forget-step : (p : Program ℕ) (t : ℕ) (σ : State) → forget (threadStep p t σ) ≡ Bare.threadStep now p t σ
 forget-step p t σ =
     forget-chain (orLacks FinishedThread (at (σ .threads) t)) _ (at (σ .threads) t) _ (forget-orLacks FinishedThread (at (σ .threads) t)) (λ s.
-    forget-chain (thread (p .procs) t s (σ .memory)) _ (Bare.thread (p .procs) t s (σ .memory)) _
+    forget-chain (thread (p .procs) t s (σ .memory)) _ (Bare.thread now (p .procs) t s (σ .memory)) _
     (forget-thread (p .procs) t s (σ .memory)) (λ r. refl))
 
 -- an end, without its reason
@@ -181,19 +167,19 @@ abbrev pub bareRan : P.Ran → Bare.Ran
 bareRan r = record { how = bareEnd (r .how); steps = r .steps; unused = r .unused; state = r .state; events = r .events }
 
 -- THE CONCURRENT RUN, WITHOUT ITS REASON: the same steps, unused entries, state and events
-pub forget-run : (p : Program ℕ) (ts : List ℕ) (σ : State) (k : ℕ) (evs : List Event) → bareRan (P.run p ts σ k evs) ≡ Bare.run p ts σ k evs
+pub forget-run : (p : Program ℕ) (ts : List ℕ) (σ : State) (k : ℕ) (evs : List Event) → bareRan (P.run p ts σ k evs) ≡ Bare.run now p ts σ k evs
 forget-run p [] σ k evs =
     by-test (done (σ .threads)) (λ e. rw (e, P.run, Bare.run)) (λ e. rw (e, P.run, Bare.run))
 forget-run p (t ∷ ts) σ k evs =
     by-test (done (σ .threads)) (λ e. rw (e, P.run, Bare.run)) (λ e. on (forget-run p ts) e (threadStep p t σ) refl)
   where
-    on : ((σ : State) (k : ℕ) (evs : List Event) → bareRan (P.run p ts σ k evs) ≡ Bare.run p ts σ k evs) → done (σ .threads) ≡ false
-        → (x : Try P.Step) → threadStep p t σ ≡ x → bareRan (P.run p (t ∷ ts) σ k evs) ≡ Bare.run p (t ∷ ts) σ k evs
+    on : ((σ : State) (k : ℕ) (evs : List Event) → bareRan (P.run p ts σ k evs) ≡ Bare.run now p ts σ k evs) → done (σ .threads) ≡ false
+        → (x : Try P.Step) → threadStep p t σ ≡ x → bareRan (P.run p (t ∷ ts) σ k evs) ≡ Bare.run now p (t ∷ ts) σ k evs
     on ih e (lacks r) f =
-        let none : Bare.threadStep p t σ ≡ nothing = sym (forget-step p t σ) ∙ ap forget f in
+        let none : Bare.threadStep now p t σ ≡ nothing = sym (forget-step p t σ) ∙ ap forget f in
         rw (e, f, none, P.run, Bare.run)
     on ih e (has r) f =
-        let same : Bare.threadStep p t σ ≡ is r = sym (forget-step p t σ) ∙ ap forget f in
+        let same : Bare.threadStep now p t σ ≡ is r = sym (forget-step p t σ) ∙ ap forget f in
         rw (e, f, same, P.run, Bare.run) (ih (r .state) (suc k) (evs ++ r .events))
 
 -- ---- the sequential machine
@@ -206,8 +192,8 @@ bareNext (C.goes c) = Bare.goes c
 module _ (h : ℕ) (procs : List (Proc Plain)) where
   -- a step of figure 1
   forget-moved : (m : ℕ) (ρ : Env) (i : Instr Plain) (c : Block Plain) (s : Stack Plain) (η : Memory) (ts : List ℕ) (t : ℕ) (evs : List Event)
-      → bareNext (C.moved h ts t evs (instr procs t m ρ tt i c s η)) ≡ Bare.moved h ts t evs (Bare.instr procs t m ρ tt i c s η)
-  forget-moved m ρ i c s η ts t evs = on (instr procs t m ρ tt i c s η) (Bare.instr procs t m ρ tt i c s η) (forget-instr procs t m ρ tt i c s η)
+      → bareNext (C.moved h ts t evs (instr procs t m ρ tt i c s η)) ≡ Bare.moved h ts t evs (Bare.instr now procs t m ρ tt i c s η)
+  forget-moved m ρ i c s η ts t evs = on (instr procs t m ρ tt i c s η) (Bare.instr now procs t m ρ tt i c s η) (forget-instr procs t m ρ tt i c s η)
     where
       on : (x : Try (Moved Plain)) (y : Maybe (Moved Plain)) → forget x ≡ y → bareNext (C.moved h ts t evs x) ≡ Bare.moved h ts t evs y
       on (has r) y e = rw (← e) refl
@@ -225,7 +211,7 @@ module _ (h : ℕ) (procs : List (Proc Plain)) where
 
   -- an instruction
   forget-copyOne : (m : ℕ) (ρ : Env) (i : Instr Plain) (c : Block Plain) (s : Stack Plain) (η : Memory) (ts : List ℕ) (t : ℕ) (evs : List Event)
-      → bareNext (C.one h procs m ρ i c s η ts t evs) ≡ Bare.copyOne h procs m ρ i c s η ts t evs
+      → bareNext (C.one h procs m ρ i c s η ts t evs) ≡ Bare.copyOne now h procs m ρ i c s η ts t evs
   forget-copyOne m ρ (assign x e) c s η ts t evs = forget-moved m ρ (assign x e) c s η ts t evs
   forget-copyOne m ρ (write y o e) c s η ts t evs = forget-moved m ρ (write y o e) c s η ts t evs
   forget-copyOne m ρ (read x y o) c s η ts t evs = forget-moved m ρ (read x y o) c s η ts t evs
@@ -238,18 +224,18 @@ module _ (h : ℕ) (procs : List (Proc Plain)) where
       forget-selected a η (record { proc = m; env = ρ; code = c }) s u ts evs (cell η b u) (Bare.cell η b u) (forget-cell η b u)
 
   -- A STEP OF THE SEQUENTIAL MACHINE, OR ITS END, WITHOUT THE REASON
-  pub forget-next : (c : C.Config) → bareNext (C.next h procs c) ≡ Bare.next h procs c
+  pub forget-next : (c : C.Config) → bareNext (C.next h procs c) ≡ Bare.next now h procs c
   forget-next c = on (c .stack)
     where
       by : (b : Block Plain) (m : ℕ) (ρ : Env) (s : Stack Plain)
           → bareNext (C.code h procs b m ρ s (c .memory) (c .todo) (c .last) (c .events))
-          ≡ Bare.copyCode h procs b m ρ s (c .memory) (c .todo) (c .last) (c .events)
+          ≡ Bare.copyCode now h procs b m ρ s (c .memory) (c .todo) (c .last) (c .events)
       by end m ρ s = refl
       by (step a i k) m ρ s = forget-copyOne m ρ i k s (c .memory) (c .todo) (c .last) (c .events)
 
       on : (s : Stack Plain)
           → bareNext (C.stack h procs s (c .memory) (c .todo) (c .last) (c .events))
-          ≡ Bare.stack h procs s (c .memory) (c .todo) (c .last) (c .events)
+          ≡ Bare.stack now h procs s (c .memory) (c .todo) (c .last) (c .events)
       on [] = refl
       on (f ∷ s) = by (f .code) (f .proc) (f .env) s
 
@@ -258,7 +244,7 @@ module _ (h : ℕ) (procs : List (Proc Plain)) where
   bareCopy r = record { how = bareEnd (r .how); steps = r .steps; config = r .config }
 
   -- THE SEQUENTIAL RUN, WITHOUT ITS REASON: the same steps, memory, entries and events
-  pub forget-copy : (n k : ℕ) (c : C.Config) → bareCopy (C.run h procs n k c) ≡ Bare.copyRun h procs n k c
+  pub forget-copy : (n k : ℕ) (c : C.Config) → bareCopy (C.run h procs n k c) ≡ Bare.copyRun now h procs n k c
   forget-copy zero k c = on (C.next h procs c) refl
     where
       budget : (x : C.Next) → bareEnd (C.atBudget x) ≡ Bare.atBudget (bareNext x)
@@ -268,15 +254,15 @@ module _ (h : ℕ) (procs : List (Proc Plain)) where
       budget (C.ended (blocked r)) = refl
       budget (C.goes d) = refl
 
-      on : (x : C.Next) → C.next h procs c ≡ x → bareCopy (C.run h procs zero k c) ≡ Bare.copyRun h procs zero k c
+      on : (x : C.Next) → C.next h procs c ≡ x → bareCopy (C.run h procs zero k c) ≡ Bare.copyRun now h procs zero k c
       on x e = rw (e, ← forget-next c, e) (ap (λ (q : Bare.End). record { how = q; steps = k; config = c }) (budget x))
   forget-copy (suc n) k c = on (forget-copy n) (C.next h procs c) refl
     where
-      on : ((k : ℕ) (c : C.Config) → bareCopy (C.run h procs n k c) ≡ Bare.copyRun h procs n k c) → (x : C.Next) → C.next h procs c ≡ x
-          → bareCopy (C.run h procs (suc n) k c) ≡ Bare.copyRun h procs (suc n) k c
+      on : ((k : ℕ) (c : C.Config) → bareCopy (C.run h procs n k c) ≡ Bare.copyRun now h procs n k c) → (x : C.Next) → C.next h procs c ≡ x
+          → bareCopy (C.run h procs (suc n) k c) ≡ Bare.copyRun now h procs (suc n) k c
       on ih (C.ended how) e =
-          let same : Bare.next h procs c ≡ Bare.ended (bareEnd how) = sym (forget-next c) ∙ ap bareNext e in
+          let same : Bare.next now h procs c ≡ Bare.ended (bareEnd how) = sym (forget-next c) ∙ ap bareNext e in
           rw (e, same, C.run, Bare.copyRun)
       on ih (C.goes d) e =
-          let same : Bare.next h procs c ≡ Bare.goes d = sym (forget-next c) ∙ ap bareNext e in
+          let same : Bare.next now h procs c ≡ Bare.goes d = sym (forget-next c) ∙ ap bareNext e in
           rw (e, same, C.run, Bare.copyRun) (ih (suc k) d)

@@ -4,6 +4,7 @@ use native.Mathlib.Omega.{arith}
 use mathlib.Core.Path.{_≡_, refl, sym, _∙_}
 use mathlib.Core.Logic.{_↔_}
 use mathlib.Core.List.{List, [], _∷_}
+use mathlib.Core.Bool.{false}
 use mathlib.Core.Bool as B
 use lib.IntN.{ℤ, pos, negsuc, negℤ}
 use lib.Dec.{eqb}
@@ -12,7 +13,7 @@ use Rattle.value.specs.Maybe.{Maybe, is, nothing, _>>=_, either}
 use Rattle.value.specs.Try.{Try, has, lacks, _⟫_, orLacks}
 use Rattle.value.specs.Lists.{at}
 use Rattle.value.specs.Values.{One, neg, Two, number, place, truth}
-use Rattle.value.specs.Marks.{kindOf, judged}
+use Rattle.value.specs.Marks.{kindOf, judged, decided}
 use Rattle.value.specs.declared.Value.{Value}
 use Rattle.value.specs.declared.Value.the-variants.{Whole, Location, Truth}
 use Rattle.value.specs.declared.Reason.{Reason}
@@ -22,7 +23,7 @@ use Rattle.value.specs.Laws.Tries.{lacking, lacks-inj, chain-has, chain-stops, 
 use Rattle.value.specs.Laws.Tests.{never, by-test}
 use Rattle.value.specs.Laws.Arithmetic.{InRange}
 use Rattle.value.specs.Laws.Reasons.{Left, Right, Takes, Outside, numbers, truthful, number-is, judged-passes, judged-lacks}
-use Rattle.value.specs.Laws.Reasons.{Fails, fails-exactly, Fails₁, fails₁-exactly}
+use Rattle.value.specs.Laws.Reasons.{Fails, fails-exactly, Fails₁, fails₁-exactly, Settles, decided?, outside-goes}
 use Rattle.value.specs.Laws.Reasons as F
 use Rattle.format.specs.Syntax.{Expr, constant, local, one, two, Instr, assign, write, read, while, if, call, atomic, select, Block, Proc}
 use Rattle.semantics.specs.Memory.{Env, lookup, eval, evals, index, Memory, cell}
@@ -43,9 +44,10 @@ pub data Lacks (ρ : Env) : Expr → Reason → Type 0 where
   -- two: the left's own reason; the left's kind
   left : {o : Two} {a b : Expr} {r : Reason} → Lacks ρ a r → Lacks ρ (two o a b) r
   left-kind : {o : Two} {a b : Expr} {u : Value} → Has ρ a u → (Left o u → ⊥) → Lacks ρ (two o a b) WrongKind
-  -- the right's own reason; the right's kind
-  right : {o : Two} {a b : Expr} {u : Value} {r : Reason} → Has ρ a u → Left o u → Lacks ρ b r → Lacks ρ (two o a b) r
-  right-kind : {o : Two} {a b : Expr} {u w : Value} → Has ρ a u → Left o u → Has ρ b w → (Right o u w → ⊥) → Lacks ρ (two o a b) WrongKind
+  -- where the left does not decide (request #103): the right's own reason; the right's kind
+  right : {o : Two} {a b : Expr} {u : Value} {r : Reason} → Has ρ a u → Left o u → (Settles o u → ⊥) → Lacks ρ b r → Lacks ρ (two o a b) r
+  right-kind : {o : Two} {a b : Expr} {u w : Value} → Has ρ a u → Left o u → (Settles o u → ⊥) → Has ρ b w → (Right o u w → ⊥)
+      → Lacks ρ (two o a b) WrongKind
   -- then the range
   range : {o : Two} {a b : Expr} {u w : Value} → Has ρ a u → Left o u → Has ρ b w → Right o u w → Outside o u w → Lacks ρ (two o a b) OutOfRange
 
@@ -68,12 +70,22 @@ so-lacks ρ (two o a b) h =
     let k = judged-passes o (c .0) u .0 (c .2) in
     let l : Left o u = rw (← k .1) (k .0) in
     let x : Has ρ a u = eval-exactly ρ a u .0 (rw (k .1) at (c .1)) in
-    chain-stops (eval ρ b) _ q (λ n. right x l (so-lacks ρ b n)) (λ w s f. on x (eval-exactly ρ b w .0 s) (fails-exactly o u w _ .0 f)))
+    by-test (decided o u) (λ d. lacking (sym (rw d at q))) (λ d.
+    let s = goes d in
+    chain-stops (eval ρ b) _ (rw d at q) (λ n. right x l s (so-lacks ρ b n))
+    (λ w y f. on x s (eval-exactly ρ b w .0 y) (fails-exactly o u w _ .0 f))))
   where
-    on : {u w : Value} {r : Reason} → Has ρ a u → Has ρ b w → Fails o u w r → Lacks ρ (two o a b) r
-    on x y (F.left-kind k) = left-kind x k
-    on x y (F.right-kind j k) = right-kind x j y k
-    on x y (F.range j k out) = range x j y k out
+    goes : {u : Value} → decided o u ≡ false → Settles o u → ⊥
+    goes {u} d s = never (sym d ∙ decided? o u .of s)
+
+    on : {u w : Value} {r : Reason} → Has ρ a u → (Settles o u → ⊥) → Has ρ b w → Fails o u w r → Lacks ρ (two o a b) r
+    on x s y (F.left-kind k) = left-kind x k
+    on x s y (F.right-kind j k) = right-kind x j s y k
+    on x s y (F.range j k out) = range x j y k out
+
+-- a left operand that does not decide
+undecided : (o : Two) (u : Value) → (Settles o u → ⊥) → decided o u ≡ false
+undecided o u s = by-test (decided o u) (λ d. absurd (s (decided? o u .so d))) (λ d. d)
 
 -- and the other way
 lacks-of : {ρ : Env} {e : Expr} {r : Reason} → Lacks ρ e r → eval ρ e ≡ lacks r
@@ -83,11 +95,14 @@ lacks-of {ρ} (operand-kind {o = o} {a = a} {u = u} h k) = rw (eval-exactly ρ a
 lacks-of {ρ} (operand-range {a = a} {z = z} h k) = rw (eval-exactly ρ a (Whole z) .1 h) (fails₁-exactly neg (Whole z) _ .1 (F.range k))
 lacks-of (left h) = rw (lacks-of h)
 lacks-of {ρ} (left-kind {o = o} {a = a} {u = u} h k) = rw (eval-exactly ρ a u .1 h, judged-lacks o u WrongKind .1 (k, refl))
-lacks-of {ρ} (right {o = o} {a = a} {u = u} h k n) = rw (eval-exactly ρ a u .1 h, judged-passes o u u .1 (k, refl), lacks-of n)
-lacks-of {ρ} (right-kind {o = o} {a = a} {b = b} {u = u} {w = w} h j y k) =
-    rw (eval-exactly ρ a u .1 h, judged-passes o u u .1 (j, refl), eval-exactly ρ b w .1 y) (fails-exactly o u w _ .1 (F.right-kind j k))
+lacks-of {ρ} (right {o = o} {a = a} {u = u} h k s n) =
+    rw (eval-exactly ρ a u .1 h, judged-passes o u u .1 (k, refl), undecided o u s, lacks-of n)
+lacks-of {ρ} (right-kind {o = o} {a = a} {b = b} {u = u} {w = w} h j s y k) =
+    rw (eval-exactly ρ a u .1 h, judged-passes o u u .1 (j, refl), undecided o u s, eval-exactly ρ b w .1 y)
+    (fails-exactly o u w _ .1 (F.right-kind j k))
 lacks-of {ρ} (range {o = o} {a = a} {b = b} {u = u} {w = w} h j y k out) =
-    rw (eval-exactly ρ a u .1 h, judged-passes o u u .1 (j, refl), eval-exactly ρ b w .1 y) (fails-exactly o u w _ .1 (F.range j k out))
+    rw (eval-exactly ρ a u .1 h, judged-passes o u u .1 (j, refl), outside-goes out, eval-exactly ρ b w .1 y)
+    (fails-exactly o u w _ .1 (F.range j k out))
 
 -- AN EXPRESSION HAS NO VALUE FOR EXACTLY THIS REASON.
 pub lacks-exactly : (ρ : Env) (e : Expr) (r : Reason) → (eval ρ e ≡ lacks r) ↔ Lacks ρ e r

@@ -4,7 +4,7 @@ use Prim.Native.Nat.{ℕ, _<_}
 use native.Mathlib.Omega.{arith}
 use mathlib.Core.Path.{_≡_, refl, sym, _∙_}
 use mathlib.Core.Logic.{_↔_}
-use mathlib.Core.Bool.{Bool}
+use mathlib.Core.Bool.{Bool, true, false}
 use lib.IntN.{ℤ, negℤ, _+ℤ_, _-ℤ_, _*ℤ_}
 use lib.Signed.{mag, ltZ}
 use lib.Dec.{ltb}
@@ -12,8 +12,8 @@ use Rattle.value.specs.Maybe.{both}
 use Rattle.value.specs.Try.{reasonNumber, Try, has, lacks, _⟫_}
 use Rattle.value.specs.Values.{One, not, neg, Two, add, sub, mul, less, equal, and, whole, number, place, truth, same}
 use Rattle.value.specs.Values.{apply₁, apply₂}
-use Rattle.value.specs.Marks.{kindOf, ofKind, leftKind, judged}
-use Rattle.value.specs.Laws.Tries.{lacks-inj, lacking, chain-stops, provided-has, provided-stops}
+use Rattle.value.specs.Marks.{kindOf, ofKind, leftKind, judged, decided}
+use Rattle.value.specs.Laws.Tries.{has-inj, lacks-inj, lacking, chain-stops, provided-has, provided-stops}
 use Rattle.value.specs.Laws.Tests.{Decides, always, never, eq?, by-test}
 use Rattle.value.specs.Laws.Arithmetic.{InRange, whole-exactly}
 use Rattle.value.specs.declared.Value.{Value}
@@ -321,3 +321,43 @@ judged-lacks o u r = (so, of)
 pub value-left : (o : Two) (u w : Value) {v : Value} → apply₂ o u w ≡ has v → Left o u
 value-left o u w e = by-test (ofKind (leftKind o) u) (left? o u .so)
     (λ f. lacking (sym (not-left u w o (λ h. never (sym f ∙ left? o u .of h))) ∙ e))
+
+-- ---- the left operand that decides
+
+-- request #103: "a false left side", of `and`
+pub data Settles : Two → Value → Type 0 where
+  false-left : Settles and (Truth false)
+
+-- A LEFT OPERAND DECIDES EXACTLY IF IT IS A FALSE ONE OF `and`.
+pub decided? : (o : Two) (u : Value) → Decides (decided o u) (Settles o u)
+decided? o u = record { so = so o u; of = of }
+  where
+    so : (o : Two) (u : Value) → decided o u ≡ true → Settles o u
+    so and (Truth false) e = false-left
+    so and (Truth true) e = absurd (never e)
+    so and (Whole z) e = absurd (never e)
+    so and (Location l) e = absurd (never e)
+    so add u e = absurd (never e)
+    so sub u e = absurd (never e)
+    so mul u e = absurd (never e)
+    so less u e = absurd (never e)
+    so equal u e = absurd (never e)
+
+    of : {o : Two} {u : Value} → Settles o u → decided o u ≡ true
+    of false-left = refl
+
+-- it is one that the operator takes
+pub settles-left : {o : Two} {u : Value} → Settles o u → Left o u
+settles-left false-left = refl
+
+-- beside it the operator gives false, if it gives a value
+pub settles-gives : {o : Two} {u : Value} → Settles o u → (w : Value) {v : Value} → apply₂ o u w ≡ has v → Truth false ≡ v
+settles-gives false-left (Truth b) e = has-inj e
+settles-gives false-left (Whole z) e = lacking e
+settles-gives false-left (Location l) e = lacking e
+
+-- one whose result is outside the range does not decide
+pub outside-goes : {o : Two} {u w : Value} → Outside o u w → decided o u ≡ false
+outside-goes (sum h) = refl
+outside-goes (difference h) = refl
+outside-goes (product h) = refl
