@@ -40,6 +40,7 @@ module _ {k : Kind} {t : List ℕ} {s : Shape} {p : Program Plain} (shaped : Sha
   shape-room = record {
     few = omega (arith, shaped .procedures, shaped .formed .procs .high, at-most k .procs);
     room = omega (arith, trailer-at k p (shaped .formed .same), shaped .procedures, shaped .records);
+    size = omega (arith, shaped .formed .size, at-most k .bytes);
   }
 
   -- so are the bodies

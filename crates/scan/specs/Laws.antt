@@ -8,9 +8,11 @@ pub mod Scans
 pub mod Laid
 -- rule 5, token by token
 pub mod NameScans
--- rule 7 by rows of calls
-pub mod Deep
--- as the code judges it
+-- rule 7, token by token
 pub mod CallScans
+-- procedures from which calls come to an end
+pub mod CallEnds
+-- and the search for others
+pub mod CallSearch
 -- rule 6, as the code counts
 pub mod LabelScans

@@ -143,7 +143,7 @@ pub fn token_end(t: &[u8], i: usize) -> usize
 // Where the body of procedure m begins.
 pub fn body_start(t: &[u8], records: usize, m: usize) -> usize
     requires { ⌜ records + recordSize * m ≤ length (now t) ⌝ }
-    ensures { λ r. ⌜ r ≡ fourAt (now (t .entry)) (records + recordSize * m + 2) ⌝ }
+    ensures { λ r. ⌜ (r ≡ fourAt (now (t .entry)) (records + recordSize * m + 2)) × (r < 4294967296) ⌝ }
 {
     let at = records + RECORD * m + 2;
     two_at(t, at) + 65536 * two_at(t, at + 2)

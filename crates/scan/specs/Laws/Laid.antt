@@ -44,6 +44,7 @@ pub record Named (t : List ℕ) (P R : ℕ) (p : Program Plain) : Type 0 where
 pub record Room (t : List ℕ) (P R : ℕ) : Type 0 where
   pub few : P ≤ limits sequential .procs
   pub room : R + recordSize * P ≤ length t
+  pub size : length t ≤ limits sequential .bytes
 
 -- procedure m
 abbrev pub procOf : Program Plain → ℕ → Proc Plain

@@ -16,13 +16,13 @@ pub record From {B : Type 0} (t : List ℕ) (e : ℕ) (value : List Token → B)
   pub back : (r : B) → Scans t e then k r → Scans t e value i r
 
 -- there is a token at i
-next-token : {t : List ℕ} {i e : ℕ} {ks : List Token} → i < e → Row t i ks e
+pub next-token : {t : List ℕ} {i e : ℕ} {ks : List Token} → i < e → Row t i ks e
     → (ls : List Token) × (ks ≡ tokenAt t i ∷ ls) × Row t (i + sizeAt t i) ls e
 next-token l done = absurd (omega arith)
 next-token {t} {e = e} l (more {ks = ks} a k z r) = (ks, ap (_∷ ks) (sym k), subst (λ (n : ℕ). Row t n ks e) (sym z) r)
 
 -- there is none
-no-token : {t : List ℕ} {i e : ℕ} {ks : List Token} → e ≤ i → Row t i ks e → ks ≡ []
+pub no-token : {t : List ℕ} {i e : ℕ} {ks : List Token} → e ≤ i → Row t i ks e → ks ≡ []
 no-token l done = refl
 no-token l (more a k z r) = absurd (omega (arith, row-le r))
 
