@@ -6,3 +6,5 @@ pub mod Columns
 pub mod Places
 -- an answer without a value
 pub mod Reasons
+-- sets of locals as bits
+pub mod BitSets

@@ -6,6 +6,8 @@ pub mod Columns
 pub mod Places
 -- why an answer has no value
 pub mod Reasons
+-- sets of locals as bits
+pub mod BitSets
 -- sizes of arrays, made from the definitions' numbers
 pub mod Sizes
 -- what these are worth

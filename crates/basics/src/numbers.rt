@@ -126,10 +126,8 @@ pub const SPENT: u8 = 3;
 
 // ---- sizes that follow
 
-// The locals of a procedure in a concurrent table, and a row with a flag for each.
+// The locals of a procedure in a concurrent table: each is a bit of a set, a number of 16 bits.
 pub const LOCALS: u8 = CONCURRENT.locals;
-
-pub const FLAGS: usize = LOCALS as usize;
 
 // The label map has four numbers for each label: its place, its procedure, and the labels that it leads to. Label 0 is a finished thread.
 pub const NODE: usize = 4;

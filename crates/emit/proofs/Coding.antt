@@ -6,11 +6,12 @@ use native.Mathlib.Numerals.{add-one}
 use mathlib.Core.Path.{_≡_, refl, sym, ap, subst, _∙_}
 use mathlib.Core.List.{List, [], _∷_}
 use mathlib.Core.Bool.{Bool, true, false}
-use lib.ListN.{length, getD}
+use lib.ListN.{length}
 use Rattle.value.specs.Values.{bytes}
 use Rattle.format.specs.Syntax.{Expr, local, Instr, assign, write, read, Block, end, Plain}
 use Rattle.format.specs.Encode.{expr, instr, block}
 use Rattle.format.specs.Rules.{maxLocals}
+use Rattle.basics.specs.BitSets.{bits}
 use Rattle.translation.specs.Code.{_then_, num, loc, tid, tmp, aux, moved, mentions, keep, variables, loadAll, loads}
 use Rattle.writer.specs.Laws.Put.{Put, PutExpr, PutInstr, PutBlock, Onto, Writes}
 use Rattle.emit.specs.Laws.Sources.{Takes, Loads, LoadsIf, LoadsAll, Loading, Goes, Returns}
@@ -95,9 +96,9 @@ no-variable x n es h = let e : n - x ≡ 0 = omega arith in ap (λ (k : ℕ). va
 onto-same : {o : List ℕ} {p : ℕ} {a b : List ℕ} → a ≡ b → Onto o p a o p b
 onto-same {o} {p} {a} e = subst (λ (b : List ℕ). Onto o p a o p b) e onto-start
 
-module _ {s : Site} {flag : Bool} {x : ℕ} where
+module _ {s : Site} {u x : ℕ} where
   -- past the locals
-  pub load-past : {o : List ℕ} {p : ℕ} → s .locals ≤ x → LoadsIf s flag x o p o p
+  pub load-past : {o : List ℕ} {p : ℕ} → s .locals ≤ x → LoadsIf s u x o p o p
   load-past l = record {
     gives = λ G m n es h f c.
         let none : variables x (n - x) es ≡ [] = no-variable x n es (omega (arith, h .locals)) in
@@ -105,32 +106,32 @@ module _ {s : Site} {flag : Bool} {x : ℕ} where
         onto-same (ap (λ (xs : List ℕ). block (loadAll G m n xs c)) (none ∙ sym more));
   }
 
-  -- no flag
-  pub load-off : {o : List ℕ} {p : ℕ} → flag ≡ false → LoadsIf s flag x o p o p
-  load-off e = record {
+  -- not in the set
+  pub load-off : {f : Bool} {o : List ℕ} {p : ℕ} → f ≡ bits u x → f ≡ false → LoadsIf s u x o p o p
+  load-off q e = record {
     gives = λ G m n es h f c. elim (decLt x n) [
       | yes l ↦
           let same : variables x (n - x) es ≡ variables (x + 1) (n - (x + 1)) es =
-          next-variable x n es l ∙ ap (λ (b : Bool). keep b x (variables (x + 1) (n - (x + 1)) es)) (sym f ∙ e)
+          next-variable x n es l ∙ ap (λ (b : Bool). keep b x (variables (x + 1) (n - (x + 1)) es)) (sym f ∙ sym q ∙ e)
           in
           onto-same (ap (λ (xs : List ℕ). block (loadAll G m n xs c)) same)
       | no l ↦ load-past (omega (arith, h .locals)) .gives G m n es h f c
     ];
   }
 
-  -- a flag
-  pub load-on : {o o′ : List ℕ} {p r : ℕ} → flag ≡ true → x < s .locals → Loads s x o p o′ r → LoadsIf s flag x o p o′ r
-  load-on {o} {o′} {p} {r} e l L = record {
+  -- in the set
+  pub load-on : {f : Bool} {o o′ : List ℕ} {p r : ℕ} → f ≡ bits u x → f ≡ true → x < s .locals → Loads s x o p o′ r → LoadsIf s u x o p o′ r
+  load-on {f = f₀} {o} {o′} {p} {r} q e l L = record {
     gives = λ G m n es h f c.
         let l′ : x < n = omega (arith, h .locals) in
         let more : List ℕ = variables (x + 1) (n - (x + 1)) es in
-        let same : variables x (n - x) es ≡ x ∷ more = next-variable x n es l′ ∙ ap (λ (b : Bool). keep b x more) (sym f ∙ e) in
+        let same : variables x (n - x) es ≡ x ∷ more = next-variable x n es l′ ∙ ap (λ (b : Bool). keep b x more) (sym f ∙ sym q ∙ e) in
         subst (λ (xs : List ℕ). Onto o p (block (loadAll G m n xs c)) o′ r (block (loadAll G m n more c))) (sym same)
         (L .gives G m n h l′ .before (loadAll G m n more c));
   }
 
 -- before the first variable
-pub loading-start : {s : Site} {flags : List Bool} {o : List ℕ} {p : ℕ} → Loading s flags o p maxLocals o p
+pub loading-start : {s : Site} {u : ℕ} {o : List ℕ} {p : ℕ} → Loading s u o p maxLocals o p
 loading-start = record {
   rest = λ G m n es h f c. let e : n ≡ n - 0 = omega arith in onto-same (ap (λ (k : ℕ). block (loadAll G m n (variables 0 k es) c)) e);
   kept = refl;
@@ -138,9 +139,9 @@ loading-start = record {
 }
 
 -- a variable more
-pub loading-next : {s : Site} {flags : List Bool} {o o′ o″ : List ℕ} {p q r : ℕ} (left : ℕ) → Loading s flags o p left o′ q → 0 < left
-    → LoadsIf s (getD flags (maxLocals - left) false) (maxLocals - left) o′ q o″ r → length o″ ≡ length o′ → Loading s flags o p (left - 1) o″ r
-loading-next {s} {flags} {o} {o′} {o″} {p} {q} {r} left L some I k = record {
+pub loading-next : {s : Site} {u : ℕ} {o o′ o″ : List ℕ} {p q r : ℕ} (left : ℕ) → Loading s u o p left o′ q → 0 < left
+    → LoadsIf s u (maxLocals - left) o′ q o″ r → length o″ ≡ length o′ → Loading s u o p (left - 1) o″ r
+loading-next {s} {u} {o} {o′} {o″} {p} {q} {r} left L some I k = record {
   rest = λ G m n es h f c.
       let x : ℕ = maxLocals - left in
       let next : x + 1 ≡ maxLocals - (left - 1) = omega (arith, L .most) in
@@ -153,8 +154,8 @@ loading-next {s} {flags} {o} {o′} {o″} {p} {q} {r} left L some I k = record 
 }
 
 -- after the last
-pub loading-end : {s : Site} {flags : List Bool} {o o′ : List ℕ} {p r left : ℕ} → Loading s flags o p left o′ r → left ≤ 0 → LoadsAll s flags o p o′ r
-loading-end {s} {flags} {o} {o′} {p} {r} {left} L none = record {
+pub loading-end : {s : Site} {u : ℕ} {o o′ : List ℕ} {p r left : ℕ} → Loading s u o p left o′ r → left ≤ 0 → LoadsAll s u o p o′ r
+loading-end {s} {u} {o} {o′} {p} {r} {left} L none = record {
   gives = λ G m n es h f. record {
     before = λ c.
         subst (λ (xs : List ℕ). Onto o p (block (loads G m n es c)) o′ r (block (loadAll G m n xs c)))

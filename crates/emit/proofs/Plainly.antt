@@ -1,22 +1,20 @@
 -- One law for each way through the code of assign, read and write.
 use Prim.Native.Nat.{ℕ, _+_, _%_, _≤_, _<_}
 use native.Mathlib.Omega.{arith}
-use mathlib.Core.Path.{_≡_, ap, _∙_}
+use mathlib.Core.Path.{_≡_, sym, ap, _∙_}
 use mathlib.Core.List.{List, [], _∷_}
-use mathlib.Core.Bool.{Bool, false}
 use lib.ListN.{getD}
+use Rattle.value.specs.Laws.Tests.{either-false}
 use Rattle.format.specs.Syntax.{Expr, constant, local, one, two, Instr, assign, write, read, while, if, call, atomic, select}
 use Rattle.format.specs.Encode.{expr}
 use Rattle.format.specs.Laws.Stands.{first}
 use Rattle.format.specs.Laws.Grammar.{ExprAt, InstrAt, AssignAt, WriteAt, ReadAt, assign-here, write-here, read-here}
 use Rattle.labels.specs.Walks.{Gathers, ExprEnds}
-use Rattle.format.specs.Variables.{flags}
-use Rattle.format.specs.Laws.Variables.{flag-at, flags-one}
 use Rattle.format.specs.Decode.{maxDepth}
 use Rattle.format.specs.Rules.{maxLocals}
 use Rattle.labels.specs.declared.variables.Gathered.{Gathered}
 use Rattle.translation.specs.Layout.{Layout}
-use Rattle.translation.specs.Code.{loc, tmp, moved, mentions, shift, insideI}
+use Rattle.translation.specs.Code.{loc, tmp, moved, mentioned, shift, insideI}
 use Rattle.writer.specs.Laws.Put.{Put, PutInstr, Writes}
 use Rattle.emit.specs.Laws.Sources.{Low, Copies, Sited, Loads, LoadsAll, LoadsOf, Stores, Holds, LoadsWrite, Sets, Gets, InPlaceI}
 use Rattle.emit.specs.Laws.Sources.{Plain, PlainIf}
@@ -54,8 +52,7 @@ module _ {t : List ℕ} where
       → LoadsOf t i s o p o′ r
   loads-of {g = g} A L = record {
     gives = λ G m n e j h at.
-        let same : g .set ≡ flags (λ (x : ℕ). mentions x (e ∷ [])) = A .set e j (at .stands) ∙ flags-one e in
-        L .gives G m n (e ∷ []) h (λ x l. ap (λ (f : List Bool). getD f x false) same ∙ flag-at (λ (x : ℕ). mentions x (e ∷ [])) x false l);
+        L .gives G m n (e ∷ []) h (λ x l. A .set e j (at .stands) x l ∙ sym (either-false (mentioned x e)));
   }
 
   -- ---- stores

@@ -4,13 +4,13 @@ use crate::layout::Site;
 use crate::layout::home;
 use basics::numbers::ASSIGN;
 use basics::numbers::END;
-use basics::numbers::FLAGS;
 use basics::numbers::LOCAL;
 use basics::numbers::LOCALS;
 use basics::numbers::LOCATION;
 use basics::numbers::READ;
 use basics::numbers::WHOLE;
 use basics::numbers::WRITE;
+use labels::variables::has;
 use writer::bytes::put;
 use writer::bytes::put_four;
 use writer::bytes::put_three;
@@ -84,11 +84,11 @@ pub fn put_load(s: Site, x: u8, out: &mut [u8], at: usize) -> usize
     put_take(out, at, home(s, x), moved(x))
 }
 
-// Load x if its flag is set and the procedure has it.
-fn put_flagged(s: Site, flag: bool, x: u8, out: &mut [u8], at: usize) -> usize
-    ensures { λ r. ⌜ LoadsIf s flag x (now (out .entry)) at (now (out .exit)) r ⌝ }
+// Load x if it is in the set and the procedure has it.
+fn put_member(s: Site, set: u16, x: u8, out: &mut [u8], at: usize) -> usize
+    ensures { λ r. ⌜ LoadsIf s set x (now (out .entry)) at (now (out .exit)) r ⌝ }
 {
-    if flag {
+    if has(set, x) {
         if x < s.locals {
             return put_load(s, x, out, at);
         }
@@ -96,15 +96,15 @@ fn put_flagged(s: Site, flag: bool, x: u8, out: &mut [u8], at: usize) -> usize
     at
 }
 
-// "Loads go over distinct variables, rising": those whose flag is set.
-pub fn put_loads(s: Site, flags: [bool; FLAGS], out: &mut [u8], at: usize) -> usize
-    ensures { λ r. ⌜ LoadsAll s flags (now (out .entry)) at (now (out .exit)) r ⌝ }
+// "Loads go over distinct variables, rising": those of a set.
+pub fn put_loads(s: Site, set: u16, out: &mut [u8], at: usize) -> usize
+    ensures { λ r. ⌜ LoadsAll s set (now (out .entry)) at (now (out .exit)) r ⌝ }
 {
     let mut left = LOCALS;
     let mut p = at;
     while 0 < left {
         let x = LOCALS - left;
-        p = put_flagged(s, flags[x as usize], x, out, p);
+        p = put_member(s, set, x, out, p);
         left -= 1;
     }
     p

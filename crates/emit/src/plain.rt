@@ -27,9 +27,7 @@ ghost use Rattle.emit.specs.Laws.Sources.{LoadsOf, Stores, Holds, LoadsW
 pub fn put_loads_of(t: &[u8], at: usize, s: Site, out: &mut [u8], to: usize) -> usize
     ensures { λ r. ⌜ LoadsOf (now (t .entry)) at s (now (out .entry)) to (now (out .exit)) r ⌝ }
 {
-    let found = gather(t, at, DEPTH);
-    let set = found.set;
-    put_loads(s, set, out, to)
+    put_loads(s, gather(t, at, DEPTH).set, out, to)
 }
 
 // tmp := location l; tmp[tid] := the expression at `at`

@@ -53,7 +53,7 @@ pub mod Procs
 pub mod Sets
 -- one block after another
 pub mod Joined
--- the variables of expressions as a row of flags
+-- the variables of expressions are among the locals
 pub mod Variables
 -- labels count from 1, in textual order
 pub mod LabelOrder

@@ -1,13 +1,10 @@
 -- The variables that expressions mention: document 01, "Loads go over distinct variables, rising".
 use Prim.Native.Nat.{ℕ, zero, suc}
-use mathlib.Core.List.{List, [], _∷_, map}
+use mathlib.Core.List.{List, [], _∷_}
 use mathlib.Core.Bool.{Bool, true, false}
-use lib.ListN.{getD}
 use lib.Dec.{eqb}
 use Rattle.value.specs.Maybe.{either}
-use Rattle.value.specs.Lists.{upto}
 use Rattle.format.specs.Syntax.{Expr, constant, local, one, two}
-use Rattle.format.specs.Rules.{maxLocals}
 
 -- does an expression mention x
 abbrev pub mentioned : ℕ → Expr → Bool
@@ -30,13 +27,3 @@ keep false x xs = xs
 abbrev pub variables : ℕ → ℕ → List Expr → List ℕ
 variables x zero es = []
 variables x (suc n) es = keep (mentions x es) x (variables (suc x) n es)
-
--- ---- as a row of flags
-
--- a flag for each local that a procedure of a concurrent program can have
-abbrev pub flags : (ℕ → Bool) → List Bool
-flags f = map f (upto 0 maxLocals)
-
--- two rows together
-abbrev pub joined : List Bool → List Bool → List Bool
-joined a b = flags (λ x. either (getD a x false) (getD b x false))

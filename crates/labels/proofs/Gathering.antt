@@ -1,137 +1,97 @@
 -- One law for each way through the gatherer of variables.
-use Prim.Native.Nat.{ℕ, suc, _+_, _-_, _≤_, _<_}
+use Prim.Native.Nat.{ℕ, zero, suc, _+_, _*_, _-_, _/_, _%_, _^_, _≤_, _<_}
 use native.Mathlib.Omega.{arith}
+use native.Mathlib.Nat.{pow-succ', div-eq-of-lt}
+use lib.Pow.{pow-mono, pow-lt}
 use mathlib.Core.Path.{_≡_, refl, sym, ap, ap₂, subst, _∙_}
-use mathlib.Core.Logic.{_≢_}
-use mathlib.Core.List.{List}
-use mathlib.Core.Bool.{Bool, true, false, _||_}
-use lib.ListN.{length, getD, set, replicate, length-set, getD-replicate}
-use lib.Seq.{getD-set-same, getD-set-other}
+use mathlib.Core.List.{List, []}
+use mathlib.Core.Bool.{Bool, true, false}
+use lib.ListN.{length, getD}
+use lib.Bits.{bitOr}
+use lib.Count.{ones, ones-step, ones-le}
 use lib.Dec.{eqb}
-use mir.Val.{boolByte}
 use borrow.Author.Tests.{eqb-true, eqb-false, eq-eqb, ne-eqb}
 use Rattle.value.specs.Maybe.{either}
 use Rattle.value.specs.Values.{One, not, neg, Two, add, sub, mul, less, equal, and}
 use Rattle.value.specs.Marks.{mark₁, mark₂}
 use Rattle.basics.specs.Columns.{operandsOf, payloadOf}
+use Rattle.basics.specs.BitSets.{bit, bits}
+use Rattle.basics.specs.Laws.BitSets.{half, bit-zero, bit-pow, bit-shift, bits-none, bits-or}
 use Rattle.value.specs.declared.Value.the-variants.{Whole, Location, Truth}
-use Rattle.value.specs.Laws.Tests.{by-test}
+use Rattle.value.specs.Laws.Tests.{by-test, either-false}
 use Rattle.format.specs.Syntax.{Expr, constant, local, one, two}
 use Rattle.format.specs.Encode.{expr}
-use Rattle.format.specs.Variables.{mentioned, mentions, keep, variables, flags, joined}
-use Rattle.labels.specs.Walks.{arity, Gathers, GathersLeaf, CountsFlags}
-use Rattle.format.specs.Laws.Variables.{flag-at, row-is, joined-flags}
+use Rattle.format.specs.Variables.{mentioned, mentions, variables}
+use Rattle.labels.specs.Walks.{arity, Only, Gathers, GathersLeaf, GathersMore, GathersEach, Gathering, CountsSet}
 use Rattle.format.specs.Laws.Stands.{first, others, front, back}
-use Rattle.format.specs.Laws.ExprGrammar.{ExprAt, expr-inside, expr-deep}
+use Rattle.format.specs.Laws.ExprGrammar.{ExprAt, MoreAt, exprs-none, exprs-more, expr-inside, expr-deep}
+use Rattle.format.specs.Decode.{maxDepth}
 use Rattle.format.specs.Rules.{maxLocals}
 use Rattle.labels.specs.declared.variables.Gathered.{Gathered}
 
 -- ---- one variable
 
 -- a variable below 16
-pub only-low : {x : ℕ} → x < maxLocals → set (replicate maxLocals false) x true ≡ flags (λ y. eqb y x)
-only-low {x} h = row-is (λ y. eqb y x) (set (replicate maxLocals false) x true) refl? at
+pub only-low : {x : ℕ} → x < maxLocals → Only x (1 * 2 ^ x % 65536)
+unfolding bits
+only-low {x} h =
+    let small : 2 ^ x < 2 ^ 16 = pow-lt {i = x} {j = 16} h in
+    let one : 1 * 2 ^ x % 65536 ≡ 2 ^ x = omega arith in
+    record { is = λ y k. rw one (bit-pow x y ∙ turned x y) }
   where
-    refl? : length (set (replicate maxLocals false) x true) ≡ maxLocals
-    refl? = length-set (replicate maxLocals false) x true
+    turned : (x y : ℕ) → eqb x y ≡ eqb y x
+    turned x y = by-test (eqb y x) (λ e. eq-eqb x y (sym (eqb-true y x e)) ∙ sym e) (λ e. ne-eqb x y (λ q. eqb-false y x e (sym q)) ∙ sym e)
 
-    at : (y : ℕ) → y < maxLocals → getD (set (replicate maxLocals false) x true) y false ≡ eqb y x
-    at y k =
-        by-test (eqb y x)
-        (λ e. let same : y ≡ x = eqb-true y x e in rw same (getD-set-same (replicate maxLocals false) x true false h ∙ sym (eq-eqb x x refl)))
-        (λ e. let apart : y ≢ x = eqb-false y x e in
-        getD-set-other (replicate maxLocals false) x y true false apart ∙ getD-replicate maxLocals y false false k ∙ sym e)
-
--- no other has a flag
-pub only-high : {x : ℕ} → maxLocals ≤ x → replicate maxLocals false ≡ flags (λ y. eqb y x)
-only-high {x} h = row-is (λ y. eqb y x) (replicate maxLocals false) refl (λ y k. getD-replicate maxLocals y false false k ∙ sym (ne-eqb y x (λ e. omega arith)))
+-- no other is in the set
+pub only-high : {x : ℕ} → maxLocals ≤ x → Only x 0
+unfolding bits
+only-high {x} h = record { is = λ y k. bit-zero y ∙ sym (ne-eqb y x (λ e. omega arith)) }
 
 pub ruleset only-ways = (only-low, only-high)
 
--- ---- two rows
+-- ---- one of a set
 
--- the flags below i are joined
-pub record Joining (a b row : List Bool) (i : ℕ) : Type 0 where
-  pub long : length row ≡ maxLocals
-  pub few : i ≤ maxLocals
-  pub below : (x : ℕ) → x < i → getD row x false ≡ either (getD a x false) (getD b x false)
+-- a variable below 16
+pub has-low : (s x : ℕ) → x < maxLocals → eqb (s / 2 ^ x % 2) 1 ≡ bits s x
+unfolding bits
+has-low s x h = sym (bit-shift s x)
 
-module _ {a b : List Bool} where
-  -- none
-  pub join-start : Joining a b (replicate maxLocals false) 0
-  join-start = record { long = refl; few = omega arith; below = λ x h. absurd (omega arith) }
+-- no other
+pub has-high : (s x : ℕ) → s < 65536 → maxLocals ≤ x → false ≡ bits s x
+unfolding bits
+has-high s x f h =
+    let most : 2 ^ 16 ≤ 2 ^ x = pow-mono h in
+    let none : s / 2 ^ x ≡ 0 = div-eq-of-lt (omega arith) in
+    sym (rw (bit-shift s x, none))
 
-  -- one more
-  pub join-next : {row : List Bool} {i : ℕ} → Joining a b row i → i < maxLocals → Joining a b (set row i (getD a i false || getD b i false)) (i + 1)
-  join-next {row} {i} J h = record { long = length-set row i _ ∙ J .long; few = omega arith; below = below }
-    where
-      or : (p q : Bool) → (p || q) ≡ either p q
-      or true q = refl
-      or false q = refl
-
-      below : (x : ℕ) → x < i + 1 → getD (set row i (getD a i false || getD b i false)) x false ≡ either (getD a x false) (getD b x false)
-      below x k =
-          by-test (eqb x i)
-          (λ e.
-          let same : x ≡ i = eqb-true x i e in
-          rw same (getD-set-same row i (getD a i false || getD b i false) false (omega (arith, J .long)) ∙ or (getD a i false) (getD b i false)))
-          (λ e.
-          let apart : x ≢ i = eqb-false x i e in
-          getD-set-other row i x (getD a i false || getD b i false) false apart ∙ J .below x (omega arith))
-
-  -- all
-  pub join-end : {row : List Bool} {i : ℕ} → Joining a b row i → maxLocals ≤ i → row ≡ joined a b
-  join-end {row} J h = row-is _ row (J .long) (λ x k. J .below x (omega arith))
-
-pub ruleset join-ways = (join-start, join-next, join-end)
+pub ruleset has-ways = (has-low, has-high)
 
 -- ---- how many
 
--- n are set below i
-pub record Tally (row : List Bool) (i n : ℕ) : Type 0 where
-  pub few : i ≤ maxLocals
-  pub low : n ≤ i
-  pub counts : (es : List Expr) → row ≡ flags (λ x. mentions x es) → length (variables 0 maxLocals es) ≡ n + length (variables i (maxLocals - i) es)
+-- a set of variables from x on has as many bits
+ones-count : (k s x : ℕ) (es : List Expr) → s < 2 ^ k → ((y : ℕ) → y < k → bit s y ≡ mentions (x + y) es) → ones s ≡ length (variables x k es)
+unfolding ones
+ones-count zero s x es l h = let none : s ≡ 0 = omega arith in ap ones none
+ones-count (suc k) s x es l h =
+    let more : 2 ^ suc k ≡ 2 * 2 ^ k = pow-succ' 2 k in
+    let rest : ones (s / 2) ≡ length (variables (suc x) k es) =
+    ones-count k (s / 2) (suc x) es (omega arith) (λ y q. h (suc y) (omega arith) ∙ ap (λ (z : ℕ). mentions z es) (omega arith))
+    in
+    let here : bit s 0 ≡ mentions x es = h 0 (omega arith) ∙ ap (λ (z : ℕ). mentions z es) (omega arith) in
+    ones-step s ∙ half s
+    (λ q. let off : mentions x es ≡ false = sym here ∙ rw q in rw (q, off) (omega (arith, rest)))
+    (λ q. let on : mentions x es ≡ true = sym here ∙ rw q in rw (q, on) (omega (arith, rest)))
 
--- a flag counts for one, or for none
-pub byte-one : (f : Bool) → boolByte f ≤ 1
-byte-one true = omega arith
-byte-one false = omega arith
+-- there are at most 16
+pub ones-few : (s : ℕ) → s < 65536 → ones s < 18446744073709551616
+ones-few s f = omega (arith, ones-le 16 s f)
 
-module _ {row : List Bool} where
-  -- none
-  pub tally-start : Tally row 0 0
-  tally-start = record { few = omega arith; low = omega arith; counts = λ es e. omega arith }
+-- the count of ones
+pub counts-ones : (s : ℕ) → s < 65536 → CountsSet s (ones s)
+unfolding bits
+counts-ones s f = record { few = ones-le 16 s f; counts = λ es h. ones-count maxLocals s 0 es f (λ y q. h y q ∙ ap (λ (z : ℕ). mentions z es) (omega arith)) }
 
-  -- one more
-  pub tally-next : {i n : ℕ} → Tally row i n → i < maxLocals → Tally row (i + 1) (n + boolByte (getD row i false))
-  tally-next {i} {n} T h = record {
-    few = omega arith;
-    low = omega (arith, byte-one (getD row i false));
-    counts = λ es e.
-        let here : getD row i false ≡ mentions i es = ap (λ (r : List Bool). getD r i false) e ∙ flag-at (λ x. mentions x es) i false h in
-        let left : maxLocals - i ≡ suc (maxLocals - (i + 1)) = omega arith in
-        let next : i + 1 ≡ suc i = omega arith in
-        let more : length (variables i (maxLocals - i) es) ≡ boolByte (getD row i false) + length (variables (i + 1) (maxLocals - (i + 1)) es) =
-        rw (left, here, next) (kept (mentions i es) (variables (suc i) (maxLocals - suc i) es))
-        in
-        omega (arith, T .counts es e);
-  }
-    where
-      kept : (f : Bool) (xs : List ℕ) → length (keep f i xs) ≡ boolByte f + length xs
-      kept true xs = omega arith
-      kept false xs = omega arith
-
-  -- all
-  pub tally-end : {i n : ℕ} → Tally row i n → maxLocals ≤ i → CountsFlags row n
-  tally-end {i} {n} T h = record {
-    counts = λ es e.
-        let all : maxLocals - i ≡ 0 = omega arith in
-        let none : length (variables i (maxLocals - i) es) ≡ 0 = rw all in
-        omega (arith, T .counts es e);
-  }
-
-pub ruleset tally-ways = (tally-start, tally-next, tally-end)
+pub ruleset count-set-ways = (counts-ones)
 
 -- ---- expressions by their marks
 
@@ -170,8 +130,8 @@ module _ {t : List ℕ} {i d j : ℕ} where
 
 -- ---- leaves
 
--- the flags and the end
-abbrev pub gathered : List Bool → ℕ → Gathered
+-- the set and the end
+abbrev pub gathered : ℕ → ℕ → Gathered
 gathered s j = record { set = s; next = j }
 
 module _ {t : List ℕ} {i n : ℕ} (payload : n ≡ payloadOf (getD t i 0)) where
@@ -180,31 +140,31 @@ module _ {t : List ℕ} {i n : ℕ} (payload : n ≡ payloadOf (getD t i 0)) whe
   ends-behind e d j h k = ap (λ (x : ℕ). i + 1 + x) payload ∙ leaf-ends e h k
 
   -- "05 + 1 byte: local variable"
-  pub leaf-local : {s : List Bool} → getD t i 0 ≡ 0x05 → s ≡ flags (λ y. eqb y (getD t (i + 1) 0)) → GathersLeaf t i (gathered s (i + 1 + n))
+  pub leaf-local : {s : ℕ} → getD t i 0 ≡ 0x05 → Only (getD t (i + 1) 0) s → GathersLeaf t i (gathered s (i + 1 + n))
   leaf-local {s} q f = record { set = set; ends = ends-behind }
     where
-      set : (e : Expr) (d j : ℕ) → ExprAt t i d e j → arity e ≡ 0 → s ≡ flags (λ x. mentioned x e)
+      set : (e : Expr) (d j : ℕ) → ExprAt t i d e j → arity e ≡ 0 → (x : ℕ) → x < maxLocals → bits s x ≡ mentioned x e
       set (constant (Whole z)) d j h k = absurd (omega (arith, first (h .stands)))
       set (constant (Location l)) d j h k = absurd (omega (arith, first (h .stands)))
       set (constant (Truth true)) d j h k = absurd (omega (arith, first (h .stands)))
       set (constant (Truth false)) d j h k = absurd (omega (arith, first (h .stands)))
-      set (local x) d j h k = f ∙ ap (λ (z : ℕ). flags (λ y. eqb y z)) (first (others (h .stands)))
+      set (local y) d j h k = λ x l. f .is x l ∙ ap (eqb x) (first (others (h .stands)))
       set (one o a) d j h k = absurd (omega arith)
       set (two o a b) d j h k = absurd (omega arith)
 
   -- its byte is cut off
-  pub leaf-cut : {s : List Bool} → getD t i 0 ≡ 0x05 → length t ≤ i + 1 → GathersLeaf t i (gathered s (i + 1 + n))
+  pub leaf-cut : {s : ℕ} → getD t i 0 ≡ 0x05 → length t ≤ i + 1 → GathersLeaf t i (gathered s (i + 1 + n))
   leaf-cut q l = record { set = λ e d j h k. absurd (omega (arith, behind e h k, h .stands .fits)); ends = ends-behind }
     where
       behind : (e : Expr) {d j : ℕ} → ExprAt t i d e j → arity e ≡ 0 → i + 2 ≡ j
       behind e h k = let one : payloadOf (getD t i 0) ≡ 1 = rw q in omega (arith, leaf-ends e h k)
 
   -- a constant
-  pub leaf-constant : (getD t i 0 ≡ 0x05 → ⊥) → GathersLeaf t i (gathered (replicate maxLocals false) (i + 1 + n))
+  pub leaf-constant : (getD t i 0 ≡ 0x05 → ⊥) → GathersLeaf t i (gathered 0 (i + 1 + n))
   leaf-constant q = record { set = set; ends = ends-behind }
     where
-      set : (e : Expr) (d j : ℕ) → ExprAt t i d e j → arity e ≡ 0 → replicate maxLocals false ≡ flags (λ x. mentioned x e)
-      set (constant v) d j h k = refl
+      set : (e : Expr) (d j : ℕ) → ExprAt t i d e j → arity e ≡ 0 → (x : ℕ) → x < maxLocals → bits 0 x ≡ mentioned x e
+      set (constant v) d j h k = λ x l. bits-none x
       set (local x) d j h k = absurd (q (first (h .stands)))
       set (one o a) d j h k = absurd (omega arith)
       set (two o a b) d j h k = absurd (omega arith)
@@ -228,7 +188,7 @@ module _ {t : List ℕ} {i d : ℕ} where
       inner : {a : Expr} {p : One} {j : ℕ} → ExprAt t i d (one p a) j → ExprAt t (i + 1) (d - 1) a j
       inner h = record { stands = others (h .stands); fits = (omega (arith, h .fits .0), h .fits .1) }
 
-      set : (e : Expr) (j : ℕ) → ExprAt t i d e j → x .set ≡ flags (λ y. mentioned y e)
+      set : (e : Expr) (j : ℕ) → ExprAt t i d e j → (n : ℕ) → n < maxLocals → bits (x .set) n ≡ mentioned n e
       set (constant v) j h = absurd (omega (arith, operands-are (constant v) h))
       set (local y) j h = absurd (omega (arith, operands-are (local y) h))
       set (one p a) j h = X .set a j (inner h)
@@ -241,9 +201,9 @@ module _ {t : List ℕ} {i d : ℕ} where
       ends (two p a b) j h = absurd (omega (arith, operands-are (two p a b) h))
 
   -- two
-  pub gathers-two : {k : ℕ} {x y : Gathered} {s : List Bool} → k ≡ operandsOf (getD t i 0) → k ≡ 2 → Gathers t (i + 1) (d - 1) x
-      → Gathers t (x .next) (d - 1) y → s ≡ joined (x .set) (y .set) → Gathers t i d (gathered s (y .next))
-  gathers-two {k} {x} {y} {s} o z X Y e = record { set = set; ends = ends }
+  pub gathers-two : {k : ℕ} {x y : Gathered} → k ≡ operandsOf (getD t i 0) → k ≡ 2 → Gathers t (i + 1) (d - 1) x
+      → Gathers t (x .next) (d - 1) y → Gathers t i d (gathered (bitOr (x .set) (y .set)) (y .next))
+  gathers-two {k} {x} {y} o z X Y = record { set = set; ends = ends }
     where
       left : {p : Two} (a b : Expr) {j : ℕ} → ExprAt t i d (two p a b) j → ExprAt t (i + 1) (d - 1) a (i + 1 + length (expr a))
       left a b h = record { stands = front (expr a) (expr b) (others (h .stands)); fits = (omega (arith, h .fits .0), h .fits .1 .0) }
@@ -253,12 +213,11 @@ module _ {t : List ℕ} {i d : ℕ} where
           subst (λ (n : ℕ). ExprAt t n (d - 1) b j) (sym (X .ends a _ (left a b h)))
           (record { stands = back (expr a) (expr b) (others (h .stands)); fits = (omega (arith, h .fits .0), h .fits .1 .1) })
 
-      set : (e : Expr) (j : ℕ) → ExprAt t i d e j → s ≡ flags (λ n. mentioned n e)
+      set : (e : Expr) (j : ℕ) → ExprAt t i d e j → (n : ℕ) → n < maxLocals → bits (bitOr (x .set) (y .set)) n ≡ mentioned n e
       set (constant v) j h = absurd (omega (arith, operands-are (constant v) h))
       set (local n) j h = absurd (omega (arith, operands-are (local n) h))
       set (one p a) j h = absurd (omega (arith, operands-are (one p a) h))
-      set (two p a b) j h =
-          e ∙ ap₂ joined (X .set a _ (left a b h)) (Y .set b j (right a b h)) ∙ joined-flags (λ n. mentioned n a) (λ n. mentioned n b)
+      set (two p a b) j h = λ n l. bits-or (x .set) (y .set) n ∙ ap₂ either (X .set a _ (left a b h) n l) (Y .set b j (right a b h) n l)
 
       ends : (e : Expr) (j : ℕ) → ExprAt t i d e j → y .next ≡ j
       ends (constant v) j h = absurd (omega (arith, operands-are (constant v) h))
@@ -277,3 +236,45 @@ module _ {t : List ℕ} {i d : ℕ} where
       leaf (two p a b) h = absurd (n₂ (o ∙ operands-are (two p a b) h))
 
 pub ruleset gather-ways = (gathers-shallow, gathers-past, gathers-one, gathers-two, gathers-leaf)
+
+-- ---- several expressions
+
+-- one or two others
+either-assoc : (a b c : Bool) → either (either a b) c ≡ either a (either b c)
+either-assoc true b c = refl
+either-assoc false b c = refl
+
+module _ {t : List ℕ} where
+  -- before the first
+  pub each-start : {i k : ℕ} → Gathering t i k 0 i k
+  each-start = record {
+    back = λ M. record { gives = λ es j at x l. M .gives es j at x l ∙ ap (λ (b : Bool). either b (mentions x es)) (bits-none x) };
+  }
+
+  -- one more
+  pub each-next : {i k i′ left s : ℕ} {g : Gathered} → Gathering t i k s i′ left → 0 < left → Gathers t i′ maxDepth g
+      → Gathering t i k (bitOr s (g .set)) (g .next) (left - 1)
+  each-next {i} {k} {i′} {left} {s} {g} F some A = record {
+    back = λ M. F .back (record { gives = λ es j at x l. one es j x l (exprs-more at some) M });
+  }
+    where
+      one : {r : ℕ} (es : List Expr) (j x : ℕ) → x < maxLocals → MoreAt t i′ left es j → GathersMore t (g .next) (left - 1) (bitOr s (g .set)) r
+          → bits r x ≡ either (bits s x) (mentions x es)
+      one {r} es j x l w M =
+          let next : g .next ≡ w .k = A .ends (w .e) (w .k) (w .here) in
+          let here : bits (bitOr s (g .set)) x ≡ either (bits s x) (mentioned x (w .e)) =
+          bits-or s (g .set) x ∙ ap (either (bits s x)) (A .set (w .e) (w .k) (w .here) x l)
+          in
+          M .gives (w .rest) j (rw next (w .after)) x l ∙ ap (λ (b : Bool). either b (mentions x (w .rest))) here
+          ∙ either-assoc (bits s x) (mentioned x (w .e)) (mentions x (w .rest))
+          ∙ ap (λ (fs : List Expr). either (bits s x) (mentions x fs)) (sym (w .is))
+
+  -- after the last
+  pub each-end : {i k i′ left s : ℕ} → Gathering t i k s i′ left → left ≤ 0 → GathersEach t i k s
+  each-end {s = s} F none = F .back (record {
+    gives = λ es j at x l.
+        let empty : es ≡ [] = exprs-none at (omega arith) .0 in
+        sym (ap (λ (fs : List Expr). either (bits s x) (mentions x fs)) empty ∙ either-false (bits s x));
+  })
+
+pub ruleset each-ways = (each-start, each-next, each-end)

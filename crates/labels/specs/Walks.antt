@@ -2,9 +2,11 @@
 use Prim.Native.Nat.{ℕ, suc, _+_, _*_, _-_, _≤_, _<_}
 use mathlib.Core.Path.{_≡_}
 use mathlib.Core.List.{List, [], _∷_, _++_}
-use mathlib.Core.Bool.{Bool}
 use lib.ListN.{length}
 use lib.Seq.{sets}
+use lib.Dec.{eqb}
+use Rattle.basics.specs.BitSets.{bits}
+use Rattle.value.specs.Maybe.{either}
 use Rattle.value.specs.Laws.Lists.{Each}
 use Rattle.format.specs.Syntax.{Expr, constant, local, one, two}
 use Rattle.format.specs.Syntax.{Instr, assign, write, read, while, if, call, atomic, select, Block, end, step, Proc, Program, Plain}
@@ -12,7 +14,7 @@ use Rattle.format.specs.Syntax.{concurrent}
 use Rattle.format.specs.Encode.{expr, instr, block, each, bodiesOf}
 use Rattle.format.specs.Labels.{count, countI, counts, label, first}
 use Rattle.labels.specs.LabelMap.{Mapped}
-use Rattle.format.specs.Variables.{mentioned, mentions, variables, flags}
+use Rattle.format.specs.Variables.{mentioned, mentions, variables}
 use Rattle.format.specs.Rules.{limits, maxLabels, maxLocals}
 use Rattle.format.specs.Laws.Fits.{BlockFits}
 use Rattle.format.specs.Laws.Formed.{Formed}
@@ -63,19 +65,40 @@ arity (local x) = 0
 arity (one o a) = 1
 arity (two o a b) = 2
 
+-- a set of one variable; those from 16 on are in none
+pub record Only (x r : ℕ) : Type 0 where
+  pub is : (y : ℕ) → y < maxLocals → bits r y ≡ eqb y x
+
+-- the bits of a set are the variables of es
+abbrev pub SetOf : ℕ → List Expr → Type 0
+SetOf s es = (x : ℕ) → x < maxLocals → bits s x ≡ mentions x es
+
 -- the variables of the expression that stands at i, and where it ends
 pub record Gathers (t : List ℕ) (i d : ℕ) (r : Gathered) : Type 0 where
-  pub set : (e : Expr) (j : ℕ) → ExprAt t i d e j → r .set ≡ flags (λ x. mentioned x e)
+  pub set : (e : Expr) (j : ℕ) → ExprAt t i d e j → (x : ℕ) → x < maxLocals → bits (r .set) x ≡ mentioned x e
   pub ends : (e : Expr) (j : ℕ) → ExprAt t i d e j → r .next ≡ j
 
 -- the same, of an expression without operands
 pub record GathersLeaf (t : List ℕ) (i : ℕ) (r : Gathered) : Type 0 where
-  pub set : (e : Expr) (d j : ℕ) → ExprAt t i d e j → arity e ≡ 0 → r .set ≡ flags (λ x. mentioned x e)
+  pub set : (e : Expr) (d j : ℕ) → ExprAt t i d e j → arity e ≡ 0 → (x : ℕ) → x < maxLocals → bits (r .set) x ≡ mentioned x e
   pub ends : (e : Expr) (d j : ℕ) → ExprAt t i d e j → arity e ≡ 0 → r .next ≡ j
 
--- how many of a row are set: as many as there are variables
-pub record CountsFlags (row : List Bool) (r : ℕ) : Type 0 where
-  pub counts : (es : List Expr) → row ≡ flags (λ x. mentions x es) → r ≡ length (variables 0 maxLocals es)
+-- what is in the set s, and the variables of k expressions from i on
+pub record GathersMore (t : List ℕ) (i k s r : ℕ) : Type 0 where
+  pub gives : (es : List Expr) (j : ℕ) → ExprsAt t i k es j → (x : ℕ) → x < maxLocals → bits r x ≡ either (bits s x) (mentions x es)
+
+-- the variables of k expressions, in one set
+pub record GathersEach (t : List ℕ) (i k r : ℕ) : Type 0 where
+  pub gives : (es : List Expr) (j : ℕ) → ExprsAt t i k es j → SetOf r es
+
+-- what is gathered from there on is gathered from here on
+pub record Gathering (t : List ℕ) (i k s i′ left : ℕ) : Type 0 where
+  pub back : {r : ℕ} → GathersMore t i′ left s r → GathersEach t i k r
+
+-- how many are in a set: as many as there are variables
+pub record CountsSet (s r : ℕ) : Type 0 where
+  pub few : r ≤ maxLocals
+  pub counts : (es : List Expr) → SetOf s es → r ≡ length (variables 0 maxLocals es)
 
 -- ---- how many labels it has
 

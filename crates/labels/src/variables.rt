@@ -1,55 +1,44 @@
-// The variables that an expression mentions, as a row of flags.
-use basics::numbers::FLAGS;
+// The variables that an expression mentions, as a set: bit x of a number is local x.
+use basics::numbers::DEPTH;
 use basics::numbers::LOCAL;
 use basics::numbers::LOCALS;
 ghost use mathlib.Core.Path.{_≡_};
 ghost use Prim.Native.Nat.{_<_};
 ghost use lib.ListN.{length};
-ghost use lib.Dec.{eqb};
-ghost use Rattle.format.specs.Variables.{flags, joined};
-ghost use Rattle.labels.specs.Walks.{Gathers, GathersLeaf, CountsFlags};
+ghost use Rattle.basics.specs.BitSets.{bits};
+ghost use Rattle.labels.specs.Walks.{Only, Gathers, GathersLeaf, GathersEach, CountsSet};
 
-// The flags of the variables, and where the expression ends.
+// The set of the variables, and where the expression ends.
 pub struct Gathered {
-    pub set: [bool; FLAGS],
+    pub set: u16,
     pub next: usize,
 }
 
-// The row of one variable.
-fn only(x: u8) -> [bool; FLAGS]
-    ensures { λ r. ⌜ r ≡ flags (λ y. eqb y x) ⌝ }
+// The set of one variable. There are no locals from 16 on: such a byte gives the empty set.
+fn only(x: u8) -> u16
+    ensures { λ r. ⌜ Only x r ⌝ }
 {
-    let mut row = [false; FLAGS];
     if x < LOCALS {
-        row[x as usize] = true;
+        return 1 << x;
     }
-    row
+    0
 }
 
-// The flags that are set in one row or in the other.
-pub fn join(a: [bool; FLAGS], b: [bool; FLAGS]) -> [bool; FLAGS]
-    ensures { λ r. ⌜ r ≡ joined a b ⌝ }
+// Is x in the set?
+pub fn has(set: u16, x: u8) -> bool
+    ensures { λ r. ⌜ r ≡ bits set x ⌝ }
 {
-    let mut row = [false; FLAGS];
-    let mut i: usize = 0;
-    while i < FLAGS {
-        row[i] = a[i] | b[i];
-        i += 1;
+    if x < LOCALS {
+        return (set >> x) % 2 == 1;
     }
-    row
+    false
 }
 
-// How many flags are set.
-pub fn count(row: [bool; FLAGS]) -> usize
-    ensures { λ r. ⌜ CountsFlags row r ⌝ }
+// How many variables are in the set: k of the price list.
+pub fn count(set: u16) -> u64
+    ensures { λ r. ⌜ CountsSet set r ⌝ }
 {
-    let mut n = 0;
-    let mut i: usize = 0;
-    while i < FLAGS {
-        n += row[i] as usize;
-        i += 1;
-    }
-    n
+    u16::count_ones(set) as u64
 }
 
 // The variables of the expression that stands from `at` on, at most `depth` deep.
@@ -57,16 +46,10 @@ pub fn gather(code: &[u8], at: usize, depth: u8) -> Gathered
     ensures { λ r. ⌜ Gathers (now (code .entry)) at depth r ⌝ }
 {
     if depth == 0 {
-        return Gathered {
-            set: [false; FLAGS],
-            next: at,
-        };
+        return Gathered { set: 0, next: at };
     }
     if code.len() <= at {
-        return Gathered {
-            set: [false; FLAGS],
-            next: at,
-        };
+        return Gathered { set: 0, next: at };
     }
     let mark = code[at];
     let operands = basics::marks::operands(mark);
@@ -76,10 +59,8 @@ pub fn gather(code: &[u8], at: usize, depth: u8) -> Gathered
     if operands == 2 {
         let left = gather(code, at + 1, depth - 1);
         let right = gather(code, left.next, depth - 1);
-        let a = left.set;
-        let b = right.set;
         return Gathered {
-            set: join(a, b),
+            set: left.set | right.set,
             next: right.next,
         };
     }
@@ -101,8 +82,21 @@ fn leaf(code: &[u8], at: usize) -> Gathered
             };
         }
     }
-    Gathered {
-        set: [false; FLAGS],
-        next: next,
+    Gathered { set: 0, next: next }
+}
+
+// The variables of `count` expressions from `at` on, in one set.
+pub fn gather_each(code: &[u8], at: usize, count: u8) -> u16
+    ensures { λ r. ⌜ GathersEach (now (code .entry)) at count r ⌝ }
+{
+    let mut set = 0;
+    let mut i = at;
+    let mut left = count;
+    while 0 < left {
+        let found = gather(code, i, DEPTH);
+        set |= found.set;
+        i = found.next;
+        left -= 1;
     }
+    set
 }

@@ -1,18 +1,8 @@
--- Sets of locals as the bits of a number.
-use Prim.Native.Nat.{ℕ, zero, suc, _-_, _/_, _%_, _^_}
-use mathlib.Core.Bool.{Bool}
+-- Sets of locals as the bits of a number, as rule 8 makes them: a procedure of either kind has fewer than 64.
+use Prim.Native.Nat.{ℕ, _-_, _^_}
 use lib.Bits.{bitOr}
-use lib.Dec.{eqb, ltb}
+use lib.Dec.{ltb}
 use Rattle.value.specs.Maybe.{pick}
-
--- is x in the set: bit x
-abbrev pub bit : ℕ → ℕ → Bool
-bit n zero = eqb (n % 2) 1
-bit n (suc x) = bit (n / 2) x
-
--- the set
-unfoldable pub bits : ℕ → ℕ → Bool
-bits n = λ x. bit n x
 
 -- the set with x, where x is below 64
 unfoldable pub insert : ℕ → ℕ → ℕ

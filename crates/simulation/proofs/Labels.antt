@@ -15,17 +15,14 @@ use Rattle.format.specs.Syntax as S
 use Rattle.format.specs.Encode.{expr, block}
 use Rattle.format.specs.Laws.Grammar.{InstrAt, MoreAt, exprs-none, exprs-more, AtomicAt, atomic-here}
 use Rattle.format.specs.Laws.Stands.{first}
-use Rattle.labels.specs.Walks.{Gathers}
-use Rattle.format.specs.Variables.{flags, joined}
-use Rattle.format.specs.Laws.Variables.{flag-at}
+use Rattle.labels.specs.Walks.{GathersEach}
 use Rattle.format.specs.Decode.{maxDepth, maxNesting}
 use Rattle.format.specs.Rules.{maxLocals}
-use Rattle.labels.specs.declared.variables.Gathered.{Gathered}
 use Rattle.translation.specs.Layout.{Layout}
 use Rattle.translation.specs.Code.{_then_, num, loc, tid, tmp, mentioned, mentions, shift, goto, passes, code}
 use Rattle.writer.specs.Laws.Put.{Put, PutInstr, PutBlock, Writes}
 use Rattle.emit.specs.Laws.Sources.{Low, Sited, LoadsOf, Stores, Goes, Asks, InPlace, PlainIf, InsideBlock}
-use Rattle.emit.specs.Laws.Sources.{LoadsAll, Ways, Questions, Tests, GathersMore, GathersEach, Gathering, LoadsEach, Passes, Passing}
+use Rattle.emit.specs.Laws.Sources.{LoadsAll, Ways, Questions, Tests, LoadsEach, Passes, Passing}
 use Rattle.emit.specs.Laws.Sources.{Marks, Calls, OneLabel, Steps}
 use Rattle.emit.specs.declared.exprs.Copied.{Copied}
 use Rattle.emit.specs.declared.layout.Site.{Site}
@@ -39,17 +36,6 @@ use Rattle.emit.proofs.Plainly.{low-more}
 pub way : {label : ℕ} {o o₁ o₂ : List ℕ} {p p₁ p₂ : ℕ} → PutInstr o p (write tmp (local tid) (num label)) o₁ p₁ → Put o₁ p₁ (0 ∷ []) o₂ p₂
     → Ways label o p o₂ p₂
 way A B = record { gives = λ G m n. writes-block (writes-instr A) (block-end B) }
-
--- no flag of an empty row is set
-none-set : (n x : ℕ) → getD (replicate n false) x false ≡ false
-none-set zero x = refl
-none-set (suc n) zero = refl
-none-set (suc n) (suc x) = none-set n x
-
--- one or two others
-either-assoc : (a b c : Bool) → either (either a b) c ≡ either a (either b c)
-either-assoc true b c = refl
-either-assoc false b c = refl
 
 -- the bytes of an if, part by part
 if-bytes : (a b c z : List ℕ) → (0x24 ∷ a) ++ (b ++ (c ++ z)) ≡ (0x24 ∷ a ++ (b ++ c)) ++ z
@@ -88,46 +74,8 @@ module _ {t : List ℕ} where
 
   -- ---- calls
 
-  -- before the first argument
-  pub gather-start : {i k : ℕ} → Gathering t i k (replicate maxLocals false) i k
-  gather-start {i} {k} = record {
-    back = λ M. record { gives = λ es j at x l. M .gives es j at x l ∙ ap (λ (b : Bool). either b (mentions x es)) (no-flag x) };
-  }
-    where
-      no-flag : (x : ℕ) → getD (replicate maxLocals false) x false ≡ false
-      no-flag x = none-set maxLocals x
-
-  -- an argument more
-  pub gather-next : {i k i′ left : ℕ} {set more : List Bool} {g : Gathered} → Gathering t i k set i′ left → 0 < left → Gathers t i′ maxDepth g
-      → more ≡ joined set (g .set) → Gathering t i k more (g .next) (left - 1)
-  gather-next {i} {k} {i′} {left} {set} {more} {g} F some A e = record {
-    back = λ M. F .back (record { gives = λ es j at x l. one es j x l (exprs-more at some) M });
-  }
-    where
-      one : {r : List Bool} (es : List Expr) (j x : ℕ) → x < maxLocals → MoreAt t i′ left es j → GathersMore t (g .next) (left - 1) more r
-          → getD r x false ≡ either (getD set x false) (mentions x es)
-      one {r} es j x l w M =
-          let found : g .set ≡ flags (λ (y : ℕ). mentioned y (w .e)) = A .set (w .e) (w .k) (w .here) in
-          let next : g .next ≡ w .k = A .ends (w .e) (w .k) (w .here) in
-          let here : getD more x false ≡ either (getD set x false) (mentioned x (w .e)) =
-          ap (λ (f : List Bool). getD f x false) e ∙ flag-at (λ (y : ℕ). either (getD set y false) (getD (g .set) y false)) x false l
-          ∙ ap (λ (f : List Bool). either (getD set x false) (getD f x false)) found
-          ∙ ap (either (getD set x false)) (flag-at (λ (y : ℕ). mentioned y (w .e)) x false l)
-          in
-          let rest : getD r x false ≡ either (getD more x false) (mentions x (w .rest)) = M .gives (w .rest) j (rw next (w .after)) x l in
-          rest ∙ ap (λ (b : Bool). either b (mentions x (w .rest))) here ∙ either-assoc (getD set x false) (mentioned x (w .e)) (mentions x (w .rest))
-          ∙ ap (λ (fs : List Expr). either (getD set x false) (mentions x fs)) (sym (w .is))
-
-  -- after the last
-  pub gather-end : {i k i′ left : ℕ} {set : List Bool} → Gathering t i k set i′ left → left ≤ 0 → GathersEach t i k set
-  gather-end {set = set} F none = F .back (record {
-    gives = λ es j at x l.
-        let empty : es ≡ [] = exprs-none at (omega arith) .0 in
-        sym (ap (λ (fs : List Expr). either (getD set x false) (mentions x fs)) empty ∙ either-false (getD set x false));
-  })
-
   -- the loads of all arguments' variables
-  pub loads-each : {i k : ℕ} {set : List Bool} {s : Site} {o o′ : List ℕ} {p r : ℕ} → GathersEach t i k set → LoadsAll s set o p o′ r
+  pub loads-each : {i k set : ℕ} {s : Site} {o o′ : List ℕ} {p r : ℕ} → GathersEach t i k set → LoadsAll s set o p o′ r
       → LoadsEach t i k s o p o′ r
   loads-each A L = record { gives = λ G m n es j h at. L .gives G m n es h (A .gives es j (at .stand)) }
 
@@ -232,9 +180,6 @@ pub ruleset label-ways = (
   way,
   question,
   tested,
-  gather-start,
-  gather-next,
-  gather-end,
   loads-each,
   passing-start,
   passing-next,

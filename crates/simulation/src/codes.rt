@@ -2,9 +2,7 @@
 use crate::inside::put_ask;
 use crate::inside::put_inside;
 use basics::numbers::ATOMIC;
-use basics::numbers::DEPTH;
 use basics::numbers::END;
-use basics::numbers::FLAGS;
 use basics::numbers::NESTING;
 use emit::layout::Site;
 use emit::layout::home;
@@ -15,12 +13,11 @@ use emit::pieces::put_pc;
 use emit::plain::put_loads_of;
 use emit::plain::put_plain;
 use emit::plain::put_store;
-use labels::variables::gather;
-use labels::variables::join;
+use labels::variables::gather_each;
 use writer::bytes::put;
 ghost use Prim.Native.Nat.{_<_};
 ghost use lib.ListN.{length};
-ghost use Rattle.emit.specs.Laws.Sources.{Ways, Questions, Tests, GathersEach, LoadsEach, Passes, Marks, Calls, Steps};
+ghost use Rattle.emit.specs.Laws.Sources.{Ways, Questions, Tests, LoadsEach, Passes, Marks, Calls, Steps};
 
 // A branch of "one tmp[tid] := label".
 fn put_way(out: &mut [u8], at: usize, label: usize) -> usize
@@ -55,24 +52,6 @@ pub fn put_test(
     let q = put_way(out, p, yes);
     let u = put_way(out, q, no);
     put(out, u, END)
-}
-
-// The variables of `count` expressions from `at` on, as flags.
-fn gather_each(t: &[u8], at: usize, count: u8) -> [bool; FLAGS]
-    ensures { λ r. ⌜ GathersEach (now (t .entry)) at count r ⌝ }
-{
-    let mut set = [false; FLAGS];
-    let mut i = at;
-    let mut left = count;
-    while 0 < left {
-        let found = gather(t, i, DEPTH);
-        let more = found.set;
-        let both = join(set, more);
-        set = both;
-        i = found.next;
-        left -= 1;
-    }
-    set
 }
 
 // The loads of the variables of `count` expressions from `at` on, "of all arguments together".

@@ -2,9 +2,7 @@
 use Prim.Native.Nat.{ℕ, _+_, _-_, _≤_, _<_}
 use mathlib.Core.Path.{_≡_}
 use mathlib.Core.List.{List, [], _∷_, _++_}
-use mathlib.Core.Bool.{Bool, false}
 use lib.ListN.{length, getD}
-use Rattle.value.specs.Maybe.{either}
 use Rattle.value.specs.Laws.Lists.{Each}
 use Rattle.format.specs.Syntax.{Expr, constant, local, one, two, Instr, assign, write, read, while, if, call, atomic, select, Block, end, step}
 use Rattle.format.specs.Syntax as S
@@ -12,6 +10,8 @@ use Rattle.format.specs.Encode.{expr, block}
 use Rattle.format.specs.Laws.Grammar.{ExprAt, ExprsAt, InstrAt, BlockAt}
 use Rattle.format.specs.Decode.{maxDepth, maxNesting}
 use Rattle.format.specs.Rules.{maxLocals}
+use Rattle.basics.specs.BitSets.{bits}
+use Rattle.labels.specs.Walks.{SetOf}
 use Rattle.translation.specs.Code.{_then_, tid, tmp, num, loc, moved, shift, mentions, variables, load, loadAll, loads, pc, returns, put}
 use Rattle.translation.specs.Code.{keepIn, insideI, inside, goto, tests, passes, calls, code}
 use Rattle.translation.specs.Layout.{Layout}
@@ -50,22 +50,18 @@ pub record Takes (l x : ℕ) (o : List ℕ) (p : ℕ) (o′ : List ℕ) (r : ℕ
 pub record Loads (s : Site) (x : ℕ) (o : List ℕ) (p : ℕ) (o′ : List ℕ) (r : ℕ) : Type 0 where
   pub gives : (G : Layout) (m n : ℕ) → Sited G m n s → x < n → Writes o p (load G m n x) o′ r
 
--- x is one of the variables of es exactly if its flag is set
-pub record LoadsIf (s : Site) (flag : Bool) (x : ℕ) (o : List ℕ) (p : ℕ) (o′ : List ℕ) (r : ℕ) : Type 0 where
-  pub gives : (G : Layout) (m n : ℕ) (es : List Expr) → Sited G m n s → flag ≡ mentions x es → (c : Block S.Plain)
+-- the load of x, if it is one of the variables of es: exactly if it is in the set u
+pub record LoadsIf (s : Site) (u x : ℕ) (o : List ℕ) (p : ℕ) (o′ : List ℕ) (r : ℕ) : Type 0 where
+  pub gives : (G : Layout) (m n : ℕ) (es : List Expr) → Sited G m n s → bits u x ≡ mentions x es → (c : Block S.Plain)
       → Onto o p (block (loadAll G m n (variables x (n - x) es) c)) o′ r (block (loadAll G m n (variables (x + 1) (n - (x + 1)) es) c))
 
--- the flags are those of the variables of es
-abbrev pub Flags : List Bool → List Expr → Type 0
-Flags flags es = (x : ℕ) → x < maxLocals → getD flags x false ≡ mentions x es
-
 -- the loads of all variables of es
-pub record LoadsAll (s : Site) (flags : List Bool) (o : List ℕ) (p : ℕ) (o′ : List ℕ) (r : ℕ) : Type 0 where
-  pub gives : (G : Layout) (m n : ℕ) (es : List Expr) → Sited G m n s → Flags flags es → Writes o p (loads G m n es) o′ r
+pub record LoadsAll (s : Site) (u : ℕ) (o : List ℕ) (p : ℕ) (o′ : List ℕ) (r : ℕ) : Type 0 where
+  pub gives : (G : Layout) (m n : ℕ) (es : List Expr) → Sited G m n s → SetOf u es → Writes o p (loads G m n es) o′ r
 
 -- the loads of the last variables of 16 are left
-pub record Loading (s : Site) (flags : List Bool) (o : List ℕ) (p left : ℕ) (o′ : List ℕ) (r : ℕ) : Type 0 where
-  pub rest : (G : Layout) (m n : ℕ) (es : List Expr) → Sited G m n s → Flags flags es → (c : Block S.Plain)
+pub record Loading (s : Site) (u : ℕ) (o : List ℕ) (p left : ℕ) (o′ : List ℕ) (r : ℕ) : Type 0 where
+  pub rest : (G : Layout) (m n : ℕ) (es : List Expr) → Sited G m n s → SetOf u es → (c : Block S.Plain)
       → Onto o p (block (loads G m n es c)) o′ r (block (loadAll G m n (variables (maxLocals - left) (n - (maxLocals - left)) es) c))
   pub kept : length o′ ≡ length o
   pub most : left ≤ maxLocals
@@ -199,18 +195,6 @@ pub record Tests (t : List ℕ) (i : ℕ) (s : Site) (l k : ℕ) (o : List ℕ) 
 pub record ExprsOf (t : List ℕ) (i k n : ℕ) (es : List Expr) (j : ℕ) : Type 0 where
   pub stand : ExprsAt t i k es j
   pub low : Each (Low n) es
-
--- the flags that are set, and those of k expressions from i on
-pub record GathersMore (t : List ℕ) (i k : ℕ) (set r : List Bool) : Type 0 where
-  pub gives : (es : List Expr) (j : ℕ) → ExprsAt t i k es j → (x : ℕ) → x < maxLocals → getD r x false ≡ either (getD set x false) (mentions x es)
-
--- the flags of k expressions
-pub record GathersEach (t : List ℕ) (i k : ℕ) (r : List Bool) : Type 0 where
-  pub gives : (es : List Expr) (j : ℕ) → ExprsAt t i k es j → Flags r es
-
--- what is gathered from there on is gathered from here on
-pub record Gathering (t : List ℕ) (i k : ℕ) (set : List Bool) (i′ left : ℕ) : Type 0 where
-  pub back : {r : List Bool} → GathersMore t i′ left set r → GathersEach t i k r
 
 -- the loads of the variables of several expressions
 pub record LoadsEach (t : List ℕ) (i k : ℕ) (s : Site) (o : List ℕ) (p : ℕ) (o′ : List ℕ) (r : ℕ) : Type 0 where

@@ -1,66 +1,18 @@
--- Sets of locals as the bits of a number: what is in them.
-use Prim.Native.Nat.{ℕ, zero, suc, _*_, _-_, _/_, _%_, _^_, _≤_, _<_, min, max}
+-- Sets of locals as the bits of a number, as rule 8 makes and asks them.
+use Prim.Native.Nat.{ℕ, zero, suc, _*_, _-_, _/_, _%_, _^_, _≤_, _<_}
 use native.Mathlib.Omega.{arith}
-use native.Mathlib.Nat.{pow-succ', div-div-eq-div-mul, div-eq-of-lt}
+use native.Mathlib.Nat.{pow-succ', div-eq-of-lt}
 use lib.Pow.{pow-pos, pow-mono, pow-lt}
-use mathlib.Core.Path.{_≡_, refl, sym, _∙_}
+use mathlib.Core.Path.{_≡_, sym, _∙_}
 use mathlib.Core.Bool.{false}
-use lib.Bits.{bitAnd, bitOr, and-step, or-step}
-use lib.Dec.{eqb, ltb, leb·suc-suc, eqb·zero-suc, eqb·suc-zero, eqb·suc-suc}
-use borrow.Author.Tests.{eqb-true, eqb-false, lt-ltb, le-ltb}
+use lib.Bits.{bitAnd, bitOr}
+use lib.Dec.{eqb, ltb, leb·suc-suc}
+use borrow.Author.Tests.{lt-ltb, le-ltb}
 use Rattle.value.specs.Maybe.{both, either, pick}
-use Rattle.value.specs.Laws.Tests.{by-test}
 use Rattle.format.specs.Rules.{with}
-use Rattle.reader.specs.BitSets.{bit, bits, insert, below}
-
--- a bit is 0 or 1
-half : (n : ℕ) {G : Type 0} → (n % 2 ≡ 0 → G) → (n % 2 ≡ 1 → G) → G
-half n f g =
-    by-test (eqb (n % 2) 0) (λ e. f (eqb-true (n % 2) 0 e)) λ e.
-    let other : n % 2 ≡ 0 → ⊥ = eqb-false (n % 2) 0 e in
-    g (omega (arith, other))
-
--- the lowest bit of an intersection, and the others
-low-and : (a b : ℕ) → (bitAnd a b % 2 ≡ min (a % 2) (b % 2)) × (bitAnd a b / 2 ≡ bitAnd (a / 2) (b / 2))
-low-and a b = (omega (arith, and-step a b), omega (arith, and-step a b))
-
--- of the union
-low-or : (a b : ℕ) → (bitOr a b % 2 ≡ max (a % 2) (b % 2)) × (bitOr a b / 2 ≡ bitOr (a / 2) (b / 2))
-low-or a b = (omega (arith, or-step a b), omega (arith, or-step a b))
-
--- what is in both
-bit-and : (a b x : ℕ) → bit (bitAnd a b) x ≡ both (bit a x) (bit b x)
-bit-and a b zero =
-    half a
-    (λ p. half b (λ q. rw (low-and a b .0, p, q)) (λ q. rw (low-and a b .0, p, q)))
-    (λ p. half b (λ q. rw (low-and a b .0, p, q)) (λ q. rw (low-and a b .0, p, q)))
-bit-and a b (suc x) = rw (low-and a b .1) (bit-and (a / 2) (b / 2) x)
-
--- what is in one of them
-bit-or : (a b x : ℕ) → bit (bitOr a b) x ≡ either (bit b x) (bit a x)
-bit-or a b zero =
-    half a
-    (λ p. half b (λ q. rw (low-or a b .0, p, q)) (λ q. rw (low-or a b .0, p, q)))
-    (λ p. half b (λ q. rw (low-or a b .0, p, q)) (λ q. rw (low-or a b .0, p, q)))
-bit-or a b (suc x) = rw (low-or a b .1) (bit-or (a / 2) (b / 2) x)
-
--- nothing is in 0
-bit-zero : (x : ℕ) → bit 0 x ≡ false
-bit-zero zero = refl
-bit-zero (suc x) = bit-zero x
-
--- a power of two is a set of one
-bit-pow : (x y : ℕ) → bit (2 ^ x) y ≡ eqb x y
-bit-pow zero zero = refl
-bit-pow zero (suc y) = bit-zero y ∙ sym (eqb·zero-suc y)
-bit-pow (suc x) zero =
-    let more : 2 ^ suc x ≡ 2 * 2 ^ x = pow-succ' 2 x in
-    let even : 2 ^ suc x % 2 ≡ 0 = omega arith in
-    rw even (sym (eqb·suc-zero x))
-bit-pow (suc x) (suc y) =
-    let more : 2 ^ suc x ≡ 2 * 2 ^ x = pow-succ' 2 x in
-    let less : 2 ^ suc x / 2 ≡ 2 ^ x = omega arith in
-    rw (less, bit-pow x y) (sym (eqb·suc-suc x y))
+use Rattle.basics.specs.BitSets.{bit, bits}
+use Rattle.basics.specs.Laws.BitSets.{bit-and, bit-or, bit-zero, bit-pow, bit-shift}
+use Rattle.reader.specs.BitSets.{insert, below}
 
 -- the numbers below n
 bit-below : (n x : ℕ) → bit (2 ^ n - 1) x ≡ ltb x n
@@ -75,11 +27,6 @@ bit-below (suc n) (suc x) =
     let some : 0 < 2 ^ n = pow-pos n in
     let less : (2 ^ suc n - 1) / 2 ≡ 2 ^ n - 1 = omega arith in
     rw (less, bit-below n x) (sym (leb·suc-suc (suc x) n))
-
--- a shifted number's lowest bit
-bit-shift : (n x : ℕ) → bit n x ≡ eqb (n / 2 ^ x % 2) 1
-bit-shift n zero = let all : n / 1 ≡ n = omega arith in rw all
-bit-shift n (suc x) = rw (bit-shift (n / 2) x, div-div-eq-div-mul n 2 (2 ^ x), pow-succ' 2 x)
 
 -- ---- as the code finds them
 

@@ -23,7 +23,7 @@ use Rattle.format.specs.Syntax.{Expr, constant, local, one, two}
 use Rattle.format.specs.Encode.{each}
 use Rattle.format.specs.Encode as E
 use Rattle.format.specs.Rules.{Known, known}
-use Rattle.reader.specs.BitSets.{bits}
+use Rattle.basics.specs.BitSets.{bits}
 use Rattle.reader.specs.Laws.BitSets.{has-bit, no-bit}
 use Rattle.format.specs.Laws.Depths.{depth}
 use Rattle.format.specs.Laws.Fits.{ExprFits}

@@ -14,7 +14,8 @@ use Rattle.reader.specs.declared.set.After.{After}
 use Rattle.reader.specs.declared.set.After.the-variants.{Set, Unset}
 use Rattle.format.specs.Syntax.{Expr, Instr, assign, write, read, while, if, call, atomic, select, Block, Plain, Program}
 use Rattle.format.specs.Rules.{Known, with, known, afterI, after}
-use Rattle.reader.specs.BitSets.{bits, insert}
+use Rattle.basics.specs.BitSets.{bits}
+use Rattle.reader.specs.BitSets.{insert}
 use Rattle.reader.specs.Laws.BitSets.{bits-insert}
 use Rattle.format.specs.Laws.Names.{Names, NamesI}
 use Rattle.format.specs.Laws.Stands.{first}

@@ -17,7 +17,8 @@ use Rattle.reader.specs.declared.set.After.the-variants.{Set, Unset}
 use Rattle.format.specs.Syntax.{Instr, if, Block, end, step, Plain, Proc, Program}
 use Rattle.format.specs.Rules.{Known, known, afterI, after, setFirst}
 use Rattle.scan.specs.Tokens.{fourAt}
-use Rattle.reader.specs.BitSets.{bits, below}
+use Rattle.basics.specs.BitSets.{bits}
+use Rattle.reader.specs.BitSets.{below}
 use Rattle.reader.specs.Laws.BitSets.{set-bit, far-bit, low-bits, no-bits, some-bit, bits-both, bits-below}
 use Rattle.format.specs.Laws.Names.{Names, NamesI}
 use Rattle.format.specs.Laws.Grammar.{BlockAt, WhileAt, IfAt, AtomicAt, StepAt, while-here, if-here, atomic-here}

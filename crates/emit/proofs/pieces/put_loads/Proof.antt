@@ -6,10 +6,10 @@ use Rattle.emit.proofs.pieces.put_loads.Statement.{statement}
 use Rattle.emit.proofs.pieces.put_loads.Tie as tie
 
 abbrev Inv-loop : tie.InvT-loop
-Inv-loop s out₀ at flags left₀ p₀ out left p = Loading s flags out₀ at left out p
+Inv-loop s set out₀ at left₀ p₀ out left p = Loading s set out₀ at left out p
 
 abbrev μ-loop : tie.MeasureT-loop
-μ-loop s out₀ at flags left₀ p₀ out left p = left
+μ-loop s set out₀ at left₀ p₀ out left p = left
 
 pub put-loads-spec : {M : Type 1} → statement M
 put-loads-spec =
@@ -18,8 +18,6 @@ put-loads-spec =
     Inv-loop
     μ-loop
     (λ c. search code-ways)
-    (λ c. search needs)
-    (λ c. search needs)
     (λ c. search needs)
     (λ c κs. search needs)
     (λ c. search needs)

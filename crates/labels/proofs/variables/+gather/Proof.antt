@@ -7,7 +7,6 @@ use borrow.Fn.PlainCycle.{Measures, is, falls, and}
 use Rattle.labels.proofs.variables.gather.Reads as gather
 use Rattle.labels.proofs.variables.gather.Kinds as gather-kinds
 use Rattle.labels.proofs.variables.+gather.Lts-gather as gather-lts
-use Rattle.labels.proofs.variables.join.Reads as join-reads
 use Rattle.labels.proofs.variables.leaf.Reads as leaf-reads
 use Rattle.basics.proofs.marks.operands.Reads as operands-reads
 use Rattle.labels.proofs.variables.+gather.{statement}
@@ -28,8 +27,6 @@ gather-calls t = (
   operands-reads.Learnt,
   gather-below t,
   gather.Post,
-  join-reads.Asked,
-  join-reads.Learnt,
   leaf-reads.Asked,
   leaf-reads.Learnt,
 )
@@ -48,7 +45,6 @@ pub +gather-spec : {M : Type 1} → statement M
     (λ c. search needs)
     (λ c κs. search needs)
     (λ c. search needs)
-    (λ c κs. search needs)
     (λ c κs. search needs)
     (λ c. search gather-ways)
     (λ c κs. search needs)
