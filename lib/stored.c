@@ -30,6 +30,7 @@ static struct call {
     {"zaru_run_sequential", ZARU_RUN_NUMBERS, ZARU_STACK_RUN_SEQUENTIAL, NULL, 0},
     {"", 0, 0, NULL, 0},
     {"zaru_bench", ZARU_BENCH_NUMBERS, ZARU_STACK_BENCH, NULL, 0},
+    {"zaru_prices", ZARU_PRICES_NUMBERS, ZARU_STACK_PRICES, NULL, 0},
 };
 enum { CALLS = sizeof calls / sizeof *calls };
 
@@ -103,6 +104,9 @@ static void *work(void *unused)
     case 7:
         zaru_bench(job.table, job.table_length, job.budget, job.h, job.cells, job.cells_length, job.answer, ZARU_BENCH_NUMBERS);
         break;
+    case 8:
+        zaru_prices(job.table, job.table_length, job.budget, job.answer, ZARU_PRICES_NUMBERS);
+        break;
     }
     return unused;
 }
@@ -163,7 +167,7 @@ static void write_line(char *line)
         line += sprintf(line, " %llu", (unsigned long long)job.answer[i]);
     if (job.op == 3)
         line += sprintf(line, " %016llx", (unsigned long long)hash(job.out, job.out_length));
-    if (job.op >= 4)
+    if (job.op >= 4 && job.op != 8)
         line += sprintf(line, " %016llx", (unsigned long long)hash(job.cells, job.cells_length));
     if (job.op == 4 || job.op == 5)
         sprintf(line, " %016llx", (unsigned long long)hash(job.events, job.events_length));
@@ -206,7 +210,7 @@ static const uint8_t *take_case(const uint8_t *header)
 /* How many bytes of lent buffers follow the line of this case. */
 static size_t shown_length(void)
 {
-    if (job.shown == 0 || !is_call(job.op) || job.op < 3)
+    if (job.shown == 0 || !is_call(job.op) || job.op < 3 || job.op == 8)
         return 0;
     return job.op == 3 ? job.out_length : job.op == 7 ? job.cells_length : job.cells_length + job.events_length;
 }

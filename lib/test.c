@@ -1,4 +1,5 @@
-/* The C calls on programs A and B of the paper, and on one that blocks in few orders: what they answer, and which bytes they leave alone. */
+/* The C calls on programs A and B of the paper, on one that blocks in few orders, and on one whose atomic block has two prices: what they
+ * answer, and which bytes they leave alone. */
 #include "zaru.h"
 #include <stdio.h>
 #include <string.h>
@@ -21,6 +22,10 @@ static const uint8_t D[] = {
     0x26, 0x22, 1, 2, 0x01, 0, 0, 0, 0, 0x21, 2, 0x01, 0, 0, 0, 0, 0x10, 0x05, 1, 0x01, 1, 0, 0, 0, 0x00,
     0x24, 0x14, 0x05, 1, 0x01, 1, 0, 0, 0, 0x22, 1, 0, 0x01, 0, 0, 0, 0, 0x22, 1, 0, 0x11, 0x01, 2, 0, 0, 0, 0x05, 1, 0x00, 0x00,
     0x00, 0, 3, 0, 0, 0, 0, 1, 0, 1, 0, 0, 0, 0, 0, 0x43, 0x50, 1, 0, 2, 0, 2, 0, 14, 0, 0, 0, 119, 0, 0, 0};
+
+/* E: x := 1; atomic if x < 1 then x := x end end. */
+static const uint8_t E[] = {0x20, 0, 0x01, 1, 0, 0, 0, 0x26, 0x24, 0x13, 0x05, 0, 0x01, 1, 0, 0, 0, 0x20, 0, 0x05, 0, 0x00, 0x00, 0x00, 0x00,
+                            0, 1, 0, 0, 0, 0, 0, 0, 0x43, 0x50, 1, 0, 0, 0, 1, 0, 8, 0, 0, 0, 49, 0, 0, 0};
 
 static int failures = 0;
 
@@ -166,11 +171,37 @@ static void benches(void)
     expect("no count", few[3], 99);
 }
 
+static void expect_prices(const char *what, const uint8_t *table, size_t length, uint64_t label, uint64_t least, uint64_t most)
+{
+    uint64_t answer[ZARU_PRICES_NUMBERS];
+    zaru_prices(table, length, label, answer, ZARU_PRICES_NUMBERS);
+    expect(what, answer[0], 0);
+    expect(what, answer[1], least);
+    expect(what, answer[2], most);
+}
+
+static void prices(void)
+{
+    const uint64_t wanted[] = {0, 4, 7, 7, 4, 0};
+    for (uint64_t label = 0; label < 6; label += 1)
+        expect_prices("prices of B", B, sizeof B, label, wanted[label], wanted[label]);
+    expect_prices("a label that no table has", B, sizeof B, UINT64_MAX, 0, 0);
+    expect_prices("the end label of A", A, sizeof A, 1, 4, 4);
+    expect_prices("an atomic block", D, sizeof D, 5, 12, 12);
+    expect_prices("an atomic block with an if", E, sizeof E, 2, 5, 9);
+    uint64_t few[3] = {99, 99, 99};
+    zaru_prices(B, sizeof B - 1, 1, few, 2);
+    expect("prices of no table", few[0], 1);
+    expect("a refusal has no price", few[1], 0);
+    expect("no third number", few[2], 99);
+}
+
 int main(void)
 {
     reads();
     runs(translations());
     benches();
+    prices();
     if (failures == 0)
         printf("the C library answers as the paper says\n");
     return failures != 0;

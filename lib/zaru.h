@@ -1,4 +1,4 @@
-/* Zarukohen for C: read, translate and run tables, and try their orders. The calls are proved: on a stack that is large enough (below)
+/* Zarukohen for C: read, translate and run tables, try their orders, and tell what their steps cost. The calls are proved: on a stack that is large enough (below)
  * none traps or runs without end, whatever the bytes, and each determines every number of its answer and every byte of the lent buffers.
  * docs/CONTRACTS.md says in words what each promises.
  *
@@ -31,7 +31,7 @@ enum {
 };
 
 /* How many numbers the answers have. */
-enum { ZARU_READ_NUMBERS = 6, ZARU_TRANSLATE_NUMBERS = 2, ZARU_RUN_NUMBERS = 6, ZARU_BENCH_NUMBERS = 22 };
+enum { ZARU_READ_NUMBERS = 6, ZARU_TRANSLATE_NUMBERS = 2, ZARU_RUN_NUMBERS = 6, ZARU_BENCH_NUMBERS = 22, ZARU_PRICES_NUMBERS = 3 };
 
 /* The places of the bench's counts in its answer, and the most allotments that it tries. */
 enum { ZARU_BENCH_FIRST_COUNT = 3, ZARU_BENCH_COUNTS = 19, ZARU_MOST_ALLOTMENTS = 1000000 };
@@ -48,6 +48,7 @@ enum { ZARU_BENCH_FIRST_COUNT = 3, ZARU_BENCH_COUNTS = 19, ZARU_MOST_ALLOTMENTS 
 #define ZARU_STACK_RUN_CONCURRENT (112 * 1024)
 #define ZARU_STACK_RUN_SEQUENTIAL (352 * 1024)
 #define ZARU_STACK_BENCH (108 * 1024)
+#define ZARU_STACK_PRICES (40 * 1024)
 
 /* answer: number, procedures, locations, threads, labels (sequential: 0), cells. */
 void zaru_read_concurrent(const uint8_t *table, size_t table_length, uint64_t *answer, size_t answer_length);
@@ -74,6 +75,11 @@ void zaru_run_sequential(const uint8_t *table, size_t table_length, const uint8_
  * Refused by 13: k below 1, s not 1 to 64, or more than 1,000,000 allotments; it is judged after 8 and before 12. */
 void zaru_bench(const uint8_t *table, size_t table_length, uint64_t rounds, uint64_t most, uint8_t *cells,
                 size_t cells_length, uint64_t *answer, size_t answer_length);
+
+/* What the step at a label of a concurrent table costs its copy, by the paper's price list. Labels count from 1, as the reader counts them.
+ * answer: number, the least and the most. They differ only where an if stands in an atomic block, and lie over the ways through it; the price of
+ * each step that a run takes at that label lies between them. 0 and 0 for a label that there is not. */
+void zaru_prices(const uint8_t *table, size_t table_length, uint64_t label, uint64_t *answer, size_t answer_length);
 
 #ifdef __cplusplus
 }

@@ -10,7 +10,9 @@
 //
 // The bench has its rounds in the budget's place and the most steps of a count in h's.
 //
-// What can be called: the seven calls below by 1 to 7, and the greeting by 90 (hexadecimal 5A, far from the calls that may still come). A
+// The prices have their label in the budget's place; no buffer is lent to them, so that their line has no hash.
+//
+// What can be called: the eight calls below by 1 to 8, and the greeting by 90 (hexadecimal 5A, far from the calls that may still come). A
 // greeting's line has the version of requests and lines, so that the command `zaru` does not read the lines of another program.
 mod buffers;
 mod print;
@@ -53,10 +55,12 @@ const RUN_PROGRAM: u8 = 6;
 
 const BENCH: u8 = 7;
 
+const PRICES: u8 = 8;
+
 const GREETING: u8 = 90;
 
 // One more whenever a request, or a line that answers one, changes its form. `zaru/engine.py` and `second/src/batch.rs` have it too.
-const VERSION: u64 = 3;
+const VERSION: u64 = 4;
 
 // What is asked for, beside the table and the schedule.
 struct Request {
@@ -221,6 +225,7 @@ fn answer(request: Request, table: &[u8], schedule: &[u8]) -> bool {
         RUN_SEQUENTIAL => run_machine(request, table, schedule),
         RUN_PROGRAM => run_program(table),
         BENCH => try_orders(request, table),
+        PRICES => print::prices(PRICES, prices::prices(table, request.budget)),
         GREETING => print::greeting(GREETING, VERSION),
         _ => return false,
     }

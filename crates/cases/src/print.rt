@@ -1,5 +1,6 @@
 // The lines on standard output.
 use super::buffers;
+use agreement::PricesAnswer;
 use allotments::BenchAnswer;
 use format::ReadAnswer;
 use semantics::RunAnswer;
@@ -66,6 +67,15 @@ pub fn bench(call: u8, r: BenchAnswer) {
         number(r.counts[i] as u64);
         i += 1;
     }
+}
+
+// The line of a label's prices.
+pub fn prices(call: u8, r: PricesAnswer) {
+    io::print_decimal(1, call as u64);
+    number(r.refusal as u64);
+    number(r.least);
+    number(r.most);
+    end_line();
 }
 
 // A line that has its newline.

@@ -12,7 +12,8 @@ use Rattle.semantics.specs.declared.RunAnswer.{RunAnswer}
 use Rattle.semantics.specs.Calls.{Outcome}
 use Rattle.allotments.specs.declared.BenchAnswer.{BenchAnswer}
 use Rattle.allotments.specs.Bench as Bench
-use Rattle.clib.specs.Numbers.{stored, readNumbers, writeNumbers, runNumbers, benchNumbers, flag}
+use Rattle.agreement.specs.declared.PricesAnswer.{PricesAnswer}
+use Rattle.clib.specs.Numbers.{stored, readNumbers, writeNumbers, runNumbers, benchNumbers, pricesNumbers, flag}
 use Rattle.clib.specs.Numbers.{Translated, translated, Ran, ran, Benched, benched}
 
 -- past the end nothing is stored
@@ -78,6 +79,11 @@ pub bench-stored : (r : BenchAnswer) (xs ys zs : List ℕ) → ys ≡ set (set (
     → zs ≡ stored 3 (r .counts) ys → zs ≡ stored 0 (benchNumbers r) xs
 bench-stored r xs ys zs e f = f ∙ ap (stored 3 (r .counts)) e
 
+-- of a label's prices
+pub prices-stored : (r : PricesAnswer) (xs ys : List ℕ) → ys ≡ set (set (set xs 0 (r .refusal)) 1 (r .least)) 2 (r .most)
+    → ys ≡ stored 0 (pricesNumbers r) xs
+prices-stored r xs ys e = e
+
 -- the answer of a read is what it is said to be
 pub read-told : (r s : ReadAnswer) (xs ys : List ℕ) → r ≡ s → ys ≡ stored 0 (readNumbers r) xs → ys ≡ stored 0 (readNumbers s) xs
 read-told r s xs ys e f = f ∙ ap (λ r. stored 0 (readNumbers r) xs) e
@@ -97,6 +103,10 @@ pub bench-told : (r : BenchAnswer) (cs xs ys : List ℕ) (o : Bench.Outcome) →
     → ys ≡ stored 0 (benchNumbers r) xs → _≡_ {A = Benched} (record { cells = cs; answer = ys }) (benched o xs)
 bench-told r cs xs ys o e f = ap (λ ys. record { cells = cs; answer = ys }) f ∙ ap (λ o. benched o xs) e
 
+-- of a label's prices
+pub prices-told : (r s : PricesAnswer) (xs ys : List ℕ) → r ≡ s → ys ≡ stored 0 (pricesNumbers r) xs → ys ≡ stored 0 (pricesNumbers s) xs
+prices-told r s xs ys e f = f ∙ ap (λ r. stored 0 (pricesNumbers r) xs) e
+
 -- one law for each function
 pub ruleset stores = (
   set-past,
@@ -108,8 +118,10 @@ pub ruleset stores = (
   write-stored,
   run-stored,
   bench-stored,
+  prices-stored,
   read-told,
   write-told,
   run-told,
   bench-told,
+  prices-told,
 )

@@ -9,6 +9,7 @@ use Rattle.translation.specs.Calls.{Written}
 use Rattle.semantics.specs.declared.RunAnswer.{RunAnswer}
 use Rattle.semantics.specs.Calls.{Outcome}
 use Rattle.allotments.specs.declared.BenchAnswer.{BenchAnswer}
+use Rattle.agreement.specs.declared.PricesAnswer.{PricesAnswer}
 use Rattle.allotments.specs.Bench as Bench
 
 -- numbers from place i on, each where there is such a place; all others stay
@@ -36,6 +37,10 @@ flag false = 0
 -- the number, whether an allotment was found, its number and its counts
 abbrev pub benchNumbers : BenchAnswer → List ℕ
 benchNumbers r = r .number ∷ flag (r .found) ∷ r .allotment ∷ r .counts
+
+-- the number, the least and the most
+abbrev pub pricesNumbers : PricesAnswer → List ℕ
+pricesNumbers r = r .refusal ∷ r .least ∷ r .most ∷ []
 
 -- what a translation leaves in both lent arrays
 pub record Translated : Type 0 where

@@ -1,5 +1,6 @@
 // The calls for programs in C: a slice is a pointer and a length, and the numbers of an answer go into a lent array, each where the
-// array has a place for it. May use `reader`, `translator`, `machines`, `bench` and the types that they answer. Read specs/Numbers.antt first.
+// array has a place for it. May use `reader`, `translator`, `machines`, `bench`, `prices` and the types that they answer. Read specs/Numbers.antt first.
+use agreement::PricesAnswer;
 use allotments::BenchAnswer;
 use format::ReadAnswer;
 use semantics::RunAnswer;
@@ -12,7 +13,8 @@ ghost use Rattle.format.specs.Calls.{readCall};
 ghost use Rattle.translation.specs.Calls.{translateCall};
 ghost use Rattle.semantics.specs.Calls.{concurrentCall, sequentialCall};
 ghost use Rattle.allotments.specs.Bench.{benchCall};
-ghost use Rattle.clib.specs.Numbers.{stored, readNumbers, writeNumbers, runNumbers, benchNumbers};
+ghost use Rattle.agreement.specs.Prices.{pricesCall};
+ghost use Rattle.clib.specs.Numbers.{stored, readNumbers, writeNumbers, runNumbers, benchNumbers, pricesNumbers};
 ghost use Rattle.clib.specs.Numbers.{Translated, translated, Ran, ran, Benched, benched};
 
 // "at most 19 counts, the rest 0".
@@ -84,6 +86,13 @@ fn store_bench(answer: &mut [u64], r: BenchAnswer)
 {
     store_three(answer, 0, r.number as u64, r.found as u64, r.allotment);
     store_counts(answer, r);
+}
+
+// The three numbers of a label's prices.
+fn store_prices(answer: &mut [u64], r: PricesAnswer)
+    ensures { λ _. ⌜ now (answer .exit) ≡ stored 0 (pricesNumbers r) (now (answer .entry)) ⌝ }
+{
+    store_three(answer, 0, r.refusal as u64, r.least, r.most);
 }
 
 // Reads a concurrent table.
@@ -162,4 +171,12 @@ pub extern "C" fn zaru_bench(
 {
     let r = bench::bench(table, rounds, most, cells);
     store_bench(answer, r);
+}
+
+// What the step at a label of a concurrent table costs.
+#[no_mangle]
+pub extern "C" fn zaru_prices(table: &[u8], label: u64, answer: &mut [u64])
+    ensures { λ _. ⌜ now (answer .exit) ≡ stored 0 (pricesNumbers (pricesCall (now (table .entry)) label)) (now (answer .entry)) ⌝ }
+{
+    store_prices(answer, prices::prices(table, label));
 }
