@@ -4,7 +4,7 @@
 //! lent buffers are to be shown (1 byte, 0 or 1), 2 zero bytes, table length (4), schedule length
 //! (4), budget (8), h (4), cell buffer length (4), event buffer length (4), out buffer length (4),
 //! low byte first. A header whose op is 0 ends the batch. The bench has its rounds in the budget's
-//! place and the most steps of a count in h's.
+//! place and the most steps of a count in h's; prices have the label in the budget's place.
 
 use crate::calls::*;
 use crate::line::line;
@@ -18,11 +18,13 @@ pub const RUN_SEQUENTIAL: u8 = 5;
 pub const LINE: u8 = 6;
 /// The budget is the number of rounds, h the most steps of a count.
 pub const BENCH: u8 = 7;
+/// The budget is the label.
+pub const PRICES: u8 = 8;
 /// Asks for the version of cases and lines.
 pub const GREETING: u8 = 90;
 
 /// One more whenever a case or a line changes its form.
-pub const VERSION: u64 = 3;
+pub const VERSION: u64 = 4;
 
 const HEADER: usize = 36;
 
@@ -94,7 +96,7 @@ impl Case {
             events: four(28),
             out: four(32),
         };
-        let is_known = matches!(case.op, READ_CONCURRENT..=BENCH | GREETING);
+        let is_known = matches!(case.op, READ_CONCURRENT..=PRICES | GREETING);
         is_known.then_some((case, rest))
     }
 
@@ -116,6 +118,7 @@ impl Case {
             RUN_CONCURRENT | RUN_SEQUENTIAL => self.run(),
             LINE => self.told(format!("{} {}", self.op, line(&self.table))),
             BENCH => self.bench(),
+            PRICES => self.prices(),
             _ => self.told(format!("{} {VERSION}", self.op)),
         }
     }
@@ -166,6 +169,16 @@ impl Case {
         let counts = answer.counts.map(|count| count.to_string()).join(" ");
         let hash = fnv(&cells);
         self.lending(format!("{numbers} {counts} {hash:016x}"), cells)
+    }
+
+    /// No buffer is lent.
+    fn prices(&self) -> Answer {
+        let PricesAnswer {
+            number,
+            least,
+            most,
+        } = prices(&self.table, self.budget);
+        self.told(format!("{} {number} {least} {most}", self.op))
     }
 
     fn told(&self, line: String) -> Answer {
@@ -296,7 +309,24 @@ mod tests {
             line(BENCH),
             format!("7 13 0 0{} {empty}", " 0".repeat(COUNTS))
         );
-        assert_eq!(line(GREETING), "90 3");
+        assert_eq!(line(PRICES), "8 0 0 0");
+        assert_eq!(line(GREETING), "90 4");
+    }
+
+    #[test]
+    fn prices_of_a() {
+        let line = |label| {
+            let case = Case {
+                budget: label,
+                shown: true,
+                out: 9,
+                ..case_of_a(PRICES)
+            };
+            case.answer().bytes()
+        };
+        assert_eq!(line(1), b"8 0 4 4\n");
+        assert_eq!(line(2), b"8 0 0 0\n");
+        assert_eq!(line(1 << 32 | 1), b"8 0 0 0\n");
     }
 
     #[test]

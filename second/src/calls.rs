@@ -6,7 +6,7 @@ use crate::bench::{self, Search};
 use crate::program::{Kind, Program};
 use crate::record::{write_cells, Events, Run};
 use crate::verdict::verdict;
-use crate::{concurrent, labels, sequential, translate, write};
+use crate::{concurrent, labels, price, sequential, translate, write};
 
 /// "An accepted read answers 0 with P, M, T, the number of labels (sequential: 0) and of cells."
 #[derive(Clone, Copy, PartialEq, Eq, Debug, Default)]
@@ -46,6 +46,14 @@ pub struct BenchAnswer {
     pub found: bool,
     pub allotment: u64,
     pub counts: [u8; bench::COUNTS],
+}
+
+/// The least and the most listed price of the step at a label, zeros if there is no such label.
+#[derive(Clone, Copy, PartialEq, Eq, Debug, Default)]
+pub struct PricesAnswer {
+    pub number: u8,
+    pub least: u64,
+    pub most: u64,
 }
 
 pub fn read_concurrent(table: &[u8]) -> ReadAnswer {
@@ -212,5 +220,23 @@ fn bench_answer(search: &Search) -> BenchAnswer {
         found: true,
         allotment: *number,
         counts,
+    }
+}
+
+/// The prices of the step at a label of a concurrent table.
+pub fn prices(table: &[u8], label: u64) -> PricesAnswer {
+    match verdict(table, Kind::Concurrent) {
+        Err(number) => PricesAnswer {
+            number,
+            ..PricesAnswer::default()
+        },
+        Ok(program) => {
+            let price::Span { least, most } = price::at_label(&program, label).unwrap_or_default();
+            PricesAnswer {
+                number: 0,
+                least,
+                most,
+            }
+        }
     }
 }

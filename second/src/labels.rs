@@ -3,7 +3,7 @@
 //! "Procedures in order; in each, instructions in textual order, those inside an atomic block
 //! having none, then one end label. Count from 1; 0 is a finished thread."
 
-use crate::program::{Block, Instruction, Program};
+use crate::program::{Block, Instruction, Procedure, Program};
 
 /// How many labels an instruction takes, those of the instructions inside it included.
 pub fn of_instruction(instruction: &Instruction) -> usize {
@@ -79,6 +79,58 @@ fn find_inside(instruction: &Instruction, label: usize, wanted: &Instruction) ->
     }
 }
 
+/// What stands at a label.
+#[derive(Clone, Copy, PartialEq, Eq, Debug)]
+pub enum At<'a> {
+    Instruction(&'a Instruction),
+    /// The end label of this procedure.
+    End(usize),
+}
+
+/// What stands at a label, `None` at 0 and behind the last label.
+pub fn at(program: &Program, label: u64) -> Option<At<'_>> {
+    let mut left = usize::try_from(label).ok()?.checked_sub(1)?;
+    for (procedure, Procedure { body, .. }) in program.procedures.iter().enumerate() {
+        let labels = of_block(body);
+        if left < labels {
+            return at_in_block(body, left).map(At::Instruction);
+        }
+        if left == labels {
+            return Some(At::End(procedure));
+        }
+        left -= labels + 1;
+    }
+    None
+}
+
+/// The instruction that so many labels of the block come before.
+fn at_in_block(block: &Block, mut left: usize) -> Option<&Instruction> {
+    for instruction in block {
+        let labels = of_instruction(instruction);
+        if left == 0 {
+            return Some(instruction);
+        }
+        if left < labels {
+            return at_inside(instruction, left - 1);
+        }
+        left -= labels;
+    }
+    None
+}
+
+fn at_inside(instruction: &Instruction, left: usize) -> Option<&Instruction> {
+    match instruction {
+        Instruction::While { body, .. } => at_in_block(body, left),
+        Instruction::If {
+            then, otherwise, ..
+        } => match left.checked_sub(of_block(then)) {
+            None => at_in_block(then, left),
+            Some(left) => at_in_block(otherwise, left),
+        },
+        _ => None,
+    }
+}
+
 #[cfg(test)]
 mod tests {
     use super::*;
@@ -131,5 +183,17 @@ mod tests {
         assert_eq!(find(&program, &then[0]), Some(7));
         assert_eq!(find(&program, &otherwise[1]), Some(9));
         assert_eq!(find(&program, &program.procedures[2].body[0]), Some(13));
+
+        assert_eq!(at(&program, 3), Some(At::Instruction(&inner[0])));
+        assert_eq!(at(&program, 9), Some(At::Instruction(&otherwise[1])));
+        for label in 1..=14 {
+            match at(&program, label).unwrap() {
+                At::Instruction(there) => assert_eq!(find(&program, there), Some(label as usize)),
+                At::End(procedure) => assert_eq!(end(&program, procedure), label as usize),
+            }
+        }
+        for label in [0, 15, 65_537, 1 << 32, (1 << 32) + 1, u64::MAX] {
+            assert_eq!(at(&program, label), None);
+        }
     }
 }

@@ -15,6 +15,7 @@ pub mod labels;
 pub mod line;
 pub mod machine;
 pub mod price;
+pub mod price_samples;
 pub mod program;
 pub mod random;
 pub mod reason;

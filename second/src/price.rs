@@ -2,7 +2,62 @@
 
 use crate::concurrent::Done;
 use crate::expression::Expression;
-use crate::program::Instruction;
+use crate::labels::{self, At};
+use crate::program::{Block, Instruction, Program};
+
+/// The least and the most that a step at one place can cost.
+#[derive(Clone, Copy, PartialEq, Eq, Debug, Default)]
+pub struct Span {
+    pub least: u64,
+    pub most: u64,
+}
+
+impl Span {
+    fn only(price: u64) -> Span {
+        Span {
+            least: price,
+            most: price,
+        }
+    }
+
+    fn and(self, other: Span) -> Span {
+        Span {
+            least: self.least + other.least,
+            most: self.most + other.most,
+        }
+    }
+
+    fn or(self, other: Span) -> Span {
+        Span {
+            least: self.least.min(other.least),
+            most: self.most.max(other.most),
+        }
+    }
+}
+
+/// The listed price of the step at a label, `None` if there is no such label. An atomic block has
+/// a price for each way through its inner ifs.
+pub fn at_label(program: &Program, label: u64) -> Option<Span> {
+    Some(match labels::at(program, label)? {
+        At::Instruction(Instruction::Atomic { body }) => of_ways(body).and(Span::only(2)),
+        At::Instruction(instruction) => Span::only(of_label(instruction)),
+        At::End(_) => Span::only(of_step(&Done::Return)),
+    })
+}
+
+/// The prices of all ways through a block inside an atomic one.
+fn of_ways(block: &Block) -> Span {
+    let each = block.iter().map(|instruction| {
+        let own = Span::only(in_place(instruction));
+        match instruction {
+            Instruction::If {
+                then, otherwise, ..
+            } => own.and(of_ways(then).or(of_ways(otherwise))),
+            _ => own,
+        }
+    });
+    each.fold(Span::default(), Span::and)
+}
 
 /// The price of a step that a thread took.
 pub fn of_step(done: &Done) -> u64 {

@@ -49,11 +49,9 @@ fn label_of_frame(program: &Program, frame: &Frame) -> usize {
     }
 }
 
-fn label_of_thread(program: &Program, stack: &[Frame]) -> Value {
-    let label = stack
-        .last()
-        .map_or(0, |frame| label_of_frame(program, frame));
-    Value::Whole(label as i32)
+fn label_of_thread(program: &Program, stack: &[Frame]) -> usize {
+    let frame = stack.last();
+    frame.map_or(0, |frame| label_of_frame(program, frame))
 }
 
 /// The program's moments; `steps` counts what the copy should have done by then.
@@ -71,7 +69,7 @@ fn story_of_program(program: &Program, schedule: &[u8], table_length: u64) -> St
             labels: machine
                 .threads
                 .iter()
-                .map(|stack| label_of_thread(program, stack))
+                .map(|stack| Value::Whole(label_of_thread(program, stack) as i32))
                 .collect(),
             events: events.len(),
             steps: copy_steps,
@@ -83,6 +81,7 @@ fn story_of_program(program: &Program, schedule: &[u8], table_length: u64) -> St
             break End::Used;
         };
         let before = machine.clone();
+        let label = label_of_thread(program, &machine.threads[usize::from(*thread)]);
         check_rule_8(&machine.threads[usize::from(*thread)]);
         let step = match machine.step(usize::from(*thread)) {
             Ok(step) => step,
@@ -97,6 +96,7 @@ fn story_of_program(program: &Program, schedule: &[u8], table_length: u64) -> St
             "price {price} of {:?}",
             step.done
         );
+        check_price(program, label, price);
         copy_steps += labels + 2 * threads + 10 + price;
         let touches = step.touches.into_iter();
         events.extend(touches.map(|touch| Event {
@@ -110,6 +110,15 @@ fn story_of_program(program: &Program, schedule: &[u8], table_length: u64) -> St
         events,
         end,
     }
+}
+
+/// The price of a step lies between the least and the most price that is listed for its label.
+fn check_price(program: &Program, label: usize, price: u64) {
+    let listed = price::at_label(program, label as u64).unwrap();
+    assert!(
+        (listed.least..=listed.most).contains(&price),
+        "label {label}: {price} is not in {listed:?}"
+    );
 }
 
 /// What the next instruction mentions for its value is set, as number 8 promises.

@@ -1,8 +1,8 @@
 //! Writes a batch of cases and the lines that answer them.
 //!
-//! Usage: cases STDIN STDOUT [OPS]. The batch goes to the file STDIN, the lines to the file STDOUT,
-//! and a summary to standard error. With OPS, a word of digits such as `12`, only the cases of those
-//! calls are written, behind the greeting. The seed is fixed, so both files are always the same.
+//! Usage: cases STDIN STDOUT [OP]... The batch goes to the file STDIN, the lines to the file STDOUT,
+//! and a summary to standard error. With numbers of calls behind them, only the cases of those calls
+//! are written, behind the greeting. The seed is fixed, so both files are always the same.
 
 use second::and_samples::{self, all_placed};
 use second::batch::*;
@@ -10,7 +10,10 @@ use second::bench_samples::{benched, blocks_after, d, racing};
 use second::builder::*;
 use second::calls::{read_concurrent, read_sequential, run_sequential, translate};
 use second::concurrent::Concurrent;
+use second::labels;
 use second::line::BUDGET;
+use second::price;
+use second::price_samples::priced;
 use second::program::{Instruction, Kind, Program};
 use second::random::{damaged, program_of, schedule_for, Random, Scale};
 use second::reason_samples::{self, blocks};
@@ -33,27 +36,24 @@ const DAMAGED_TABLES: usize = 500;
 const RANDOM_BENCHES: usize = 400;
 /// No stored bench tries more allotments.
 const MOST_TRIED: u64 = 5_000;
+const PRICED_PROGRAMS: usize = 12;
 
 fn main() -> std::io::Result<()> {
-    let paths: Vec<String> = std::env::args().skip(1).collect();
-    let (stdin, stdout, ops) = match paths.as_slice() {
-        [stdin, stdout] => (stdin, stdout, "1234567"),
-        [stdin, stdout, ops] => (stdin, stdout, ops.as_str()),
-        _ => {
-            eprintln!("usage: cases STDIN STDOUT [OPS]");
-            std::process::exit(2);
-        }
+    let words: Vec<String> = std::env::args().skip(1).collect();
+    let [stdin, stdout, ops @ ..] = words.as_slice() else {
+        eprintln!("usage: cases STDIN STDOUT [OP]...");
+        std::process::exit(2);
     };
-    let batch = whole_batch(ops);
+    let batch = whole_batch(ops.iter().filter_map(|op| op.parse().ok()).collect());
     fs::write(stdin, &batch.input)?;
     fs::write(stdout, &batch.lines)?;
     batch.print_summary();
     Ok(())
 }
 
-fn whole_batch(ops: &str) -> Batch {
+fn whole_batch(ops: Vec<u8>) -> Batch {
     let mut batch = Batch {
-        ops: ops.to_string(),
+        ops,
         section: "worked",
         ..Batch::default()
     };
@@ -105,6 +105,10 @@ fn whole_batch(ops: &str) -> Batch {
     for number in 0..RANDOM_BENCHES {
         random_bench(number, &mut batch, &mut random);
     }
+    batch.section = "prices";
+    worked_prices(&mut batch);
+    refused_prices(&mut batch);
+    random_prices(&mut batch, &mut Random::new(SEED + 104));
     batch.input.extend(last_header());
     batch
 }
@@ -112,8 +116,8 @@ fn whole_batch(ops: &str) -> Batch {
 /// The cases so far, their lines, and counts for the summary.
 #[derive(Default)]
 struct Batch {
-    /// The calls whose cases are kept, a digit each.
-    ops: String,
+    /// The calls whose cases are kept; all of them if there is none.
+    ops: Vec<u8>,
     input: Vec<u8>,
     lines: Vec<u8>,
     section: &'static str,
@@ -124,7 +128,7 @@ struct Batch {
 impl Batch {
     /// The case, if it is one of the calls that are kept.
     fn add(&mut self, case: Case) {
-        if self.ops.contains((b'0' + case.op) as char) {
+        if self.ops.is_empty() || self.ops.contains(&case.op) {
             self.put(case);
         }
     }
@@ -168,6 +172,7 @@ fn outcome(line: &str) -> String {
         "4" => "run_concurrent",
         "5" => "run_sequential",
         "7" => "bench",
+        "8" => "prices",
         _ => "line",
     };
     let result = match (words[0], words[1], words[2]) {
@@ -178,6 +183,9 @@ fn outcome(line: &str) -> String {
         ("4" | "5", "0", end) => end_name(end).to_string(),
         ("7", "0", "0") => "none".to_string(),
         ("7", "0", _) => "found".to_string(),
+        ("8", "0", "0") => "no such label".to_string(),
+        ("8", "0", least) if least == words[3] => "one".to_string(),
+        ("8", "0", _) => "least and most".to_string(),
         (_, "0", _) => "accepted".to_string(),
         (_, number, _) => format!("refused {number:>2}"),
     };
@@ -252,6 +260,15 @@ fn bench_case(table: &[u8], rounds: u64, most: u32, cells: u32) -> Case {
         budget: rounds,
         h: most,
         cells,
+        ..Case::default()
+    }
+}
+
+fn prices_case(table: &[u8], label: u64) -> Case {
+    Case {
+        op: PRICES,
+        table: table.to_vec(),
+        budget: label,
         ..Case::default()
     }
 }
@@ -943,5 +960,85 @@ fn bench_bounds(threads: usize, random: &mut Random) -> (u64, u32) {
         if allotments.is_some_and(|allotments| allotments <= MOST_TRIED) {
             return (rounds as u64, most);
         }
+    }
+}
+
+// ---- prices ----
+
+/// The labels whose prices are worked, of long tables some; and labels that there are not.
+fn worked_prices(batch: &mut Batch) {
+    for sample in priced() {
+        let table = table(&sample.program);
+        let (last, apart) = match table.len() {
+            0..=900 => (0, 1),
+            901..=2_000 => (0, 4),
+            _ => (1, 16),
+        };
+        let some = sample.prices.iter().rev().skip(last).step_by(apart);
+        for (label, _) in some {
+            batch.add(prices_case(&table, *label));
+        }
+        let labels = labels::of_program(&sample.program) as u64;
+        if table.len() < 100 {
+            for label in other_labels(labels) {
+                batch.add(prices_case(&table, label));
+            }
+        }
+        if table.len() < 1_000 {
+            batch.add(prices_case(&table, 0));
+            batch.add(prices_case(&table, labels + 1));
+        }
+    }
+    // No buffer is lent, so none is shown.
+    batch.add(shown(Case {
+        cells: 5,
+        events: 5,
+        out: 5,
+        ..prices_case(&A, 1)
+    }));
+}
+
+/// Labels that a program of so many labels does not have; cut off, most would be labels.
+fn other_labels(labels: u64) -> Vec<u64> {
+    let mut all = vec![u64::MAX];
+    for high in [1 << 8, 1 << 16, 1 << 31, 1 << 32, 1 << 63] {
+        let others = [0, 1, labels].map(|low| high + low);
+        all.extend(others.into_iter().filter(|label| *label > labels));
+    }
+    all
+}
+
+/// Tables of each refusal, and the others of both kinds at their first and last label.
+fn refused_prices(batch: &mut Batch) {
+    for Judged { table, .. } in judged() {
+        if table.len() > 1_300 {
+            continue;
+        }
+        batch.add(prices_case(&table, 1));
+        let answer = read_concurrent(&table);
+        if answer.number == 0 {
+            batch.add(prices_case(&table, answer.labels));
+        }
+    }
+}
+
+/// Every label of some short random programs, one behind them, and damaged tables. Each program has
+/// an atomic block whose least and most prices differ.
+fn random_prices(batch: &mut Batch, random: &mut Random) {
+    let mut programs = 0;
+    while programs < PRICED_PROGRAMS {
+        let program = program_of(Kind::Concurrent, Scale::Small, random);
+        let source = write::table(&program, Kind::Concurrent);
+        let labels = labels::of_program(&program) as u64;
+        let differ = |label| price::at_label(&program, label).is_some_and(|s| s.least < s.most);
+        let is_short = source.len() < 400;
+        if !is_short || !(1..=labels).any(differ) || verdict(&source, Kind::Concurrent).is_err() {
+            continue;
+        }
+        programs += 1;
+        for label in 0..=labels + 1 {
+            batch.add(prices_case(&source, label));
+        }
+        batch.add(prices_case(&damaged(&source, random), 1));
     }
 }
