@@ -6,7 +6,7 @@ from typing import List
 from unittest import mock
 
 import samples
-from test_cli import Command, Result
+from test_cli import GREETS, Command, Result
 from zaru import bench, engine
 from zaru.fault import Fault
 from zaru.refusals import REFUSALS
@@ -56,7 +56,7 @@ class Counts(unittest.TestCase):
 
 class WrongAnswers(Command):
     def check(self, numbers: str) -> None:
-        lines = f"echo 90 3; echo 7 {numbers} 0"
+        lines = f"{GREETS}; echo 7 {numbers} 0"
         self.file("other", f"#!/bin/sh\ncat >/dev/null\n{lines}\n".encode())
         (self.folder / "other").chmod(0o755)
         with mock.patch.object(engine, "CELL_ROOM", 0), mock.patch.dict("os.environ", ZARU_ENGINE=str(self.folder / "other")):

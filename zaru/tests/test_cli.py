@@ -24,6 +24,9 @@ from zaru.show import show
 from zaru.stored import accepted_tables
 
 LAUNCHER = samples.ROOT / "zaru" / "zaru"
+VERSION = engine_module.VERSION
+# What a program in the proved one's place says first.
+GREETS = f"echo 90 {VERSION}"
 
 
 class Result(NamedTuple):
@@ -141,14 +144,15 @@ class WrongEngine(Command):
         self.check(path, f"cannot be run: [Errno 13] Permission denied: '{path}'")
 
     def test_no_greeting(self) -> None:
-        for said in ("true", "echo 90", "echo 90 2", "echo 90 33", "echo 1 0 1 1 2 4 1"):
-            self.check_script(said, "does not greet with version 3: `make zaru` builds it")
+        others = [f"echo 90 {other}" for other in ("", VERSION - 1, VERSION + 1, f"{VERSION}{VERSION}")]
+        for said in ("true", *others, "echo 1 0 1 1 2 4 1"):
+            self.check_script(said, f"does not greet with version {VERSION}: `make zaru` builds it")
 
     def test_no_answer(self) -> None:
-        self.check_script("echo 90 3", "did not answer call 1: `make zaru` builds it")
-        self.check_script("echo 90 3; echo 2 0 1 1 0 0 1", "did not answer call 1: `make zaru` builds it")
-        self.check_script("echo 90 3; echo 1 0 1 x", "answered `0 1 x`: `make zaru` builds it")
-        self.check_script("echo 90 3; echo 1", "answered ``: `make zaru` builds it")
+        self.check_script(GREETS, "did not answer call 1: `make zaru` builds it")
+        self.check_script(f"{GREETS}; echo 2 0 1 1 0 0 1", "did not answer call 1: `make zaru` builds it")
+        self.check_script(f"{GREETS}; echo 1 0 1 x", "answered `0 1 x`: `make zaru` builds it")
+        self.check_script(f"{GREETS}; echo 1", "answered ``: `make zaru` builds it")
 
     def test_a_reason_that_does_not_fit(self) -> None:
         """A reason without a blocked run, a blocked run without one, and numbers that there are none of."""
@@ -160,11 +164,11 @@ class WrongEngine(Command):
         self.assertEqual(engine_module.run_of(Request(engine_module.RUN_CONCURRENT, samples.B), answer).reason, 3)
 
     def test_more_than_an_answer(self) -> None:
-        lines = "echo 90 3; echo 1 0 1 1 2 4 1"
+        lines = f"{GREETS}; echo 1 0 1 1 2 4 1"
         self.check_script(f"{lines}; echo", "answered more than it was asked: `make zaru` builds it")
 
     def test_bad_ends(self) -> None:
-        lines = "echo 90 3; echo 1 0 1 1 2 4 1"
+        lines = f"{GREETS}; echo 1 0 1 1 2 4 1"
         self.check_script(f"{lines}; exit 7", "ended with status 7: `make zaru` builds it")
         self.check_script(f"{lines}; kill -SEGV $$", "was ended by signal SIGSEGV: `make zaru` builds it")
 
