@@ -11,6 +11,7 @@ from typing import List, Sequence
 from zaru import engine
 from zaru import table as t
 from zaru.blocked import plural
+from zaru.columns import columns
 from zaru.engine import Bench, EngineError, Request, Run
 from zaru.fault import Fault
 from zaru.reasons import REASONS
@@ -45,8 +46,7 @@ def rounds_table(counts: Sequence[int], threads: int, rounds: int) -> List[str]:
     """A line for each round, a column for each thread."""
     heads = ["round"] + [f"thread {thread}" for thread in range(threads)]
     rows = [[round_ + 1, *counts[round_ * threads : (round_ + 1) * threads]] for round_ in range(rounds)]
-    lines = [heads] + [[str(number) for number in row] for row in rows]
-    return ["  ".join(f"{word:>{len(head)}}" for word, head in zip(line, heads)) for line in lines]
+    return columns(heads, rows)
 
 
 def tell(program: t.Program, name: str, table: bytes, rounds: int, steps: int) -> List[str]:

@@ -11,13 +11,16 @@ from zaru.accepted import READ_OPS, accepted_program
 from zaru.arguments import UsageError, Words
 from zaru.blocked import BUDGET
 from zaru.copy_names import copy_names
+from zaru.cost import cost
 from zaru.engine import Request
 from zaru.fault import Fault
 from zaru.files import TEXT_ENDING, Source, TextError, assembled, source_of, write_file
+from zaru.labels import spots
 from zaru.reasons import REASONS
+from zaru.steps import LONGEST_ORDER
 from zaru.table import CONCURRENT, SEQUENTIAL, decode
 from zaru.text import text_of
-from zaru.trace import LONGEST_ORDER, trace
+from zaru.trace import trace
 from zaru.values import cell_lines
 
 DONE, REFUSED, WRONG_USE, NO_ENGINE, FAULT = 0, 1, 2, 3, 4
@@ -102,6 +105,12 @@ def command_trace(words: Words) -> List[str]:
     return trace(program, source.names_for(program), source.table, schedule)
 
 
+def command_cost(words: Words) -> List[str]:
+    source, schedule = table_and_order(words, LONGEST_ORDER)
+    program = accepted_program(CONCURRENT, source.table)
+    return cost(program, source.names_for(program), source.table, schedule)
+
+
 def command_bench(words: Words) -> List[str]:
     if len(words.positional) != 3:
         raise UsageError("a table, the number of rounds and the most steps of a thread in a round are needed")
@@ -129,7 +138,9 @@ def command_copy(words: Words) -> List[str]:
 def command_show(words: Words) -> List[str]:
     kind, source = kind_and_table(words)
     program = accepted_program(kind, source.table)
-    return text_of(source.table, source.names_for(program)).splitlines()
+    labels = range(1, len(spots(program)) + 1) if kind == CONCURRENT else ()
+    prices = [price.text() for price in engine.prices(source.table, labels)] if labels else []
+    return text_of(source.table, source.names_for(program), prices).splitlines()
 
 
 def command_asm(words: Words) -> List[str]:
@@ -197,6 +208,18 @@ parts that can block so: which of several it was is not known.
 An order has at most {LONGEST_ORDER} entries here.
 """,
     ),
+    "cost": Command(
+        "zaru cost TABLE ORDER..",
+        command_cost,
+        f"""
+Prints what a run costs the sequential copy: its steps up to its first loop head, and up to the one behind each step of
+the program. With T threads and L labels these are 3T + 2 and then, for each step, L + 2T + 10 and the step's price.
+
+Of each step it prints the price that is listed for its label, and the one that the step had. They differ only at an atomic
+block with an if, whose price depends on the branch: there the least and the most are listed.
+An order has at most {LONGEST_ORDER} entries here.
+""",
+    ),
     "bench": Command(
         "zaru bench TABLE ROUNDS STEPS",
         command_bench,
@@ -229,7 +252,10 @@ The budget is {BUDGET:,} steps unless it is given. Events of locations below h a
         "zaru show c|s TABLE",
         command_show,
         """
-Prints an accepted table as text, a concurrent one with its labels. `zaru asm` reads the text back to the same bytes.
+Prints an accepted table as text. `zaru asm` reads the text back to the same bytes.
+
+A concurrent one has its labels as comments, each with its price: how many steps of the copy's procedure for that label a
+step there takes (`// label 2, price 7`). An atomic block with an if has a least and a most (`price 9 to 14`).
 """,
     ),
     "asm": Command(
@@ -289,9 +315,10 @@ zaru: concurrent programs, their sequential copies, and what both do in a given 
   zaru translate TABLE -o COPY      writes its sequential copy
   zaru run TABLE ORDER..            runs program and copy in this order of threads
   zaru trace TABLE ORDER..          the same, a line for each step
+  zaru cost TABLE ORDER..           the copy's steps, a line for each step of the program
   zaru bench TABLE ROUNDS STEPS     tries round-robin orders: the first that blocks
   zaru copy COPY ORDER..            runs a sequential table alone; --budget N, --h N
-  zaru show c|s TABLE               the table as text, with its labels
+  zaru show c|s TABLE               the table as text, with its labels and their prices
   zaru asm TEXT -o TABLE            text to table
   zaru help [COMMAND]               more about a command
 

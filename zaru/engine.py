@@ -13,14 +13,14 @@ import subprocess
 from dataclasses import dataclass
 from functools import lru_cache
 from pathlib import Path
-from typing import List, Tuple
+from typing import List, NamedTuple, Sequence, Tuple
 
 from zaru.built import newer_source
 
-READ_CONCURRENT, READ_SEQUENTIAL, TRANSLATE, RUN_CONCURRENT, RUN_SEQUENTIAL, RUN_LINE, BENCH = range(1, 8)
+READ_CONCURRENT, READ_SEQUENTIAL, TRANSLATE, RUN_CONCURRENT, RUN_SEQUENTIAL, RUN_LINE, BENCH, PRICES = range(1, 9)
 GREETING = 90
 # The version of requests and lines; crates/cases/src/main.rt has it too.
-VERSION = 3
+VERSION = 4
 
 HEADER = 36
 # What the program is ready for.
@@ -49,7 +49,8 @@ class EngineError(Exception):
 
 @dataclass(frozen=True)
 class Request:
-    """A call, with the lengths of the buffers that are lent to it. The bench has its rounds as the budget, its steps as h."""
+    """A call, with the lengths of the buffers that are lent to it. The bench has its rounds as the budget, its steps as h,
+    and the call for prices its label as the budget."""
 
     op: int
     table: bytes
@@ -87,7 +88,7 @@ class Answer:
         try:
             return int(self.words[place])
         except (IndexError, ValueError) as error:
-            raise EngineError(f"{engine_path()} answered `{' '.join(self.words)}`: {BUILD}") from error
+            raise unexpected(self) from error
 
 
 @dataclass(frozen=True)
@@ -125,12 +126,26 @@ class Bench:
     cell_bytes: bytes
 
 
+class Price(NamedTuple):
+    """What a step at a label may cost the copy; both are the same but for an atomic block with an if."""
+
+    least: int
+    most: int
+
+    def text(self) -> str:
+        return f"{self.least}" if self.least == self.most else f"{self.least} to {self.most}"
+
+
 class Refused(Exception):
     """A call refused its input by this number."""
 
     def __init__(self, number: int) -> None:
         super().__init__(number)
         self.number = number
+
+
+def unexpected(answer: Answer) -> EngineError:
+    return EngineError(f"{engine_path()} answered `{' '.join(answer.words)}`: {BUILD}")
 
 
 def engine_path() -> Path:
@@ -229,15 +244,28 @@ def bench(table: bytes, rounds: int, steps: int) -> Bench:
     answer = accepted(ask([Request(BENCH, table, budget=rounds, h=steps, cells=CELL_ROOM)])[0])
     found, number, *counts = (answer.number(place) for place in range(1, COUNTS + 3))
     if found not in (0, 1) or (not found and any([number, *counts])):
-        raise EngineError(f"{engine_path()} answered `{' '.join(answer.words)}`: {BUILD}")
+        raise unexpected(answer)
     return Bench(found == 1, number, tuple(counts), answer.lent)
+
+
+def prices(table: bytes, labels: Sequence[int]) -> List[Price]:
+    """The prices of these labels."""
+    answers = ask([Request(PRICES, table, budget=label) for label in labels])
+    return [price_of(accepted(answer)) for answer in answers]
+
+
+def price_of(answer: Answer) -> Price:
+    price = Price(answer.number(1), answer.number(2))
+    if not 0 < price.least <= price.most:
+        raise unexpected(answer)
+    return price
 
 
 def run_of(request: Request, answer: Answer) -> Run:
     accepted(answer)
     end, steps, unused, events, reason = (answer.number(place) for place in range(1, 6))
     if not 0 <= end < len(ENDS) or not 0 <= reason <= LAST_REASON or (ENDS[end] == "blocked") != (reason != 0):
-        raise EngineError(f"{engine_path()} answered `{' '.join(answer.words)}`: {BUILD}")
+        raise unexpected(answer)
     cells, rest = answer.lent[: request.cells], answer.lent[request.cells :]
     written = rest[: 11 * min(events, request.events // 11)]
     return Run(ENDS[end], steps, unused, events, reason, cells, written)

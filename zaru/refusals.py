@@ -24,4 +24,4 @@ REFUSALS = {
 
 
 def describe(number: int) -> str:
-    return f"refused {number}: {REFUSALS[number]}"
+    return f"refused {number}: {REFUSALS[number]}" if number in REFUSALS else f"refused {number}"

@@ -2,7 +2,7 @@
 
 from __future__ import annotations
 
-from typing import Dict, List, NamedTuple, Optional, Tuple
+from typing import Dict, List, NamedTuple, Optional, Sequence, Tuple
 
 from zaru import table as t
 from zaru.names import Names
@@ -165,8 +165,8 @@ class Lines:
         self.lines.append(Line("end", self.next_label(False)))
 
 
-def show(program: t.Program, names: Names) -> str:
-    """The text of a program. A concurrent one has its labels as comments on the right."""
+def show(program: t.Program, names: Names, prices: Sequence[str] = ()) -> str:
+    """The text of a program. A concurrent one has its labels as comments on the right, with their prices if they are given."""
     lines = [Line(program.kind)]
     lines += [Line(f"location {name}[{size}]") for name, size in zip(names.locations, program.sizes)]
     code = Lines()
@@ -178,13 +178,17 @@ def show(program: t.Program, names: Names) -> str:
         lines.append(Line(""))
     lines += [Line(f"thread {names.procedures[main]}") for main in program.mains]
     has_labels = program.kind == t.CONCURRENT
-    return "".join(text + "\n" for text in (with_labels(lines) if has_labels else [line.text for line in lines]))
+    return "".join(text + "\n" for text in (with_labels(lines, prices) if has_labels else [line.text for line in lines]))
 
 
-def with_labels(lines: List[Line]) -> List[str]:
+def with_labels(lines: List[Line], prices: Sequence[str]) -> List[str]:
     widest = max(len(line.text) for line in lines)
     column = min(widest, COMMENT_COLUMN)
     return [
-        line.text if line.label is None else f"{line.text:<{column}}  // label {line.label}"
+        line.text if line.label is None else f"{line.text:<{column}}  // {described(line.label, prices)}"
         for line in lines
     ]
+
+
+def described(label: int, prices: Sequence[str]) -> str:
+    return f"label {label}, price {prices[label - 1]}" if prices else f"label {label}"

@@ -8,7 +8,7 @@ groups wrongly could be shown just as wrongly. The tests hold it against Python'
 
 from __future__ import annotations
 
-from typing import Dict, List, NamedTuple, Tuple, Union
+from typing import Dict, List, NamedTuple, Sequence, Tuple, Union
 
 from zaru.asm import AsmError, Token, parsed, small, tokens_of
 from zaru.fault import Fault
@@ -34,9 +34,9 @@ def table_of(text: str) -> Tuple[bytes, Names]:
     return table, names
 
 
-def text_of(table: bytes, names: Names) -> str:
-    """The text of a table, with these names."""
-    return shown(table, names).text
+def text_of(table: bytes, names: Names, prices: Sequence[str] = ()) -> str:
+    """The text of a table, with these names, and with the prices of its labels if they are given."""
+    return shown(table, names, prices).text
 
 
 class Shown(NamedTuple):
@@ -44,12 +44,12 @@ class Shown(NamedTuple):
     tokens: List[Token]
 
 
-def shown(table: bytes, names: Names) -> Shown:
+def shown(table: bytes, names: Names, prices: Sequence[str] = ()) -> Shown:
     """The text of a table that was accepted, or written for a text. It is read back to the same bytes and names."""
     program = decode(table)
     if counts_of(names) != counts_of(plain_names(program)):
         raise Fault("a fault of zaru: it has more or fewer names than the table has things")
-    text = show(program, names)
+    text = show(program, names, prices)
     try:
         tokens = tokens_of(text)
         again, found = parsed(tokens)

@@ -185,7 +185,8 @@ class Faults(Command):
         """Every command that takes a text: the last number of each is read as one more."""
         message = "b.zaru: a fault of zaru: the text that it shows is read as another program"
         commands = ["read c b.zaru", "translate b.zaru -o new", "translate b.zaru -o new.zaru", "run b.zaru 0 0"]
-        commands += ["trace b.zaru 0 0", "bench b.zaru 1 1", "copy b.zaru 0", "show c b.zaru", "asm b.zaru -o new"]
+        commands += ["trace b.zaru 0 0", "cost b.zaru 0 0", "bench b.zaru 1 1", "copy b.zaru 0", "show c b.zaru"]
+        commands += ["asm b.zaru -o new"]
         with mock.patch("zaru.asm.literal", lambda token, sign: t.Number(sign * int(token.text) + 1)):
             for command in commands:
                 self.check(message, *command.split())
@@ -193,7 +194,7 @@ class Faults(Command):
     @samples.needs_engine
     def test_a_text_that_is_shown_wrongly(self) -> None:
         message = "a fault of zaru: the text that it shows cannot be read: expected `:=` or `[`, found `=`"
-        with mock.patch("zaru.text.show", lambda program, names: show(program, names).replace(" := x", " = x")):
+        with mock.patch("zaru.text.show", lambda *given: show(*given).replace(" := x", " = x")):
             self.check(message, "show", "c", "b.table")
             self.check(message, "translate", "b.table", "-o", "new.zaru")
 
@@ -206,8 +207,10 @@ class Faults(Command):
         }
         for name, wrong in wrongs.items():
             with mock.patch(name, wrong):
-                for command in ("run b.table 0", "trace b.table 0", "show c b.table", "translate b.table -o new.zaru"):
-                    self.check(message, *command.split())
+                for command in ("run", "trace", "cost"):
+                    self.check(message, command, "b.table", "0")
+                for words in ("show c b.table", "translate b.table -o new.zaru"):
+                    self.check(message, *words.split())
 
     @samples.needs_engine
     def test_wrong_labels(self) -> None:
@@ -215,8 +218,9 @@ class Faults(Command):
         with mock.patch("zaru.follow.first_labels", lambda program: (2,)):
             message = f"{told} thread 0 is at label 2 by the text and at 1 by the copy's memory"
             self.check(message, "trace", "b.zaru", "0", "0")
-        with mock.patch("zaru.trace.spots", lambda program: spots(program)[1:]):
-            self.check(f"{told} the next step has events that do not fit label 1", "trace", "b.zaru", "0", "0")
+        with mock.patch("zaru.steps.spots", lambda program: spots(program)[1:]):
+            for command in ("trace", "cost"):
+                self.check(f"{told} the next step has events that do not fit label 1", command, "b.zaru", "0", "0")
 
     @samples.needs_engine
     def test_a_blocked_instruction_that_is_taken_for_another(self) -> None:
@@ -249,7 +253,7 @@ class WithoutEngine(Command):
         overview = self.zaru("help")
         self.assertEqual((overview.status, overview.err), (0, ""))
         self.assertEqual(self.zaru("--help"), overview)
-        for command in "read translate run trace bench copy show asm help".split():
+        for command in "read translate run trace cost bench copy show asm help".split():
             self.assertIn(f"  zaru {command} ", overview.out)
             told = self.zaru("help", command)
             self.assertTrue(told.out.startswith(f"usage: zaru {command}"), told)
@@ -348,7 +352,7 @@ class WithEngine(Command):
         self.assertEqual(self.good("asm", "again.zaru", "-o", "again.table"), "again.table: 57 bytes\n")
         self.assertEqual((self.folder / "again.table").read_bytes(), samples.B)
         self.assertEqual(self.good("show", "c", "again.zaru"), text)
-        self.assertIn("  v := p[0]       // label 2\n", self.good("show", "c", "b.zaru"))
+        self.assertIn("  v := p[0]       // label 2, price 7\n", self.good("show", "c", "b.zaru"))
 
     def test_the_launcher(self) -> None:
         """As a process of its own, by a link too; a table goes to standard output."""
@@ -388,7 +392,7 @@ class WithEngine(Command):
         total = " + ".join(f"x{number}" for number in range(12))
         body = "".join(f"x{number} := 0\n" for number in range(12)) + f"x0 := {total}\n" * 380
         self.file("nine.zaru", f"concurrent\nprocedure p()\nlocals {locals_}\n{body}end\nthread p\n".encode())
-        for command in ("run", "trace"):
+        for command in ("run", "trace", "cost"):
             self.refused(9, command, "nine.zaru", "7")
         self.refused(9, "translate", "nine.zaru", "-o", "new")
 

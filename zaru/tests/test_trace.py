@@ -14,7 +14,9 @@ from zaru.labels import Spot, first_labels, spots
 from zaru.names import Names, plain_names
 from zaru.state import State, label_of, state_of
 from zaru.stored import accepted_tables
-from zaru.trace import cut, steps_of, trace
+from zaru.steps import answers_of
+from zaru.told import cut
+from zaru.trace import trace
 
 
 def told(text: str, order: str) -> list:
@@ -113,17 +115,18 @@ class Traces(unittest.TestCase):
     def check_run(self, program: t.Program, names: Names, table: bytes) -> None:
         schedule = bytes(place * 7 // 3 % len(program.mains) for place in range(24))
         try:
-            steps = steps_of(program, table, schedule)
+            answers = answers_of(program, table, schedule)
         except engine.Refused as refused:
             self.assertEqual(refused.number, 9)
             return
         begin = [first_labels(program)[main] for main in program.mains]
-        self.assertEqual(list(steps.states[0].labels), begin)
-        self.assertEqual(len(steps.states), steps.run.steps + 1)
-        self.assertEqual(steps.event_counts[-1], steps.run.events)
-        self.assertEqual(steps.run.end == "finished", not any(steps.states[-1].labels))
+        states = [state_of(program, run.cell_bytes) for run in answers.copy_runs]
+        self.assertEqual(list(states[0].labels), begin)
+        self.assertEqual(len(states), answers.run.steps + 1)
+        self.assertEqual(answers.event_counts[-1], answers.run.events)
+        self.assertEqual(answers.run.end == "finished", not any(states[-1].labels))
         lines = trace(program, names, table, schedule)
-        self.assertEqual(sum(line.count("read m") + line.count("write m") for line in lines), steps.run.events)
+        self.assertEqual(sum(line.count("read m") + line.count("write m") for line in lines), answers.run.events)
 
 
 def rotated(program: t.Program) -> List[Spot]:
@@ -188,7 +191,7 @@ class WrongLabels(unittest.TestCase):
     def test_wrong_labels(self) -> None:
         for wrong, message in WRONG_SPOTS.items():
             with self.subTest(wrong.__name__):
-                self.check("zaru.trace.spots", wrong, message)
+                self.check("zaru.steps.spots", wrong, message)
 
     def test_a_wrong_first_label(self) -> None:
         message = "after 0 steps thread 0 is at label 2 by the text and at 1 by the copy's memory"
@@ -201,7 +204,7 @@ class WrongLabels(unittest.TestCase):
             state = state_of(program, cells)
             return replace(state, local_values=tuple(rows[1:] + rows[:1] for rows in state.local_values))
 
-        self.check("zaru.trace.state_of", shifted, "after 3 steps the next step has events that do not fit label 4")
+        self.check("zaru.steps.state_of", shifted, "after 3 steps the next step has events that do not fit label 4")
 
     def test_labels_in_the_wrong_place(self) -> None:
         """The location behind `pct` is taken for it."""
@@ -210,7 +213,7 @@ class WrongLabels(unittest.TestCase):
             return state_of(replace(program, sizes=(*program.sizes, 1)), cells + bytes(5))
 
         message = "after 0 steps thread 0 is at label 1 by the text and at 0 by the copy's memory"
-        self.check("zaru.trace.state_of", moved, message)
+        self.check("zaru.steps.state_of", moved, message)
         self.assertEqual([label_of(bytes([kind, 2, 0, 0, 0])) for kind in (1, 2, 3)], [2, -1, -1])
 
     def test_a_wrong_return(self) -> None:
@@ -223,7 +226,7 @@ class WrongLabels(unittest.TestCase):
             ]
 
         text = "concurrent\nprocedure a()\ncall b()\nend\nprocedure b()\nend\nthread a\n"
-        with mock.patch("zaru.trace.spots", to_itself), self.assertRaisesRegex(Fault, "at label 1 by .* at 2 by"):
+        with mock.patch("zaru.steps.spots", to_itself), self.assertRaisesRegex(Fault, "at label 1 by .* at 2 by"):
             told(text, "000")
 
 

@@ -1,0 +1,87 @@
+"""The steps of a run, and its end, in words."""
+
+from __future__ import annotations
+
+from typing import List, Sequence
+
+from zaru import table as t
+from zaru.blocked import plural, sentence
+from zaru.labels import Spot, spots
+from zaru.names import Names
+from zaru.show import Shower
+from zaru.steps import Course, Step
+from zaru.values import value_text
+
+# The widest instruction that is printed whole.
+WIDEST = 40
+
+
+class Teller:
+    """Tells the steps of a program in words."""
+
+    def __init__(self, program: t.Program, names: Names) -> None:
+        self.program = program
+        self.names = names
+
+    def instruction(self, spot: Spot) -> str:
+        if spot.instruction is None:
+            return f"end of {self.names.procedures[spot.procedure]}"
+        shower = Shower(self.names, spot.procedure)
+        is_atomic = isinstance(spot.instruction, t.Atomic)
+        return shower.inline(spot.instruction) if is_atomic else shower.head(spot.instruction)
+
+    def did(self, step: Step) -> str:
+        """What the step set, where it led, what it read and wrote."""
+        words = self.locals_set(step) + went(step.spot, step.after.labels[step.thread])
+        words += [event.text(self.names.locations) for event in step.events]
+        words += [f"{step.missing} more events"] if step.missing else []
+        return "; ".join(words)
+
+    def locals_set(self, step: Step) -> List[str]:
+        """The locals that the step has set, with their new values."""
+        procedure, instruction = step.spot.procedure, step.spot.instruction
+        numbers: Sequence[int] = []
+        if isinstance(instruction, (t.Assign, t.Read)):
+            numbers = [instruction.target]
+        elif isinstance(instruction, t.Call):
+            procedure = instruction.procedure
+            numbers = range(len(instruction.arguments))
+        elif isinstance(instruction, t.Atomic):
+            old, new = step.before.local_values[procedure], step.after.local_values[procedure]
+            numbers = [number for number in range(len(new)) if old[number][step.thread] != new[number][step.thread]]
+        names, values = self.names.local_names[procedure], step.after.local_values[procedure]
+        return [
+            f"{names[number]} = {value_text(values[number][step.thread], self.names.locations)}" for number in numbers
+        ]
+
+    def why(self, course: Course) -> str:
+        """Where and why a blocked run stopped."""
+        answers = course.answers
+        thread = course.schedule[answers.run.steps]
+        return sentence(self.program, answers.copy, answers.run, thread, course.labels[thread])
+
+    def not_done(self, course: Course) -> str:
+        """The instruction at which a run blocked; nothing if the thread was finished."""
+        label = course.labels[course.schedule[course.answers.run.steps]]
+        return self.instruction(spots(self.program)[label - 1]) if label else ""
+
+
+def went(spot: Spot, label: int) -> List[str]:
+    """Where a test, a call or a return led."""
+    if isinstance(spot.instruction, (t.While, t.If)):
+        if spot.if_true == spot.if_false:
+            return [f"to label {label}"]
+        return [f"{'true' if label == spot.if_true else 'false'}, to label {label}"]
+    if isinstance(spot.instruction, t.Call):
+        return [f"to label {label}"]
+    if spot.instruction is None:
+        return [f"back to label {label}" if label else "thread finished"]
+    return []
+
+
+def unused(course: Course) -> str:
+    return f"{plural(course.answers.run.unused, 'entry', 'entries')} unused"
+
+
+def cut(text: str) -> str:
+    return text if len(text) <= WIDEST else text[: WIDEST - 2] + ".."
