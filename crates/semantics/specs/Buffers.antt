@@ -15,13 +15,13 @@ abbrev pub wayByte : Way → ℕ
 wayByte reading = 0
 wayByte writing = 1
 
--- "An event is 11 bytes: thread, 0 read or 1 write, location (2), index (2), value (5)"
+-- "thread, 0 read or 1 write, location (2), index (2), value (5)"; request #105: "13 bytes, the last two being the label of the step"
 abbrev pub eventSize : ℕ
-eventSize = 11
+eventSize = 13
 
 -- an event as bytes: `eventSize` of them
 abbrev pub eventBytes : Event → List ℕ
-eventBytes e = e .thread ∷ wayByte (e .way) ∷ bytes 2 (e .place) ++ (bytes 2 (e .index) ++ cellBytes (e .value))
+eventBytes e = e .thread ∷ wayByte (e .way) ∷ bytes 2 (e .place) ++ (bytes 2 (e .index) ++ (cellBytes (e .value) ++ bytes 2 (e .label)))
 
 -- "Events that fit whole are written, later ones only counted": into a buffer of so many bytes
 abbrev pub log : ℕ → List Event → List ℕ

@@ -65,15 +65,15 @@ choose a b η f s (t ∷ ts) evs = selected a η f s t ts evs (cell η b t ⟫ r
 
 -- the machine records the events of the locations below h
 module _ (h : ℕ) (procs : List (Proc Plain)) where
-  -- an instruction before c, in procedure m with locals ρ above s
+  -- an instruction before c, in procedure m with locals ρ above s; "The sequential machine writes the number of the procedure it is in"
   abbrev pub one : ℕ → Env → Instr Plain → Block Plain → Stack Plain → Memory → List ℕ → ℕ → List Event → Next
   one m ρ (select a b) c s η ts t evs = choose a b η (record { proc = m; env = ρ; code = c }) s ts evs
-  one m ρ (assign x e) c s η ts t evs = moved h ts t evs (instr procs t m ρ tt (assign x e) c s η)
-  one m ρ (write y o e) c s η ts t evs = moved h ts t evs (instr procs t m ρ tt (write y o e) c s η)
-  one m ρ (read x y o) c s η ts t evs = moved h ts t evs (instr procs t m ρ tt (read x y o) c s η)
-  one m ρ (while e b) c s η ts t evs = moved h ts t evs (instr procs t m ρ tt (while e b) c s η)
-  one m ρ (if e b d) c s η ts t evs = moved h ts t evs (instr procs t m ρ tt (if e b d) c s η)
-  one m ρ (call n es) c s η ts t evs = moved h ts t evs (instr procs t m ρ tt (call n es) c s η)
+  one m ρ (assign x e) c s η ts t evs = moved h ts t evs (instr procs t m m ρ tt (assign x e) c s η)
+  one m ρ (write y o e) c s η ts t evs = moved h ts t evs (instr procs t m m ρ tt (write y o e) c s η)
+  one m ρ (read x y o) c s η ts t evs = moved h ts t evs (instr procs t m m ρ tt (read x y o) c s η)
+  one m ρ (while e b) c s η ts t evs = moved h ts t evs (instr procs t m m ρ tt (while e b) c s η)
+  one m ρ (if e b d) c s η ts t evs = moved h ts t evs (instr procs t m m ρ tt (if e b d) c s η)
+  one m ρ (call n es) c s η ts t evs = moved h ts t evs (instr procs t m m ρ tt (call n es) c s η)
   one m ρ (atomic b) c s η ts t evs = ended (blocked WrongKind)
 
   -- code, or a return

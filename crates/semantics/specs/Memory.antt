@@ -66,10 +66,11 @@ fresh (n ∷ ns) = replicate n (Whole (pos 0)) ∷ fresh ns
 pub data Way : Type 0 where
   reading writing : Way
 
--- document 01: "An event is .. thread, 0 read or 1 write, location, index, value"
+-- document 01: "An event is .. thread, 0 read or 1 write, location, index, value"; request #105: "the last two being the label of the step"
 pub record Event : Type 0 where
   pub thread : ℕ
   pub way : Way
   pub place : ℕ
   pub index : ℕ
   pub value : Value
+  pub label : ℕ

@@ -43,8 +43,8 @@ abbrev pub runs : {A : Type 0} → ℕ → Stack A → Bool
 runs n [] = false
 runs n (f ∷ s) = either (eqb n (f .proc)) (runs n s)
 
-module _ {A : Type 0} (procs : List (Proc A)) (t : ℕ) where
-  -- instruction i with tag a, first in procedure m, before c and above the frames s. Request #101: "a write judges the value, then the index
+module _ {A : Type 0} (procs : List (Proc A)) (t j : ℕ) where
+  -- thread t, at label j: instruction i with tag a, first in procedure m, before c and above the frames s. Request #101: "a write judges the value, then the index
   -- expression, then the pointer, then the index against the size; a read does the same without a value; a call judges its arguments in order".
   -- A call has the report's condition that its procedure runs in no frame, which is never broken after rule 7; what the rules keep out gives 2
   abbrev pub instr : ℕ → Env → A → Instr A → Block A → Stack A → Memory → Try (Moved A)
@@ -60,7 +60,7 @@ module _ {A : Type 0} (procs : List (Proc A)) (t : ℕ) where
       has (record {
         stack = record { proc = m; env = ρ; code = c } ∷ s;
         memory = stored η l i v;
-        events = record { thread = t; way = writing; place = l; index = i; value = v } ∷ [];
+        events = record { thread = t; way = writing; place = l; index = i; value = v; label = j } ∷ [];
       })
   instr m ρ a (read x y o) c s η =
       eval ρ o ⟫ number ⟫ λ z.
@@ -70,7 +70,7 @@ module _ {A : Type 0} (procs : List (Proc A)) (t : ℕ) where
       has (record {
         stack = record { proc = m; env = bound ρ x v; code = c } ∷ s;
         memory = η;
-        events = record { thread = t; way = reading; place = l; index = i; value = v } ∷ [];
+        events = record { thread = t; way = reading; place = l; index = i; value = v; label = j } ∷ [];
       })
   instr m ρ a (while e b) c s η =
       eval ρ e ⟫ truth ⟫ λ q.

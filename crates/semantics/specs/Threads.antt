@@ -61,7 +61,7 @@ pub record Atomic : Type 0 where
   pub memory : Memory
   pub events : List Event
 
-module _ (procs : List (Proc ℕ)) (t : ℕ) where
+module _ (procs : List (Proc ℕ)) (t j : ℕ) where
   -- steps of a stack until one frame with no code is left, at most n of them
   abbrev pub toEnd : ℕ → Stack ℕ → Memory → List Event → Try Atomic
   toEnd zero [] η evs = lacks WrongKind
@@ -69,20 +69,22 @@ module _ (procs : List (Proc ℕ)) (t : ℕ) where
   toEnd (suc n) [] η evs = lacks WrongKind
   toEnd (suc n) (f ∷ s) η evs = elim (f .code) [
     | end ↦ has (record { env = f .env; memory = η; events = evs })
-    | step a i c ↦ (instr procs t (f .proc) (f .env) a i c s η ⟫ λ r. toEnd n (r .stack) (r .memory) (evs ++ r .events))
+    | step a i c ↦ (instr procs t j (f .proc) (f .env) a i c s η ⟫ λ r. toEnd n (r .stack) (r .memory) (evs ++ r .events))
   ]
 
-  -- the first instruction of a thread's code: a whole atomic block, or one step
+module _ (procs : List (Proc ℕ)) (t : ℕ) where
+  -- the first instruction of a thread's code: a whole atomic block, or one step; its label is its tag, and "inside an atomic block it is the
+  -- block's label"
   abbrev pub first-instr : ℕ → Env → ℕ → Instr ℕ → Block ℕ → Stack ℕ → Memory → Try (Moved ℕ)
   first-instr m ρ a (atomic b) c s η =
-      toEnd (size b) (record { proc = m; env = ρ; code = b } ∷ []) η [] ⟫ λ r.
+      toEnd procs t a (size b) (record { proc = m; env = ρ; code = b } ∷ []) η [] ⟫ λ r.
       has (record { stack = record { proc = m; env = r .env; code = c } ∷ s; memory = r .memory; events = r .events })
-  first-instr m ρ a (assign x e) c s η = instr procs t m ρ a (assign x e) c s η
-  first-instr m ρ a (write y o e) c s η = instr procs t m ρ a (write y o e) c s η
-  first-instr m ρ a (read x y o) c s η = instr procs t m ρ a (read x y o) c s η
-  first-instr m ρ a (while e b) c s η = instr procs t m ρ a (while e b) c s η
-  first-instr m ρ a (if e b d) c s η = instr procs t m ρ a (if e b d) c s η
-  first-instr m ρ a (call n es) c s η = instr procs t m ρ a (call n es) c s η
+  first-instr m ρ a (assign x e) c s η = instr procs t a m ρ a (assign x e) c s η
+  first-instr m ρ a (write y o e) c s η = instr procs t a m ρ a (write y o e) c s η
+  first-instr m ρ a (read x y o) c s η = instr procs t a m ρ a (read x y o) c s η
+  first-instr m ρ a (while e b) c s η = instr procs t a m ρ a (while e b) c s η
+  first-instr m ρ a (if e b d) c s η = instr procs t a m ρ a (if e b d) c s η
+  first-instr m ρ a (call n es) c s η = instr procs t a m ρ a (call n es) c s η
   first-instr m ρ a (select x y) c s η = lacks WrongKind
 
   -- the code of the top frame, or its return

@@ -12,7 +12,7 @@ use Rattle.value.specs.Values.{not, neg, add, sub, less, equal, and}
 use Rattle.value.specs.declared.Reason.the-variants.{OutOfRange, WrongKind, IndexOutside, FinishedThread}
 use Rattle.value.specs.declared.Value.the-variants.{Whole, Location, Truth}
 use Rattle.format.specs.Syntax.{Expr, constant, local, one, two, Instr, assign, write, read, while, if, call, atomic, select}
-use Rattle.format.specs.Syntax.{Block, end, step, Program, Plain, concurrent, sequential}
+use Rattle.format.specs.Syntax.{Block, end, step, Proc, Program, Plain, concurrent, sequential}
 use Rattle.format.specs.Encode.{table}
 use Rattle.semantics.specs.Memory.{Env, eval, evals, writing}
 use Rattle.semantics.specs.Step.{Moved}
@@ -45,9 +45,9 @@ refused n cs es = record { answer = record { number = n; end = 0; steps = 0; unu
 
 -- ---- bytes
 
--- "thread .., 0 read or 1 write, location (2), index (2), value (5 ..)"
-pub an-event : eventBytes (record { thread = 3; way = writing; place = 258; index = 5; value = Whole (negsuc 1) })
-    ≡ 3 ∷ 1 ∷ 2 ∷ 1 ∷ 5 ∷ 0 ∷ 1 ∷ 254 ∷ 255 ∷ 255 ∷ 255 ∷ []
+-- "thread .., 0 read or 1 write, location (2), index (2), value (5 ..)"; "the last two being the label of the step"
+pub an-event : eventBytes (record { thread = 3; way = writing; place = 258; index = 5; value = Whole (negsuc 1); label = 399 })
+    ≡ 3 ∷ 1 ∷ 2 ∷ 1 ∷ 5 ∷ 0 ∷ 1 ∷ 254 ∷ 255 ∷ 255 ∷ 255 ∷ 143 ∷ 1 ∷ []
 an-event = refl
 
 -- "Final cells are written as such values, in location order"
@@ -57,7 +57,7 @@ some-cells = refl
 
 -- ---- the concurrent run
 
--- two threads: p := location 0, of size 2; v := p[1]; p[1] := v - 1
+-- two threads: p := location 0, of size 2; v := p[1] (label 2); p[1] := v - 1
 abbrev E : Program Plain
 E = record {
   procs =
@@ -75,9 +75,9 @@ E = record {
   mains = 0 ∷ 0 ∷ [];
 }
 
--- E under a schedule, with twelve bytes for its two cells and 21 for events
+-- E under a schedule, with twelve bytes for its two cells and 25 for events
 abbrev runE : List ℕ → Outcome
-runE ts = concurrentCall (table concurrent E) ts (lent 12) (lent 21)
+runE ts = concurrentCall (table concurrent E) ts (lent 12) (lent 25)
 
 -- a fresh cell
 abbrev zeroCell : List ℕ
@@ -87,25 +87,29 @@ zeroCell = 1 ∷ 0 ∷ 0 ∷ 0 ∷ 0 ∷ []
 abbrev lowCell : List ℕ
 lowCell = 1 ∷ 255 ∷ 255 ∷ 255 ∷ 255 ∷ []
 
+-- an event: thread, 0 read or 1 write, location, index, value, label
+abbrev logged : ℕ → ℕ → ℕ → ℕ → List ℕ → ℕ → List ℕ
+logged t way l i v j = t ∷ way ∷ l ∷ 0 ∷ i ∷ 0 ∷ v ++ (j ∷ 0 ∷ [])
+
 -- thread t reads number 0 at index 1
 abbrev readBy : ℕ → List ℕ
-readBy t = t ∷ 0 ∷ 0 ∷ 0 ∷ 1 ∷ 0 ∷ zeroCell
+readBy t = logged t 0 0 1 zeroCell 2
 
 -- THE CONCURRENT RUN: "A finished thread .. blocks"; "unused entries are counted, a blocking one among them"; "Events that fit whole are written,
 -- later ones only counted"; "All other bytes stay"
 pub concurrent-runs :
-    (runE (0 ∷ 0 ∷ 0 ∷ 0 ∷ 0 ∷ 1 ∷ 1 ∷ []) ≡ told 2 4 3 2 4 (zeroCell ++ (lowCell ++ lent 2)) (readBy 0 ++ lent 10))
-    × (runE (1 ∷ 1 ∷ []) ≡ told 1 2 0 1 0 (zeroCell ++ (zeroCell ++ lent 2)) (readBy 1 ++ lent 10))
+    (runE (0 ∷ 0 ∷ 0 ∷ 0 ∷ 0 ∷ 1 ∷ 1 ∷ []) ≡ told 2 4 3 2 4 (zeroCell ++ (lowCell ++ lent 2)) (readBy 0 ++ lent 12))
+    × (runE (1 ∷ 1 ∷ []) ≡ told 1 2 0 1 0 (zeroCell ++ (zeroCell ++ lent 2)) (readBy 1 ++ lent 12))
     × (runE (1 ∷ 1 ∷ 1 ∷ 0 ∷ 1 ∷ 0 ∷ 0 ∷ 0 ∷ 0 ∷ []) .answer ≡ told 0 8 1 4 0 [] [] .answer)
 concurrent-runs = (refl, refl, refl)
 
 -- "schedule over 4,096 entries, or (concurrent) an entry not below T"; "cell buffer shorter than 5 bytes a cell"; "A refusal .. writes nothing"
 pub concurrent-refusals :
-    (runE (0 ∷ 2 ∷ []) ≡ refused 11 (lent 12) (lent 21))
-    × (runE (replicate 4097 0) ≡ refused 11 (lent 12) (lent 21))
+    (runE (0 ∷ 2 ∷ []) ≡ refused 11 (lent 12) (lent 25))
+    × (runE (replicate 4097 0) ≡ refused 11 (lent 12) (lent 25))
     × (scheduled concurrent E (replicate 4096 1) ≡ true)
-    × (concurrentCall (table concurrent E) [] (lent 9) (lent 21) ≡ refused 12 (lent 9) (lent 21))
-    × (concurrentCall (table sequential E) (2 ∷ []) (lent 9) (lent 21) ≡ refused 1 (lent 9) (lent 21))
+    × (concurrentCall (table concurrent E) [] (lent 9) (lent 25) ≡ refused 12 (lent 9) (lent 25))
+    × (concurrentCall (table sequential E) (2 ∷ []) (lent 9) (lent 25) ≡ refused 1 (lent 9) (lent 25))
 concurrent-refusals = (refl, refl, refl, refl, refl)
 
 -- ---- the sequential run
@@ -131,11 +135,11 @@ S = record {
 
 -- S with a budget, events of locations below h, a schedule, and room for its three cells and two events
 abbrev runS : ℕ → ℕ → List ℕ → Outcome
-runS n h ts = sequentialCall n h (table sequential S) ts (lent 15) (lent 22)
+runS n h ts = sequentialCall n h (table sequential S) ts (lent 15) (lent 26)
 
--- thread t writes into location 1
+-- thread t writes into location 1, in procedure 0
 abbrev writeBy : ℕ → ℕ → List ℕ → List ℕ
-writeBy t i v = t ∷ 1 ∷ 1 ∷ 0 ∷ i ∷ 0 ∷ v
+writeBy t i v = logged t 1 1 i v 0
 
 -- number 5
 abbrev five : List ℕ
@@ -157,13 +161,13 @@ last = 1 ∷ 1 ∷ 0 ∷ 0 ∷ 0 ∷ yes ++ five
 -- at its budget, used up (select and no entry), blocked, in this order"; select "else .. blocks and takes none"; "return (procedure 0's too)"
 pub sequential-runs :
     (runS 5 2 (1 ∷ 7 ∷ []) ≡ told 0 5 1 2 0 last (writeBy 0 1 five ++ writeBy 1 0 yes))
-    × (runS 5 1 (1 ∷ 7 ∷ []) ≡ told 0 5 1 0 0 last (lent 22))
-    × (runS 4 1 (1 ∷ 7 ∷ []) ≡ told 3 4 1 0 0 last (lent 22))
-    × (runS 2 1 [] ≡ told 3 2 0 0 0 before (lent 22))
-    × (runS 3 1 [] ≡ told 1 2 0 0 0 before (lent 22))
-    × (runS 2 1 (0 ∷ []) ≡ told 3 2 1 0 0 before (lent 22))
-    × (runS 3 1 (0 ∷ []) ≡ told 2 2 1 0 4 before (lent 22))
-    × (runS 3 1 (2 ∷ []) ≡ told 2 2 1 0 3 before (lent 22))
+    × (runS 5 1 (1 ∷ 7 ∷ []) ≡ told 0 5 1 0 0 last (lent 26))
+    × (runS 4 1 (1 ∷ 7 ∷ []) ≡ told 3 4 1 0 0 last (lent 26))
+    × (runS 2 1 [] ≡ told 3 2 0 0 0 before (lent 26))
+    × (runS 3 1 [] ≡ told 1 2 0 0 0 before (lent 26))
+    × (runS 2 1 (0 ∷ []) ≡ told 3 2 1 0 0 before (lent 26))
+    × (runS 3 1 (0 ∷ []) ≡ told 2 2 1 0 4 before (lent 26))
+    × (runS 3 1 (2 ∷ []) ≡ told 2 2 1 0 3 before (lent 26))
 sequential-runs = (refl, refl, refl, refl, refl, refl, refl, refl)
 
 -- an entry need not be below a count of threads
@@ -172,6 +176,51 @@ pub sequential-refusals :
     × (scheduled sequential S (replicate 4097 255) ≡ false)
     × (sequentialCall 5 1 (table sequential S) [] (lent 14) [] ≡ refused 12 (lent 14) [])
 sequential-refusals = (refl, refl, refl)
+
+-- ---- labels in events
+
+-- procedure 0, and procedure 1 with parameter p: p[0] := true
+abbrev calling : Block Plain → List (Proc Plain)
+calling b =
+    record { params = 0; locals = 2; body = b }
+    ∷ record { params = 1; locals = 1; body = write 0 (num 0) (constant (Truth true)) then end }
+    ∷ []
+
+-- p := location 0, of size 2 (label 1); atomic: v := p[0]; if v = 0 then p[1] := 7 (2); call 1 with p (3). Procedure 1 has label 5
+abbrev L : Program Plain
+L = record {
+  procs = calling
+      (assign 0 (constant (Location 0)) then
+      atomic (read 1 0 (num 0) then if (two equal (local 1) (num 0)) (write 0 (num 1) (num 7) then end) end then end) then
+      call 1 (local 0 ∷ []) then
+      end);
+  sizes = 2 ∷ [];
+  mains = 0 ∷ [];
+}
+
+-- "the label of the step; inside an atomic block it is the block's label"; "whole events only": of 25 bytes one is written, of 12 none
+pub labels-of-events :
+    let seven : List ℕ = 1 ∷ 7 ∷ 0 ∷ 0 ∷ 0 ∷ [] in
+    let run : List ℕ → Outcome = concurrentCall (table concurrent L) (replicate 6 0) (lent 10) in
+    (run (lent 39) ≡ told 0 6 0 3 0 (yes ++ seven) (logged 0 0 0 0 zeroCell 2 ++ logged 0 1 0 1 seven 2 ++ logged 0 1 0 0 yes 5))
+    × (run (lent 25) ≡ told 0 6 0 3 0 (yes ++ seven) (logged 0 0 0 0 zeroCell 2 ++ lent 12))
+    × (run (lent 12) ≡ told 0 6 0 3 0 (yes ++ seven) (lent 12))
+labels-of-events = (refl, refl, refl)
+
+-- x := location 0, of size 1; x[0] := 5; call 1 with x; y := x[0]
+abbrev R : Program Plain
+R = record {
+  procs = calling
+      (assign 0 (constant (Location 0)) then write 0 (num 0) (num 5) then call 1 (local 0 ∷ []) then read 1 0 (num 0) then end);
+  sizes = 1 ∷ [];
+  mains = [];
+}
+
+-- "The sequential machine writes the number of the procedure it is in, which for procedure 0 is 0": before a call, in it and after its return
+pub procedures-of-events :
+    sequentialCall 9 1 (table sequential R) [] (lent 5) (lent 40)
+    ≡ told 0 7 0 3 0 yes (logged 0 1 0 0 five 0 ++ logged 0 1 0 0 yes 1 ++ logged 0 0 0 0 yes 0 ++ lent 1)
+procedures-of-events = refl
 
 -- ---- why there is no value
 

@@ -51,7 +51,7 @@ cell η l i = at η l >>= λ row. at row i
 
 -- ---- Step
 
-module _ {A : Type 0} (by : Evaluator) (procs : List (Proc A)) (t : ℕ) where
+module _ {A : Type 0} (by : Evaluator) (procs : List (Proc A)) (t j : ℕ) where
   -- instruction i with tag a, first in procedure m, before c and above the frames s; a call has the report's condition that its procedure
   -- runs in no frame, which is never broken after rule 7
   abbrev pub instr : ℕ → Env → A → Instr A → Block A → Stack A → Memory → Maybe (Moved A)
@@ -66,7 +66,7 @@ module _ {A : Type 0} (by : Evaluator) (procs : List (Proc A)) (t : ℕ) where
       is (record {
         stack = record { proc = m; env = ρ; code = c } ∷ s;
         memory = stored η l i v;
-        events = record { thread = t; way = writing; place = l; index = i; value = v } ∷ [];
+        events = record { thread = t; way = writing; place = l; index = i; value = v; label = j } ∷ [];
       })
   instr m ρ a (read x y o) c s η =
       by ρ o >>= index >>= λ i.
@@ -75,7 +75,7 @@ module _ {A : Type 0} (by : Evaluator) (procs : List (Proc A)) (t : ℕ) where
       is (record {
         stack = record { proc = m; env = bound ρ x v; code = c } ∷ s;
         memory = η;
-        events = record { thread = t; way = reading; place = l; index = i; value = v } ∷ [];
+        events = record { thread = t; way = reading; place = l; index = i; value = v; label = j } ∷ [];
       })
   instr m ρ a (while e b) c s η =
       by ρ e >>= truth >>= λ q.
@@ -93,7 +93,7 @@ module _ {A : Type 0} (by : Evaluator) (procs : List (Proc A)) (t : ℕ) where
 
 -- ---- Threads
 
-module _ (by : Evaluator) (procs : List (Proc ℕ)) (t : ℕ) where
+module _ (by : Evaluator) (procs : List (Proc ℕ)) (t j : ℕ) where
   -- steps of a stack until one frame with no code is left, at most n of them
   abbrev pub toEnd : ℕ → Stack ℕ → Memory → List Event → Maybe Atomic
   toEnd zero [] η evs = nothing
@@ -101,20 +101,21 @@ module _ (by : Evaluator) (procs : List (Proc ℕ)) (t : ℕ) where
   toEnd (suc n) [] η evs = nothing
   toEnd (suc n) (f ∷ s) η evs = elim (f .code) [
     | end ↦ is (record { env = f .env; memory = η; events = evs })
-    | step a i c ↦ (instr by procs t (f .proc) (f .env) a i c s η >>= λ r. toEnd n (r .stack) (r .memory) (evs ++ r .events))
+    | step a i c ↦ (instr by procs t j (f .proc) (f .env) a i c s η >>= λ r. toEnd n (r .stack) (r .memory) (evs ++ r .events))
   ]
 
+module _ (by : Evaluator) (procs : List (Proc ℕ)) (t : ℕ) where
   -- the first instruction of a thread's code: a whole atomic block, or one step
   abbrev pub first-instr : ℕ → Env → ℕ → Instr ℕ → Block ℕ → Stack ℕ → Memory → Maybe (Moved ℕ)
   first-instr m ρ a (atomic b) c s η =
-      toEnd (size b) (record { proc = m; env = ρ; code = b } ∷ []) η [] >>= λ r.
+      toEnd by procs t a (size b) (record { proc = m; env = ρ; code = b } ∷ []) η [] >>= λ r.
       is (record { stack = record { proc = m; env = r .env; code = c } ∷ s; memory = r .memory; events = r .events })
-  first-instr m ρ a (assign x e) c s η = instr by procs t m ρ a (assign x e) c s η
-  first-instr m ρ a (write y o e) c s η = instr by procs t m ρ a (write y o e) c s η
-  first-instr m ρ a (read x y o) c s η = instr by procs t m ρ a (read x y o) c s η
-  first-instr m ρ a (while e b) c s η = instr by procs t m ρ a (while e b) c s η
-  first-instr m ρ a (if e b d) c s η = instr by procs t m ρ a (if e b d) c s η
-  first-instr m ρ a (call n es) c s η = instr by procs t m ρ a (call n es) c s η
+  first-instr m ρ a (assign x e) c s η = instr by procs t a m ρ a (assign x e) c s η
+  first-instr m ρ a (write y o e) c s η = instr by procs t a m ρ a (write y o e) c s η
+  first-instr m ρ a (read x y o) c s η = instr by procs t a m ρ a (read x y o) c s η
+  first-instr m ρ a (while e b) c s η = instr by procs t a m ρ a (while e b) c s η
+  first-instr m ρ a (if e b d) c s η = instr by procs t a m ρ a (if e b d) c s η
+  first-instr m ρ a (call n es) c s η = instr by procs t a m ρ a (call n es) c s η
   first-instr m ρ a (select x y) c s η = nothing
 
   -- the code of the top frame, or its return
@@ -198,12 +199,12 @@ module _ (by : Evaluator) (h : ℕ) (procs : List (Proc Plain)) where
   -- an instruction before c, in procedure m with locals ρ above s
   abbrev pub copyOne : ℕ → Env → Instr Plain → Block Plain → Stack Plain → Memory → List ℕ → ℕ → List Event → Next
   copyOne m ρ (select a b) c s η ts t evs = choose a b η (record { proc = m; env = ρ; code = c }) s ts evs
-  copyOne m ρ (assign x e) c s η ts t evs = moved h ts t evs (instr by procs t m ρ tt (assign x e) c s η)
-  copyOne m ρ (write y o e) c s η ts t evs = moved h ts t evs (instr by procs t m ρ tt (write y o e) c s η)
-  copyOne m ρ (read x y o) c s η ts t evs = moved h ts t evs (instr by procs t m ρ tt (read x y o) c s η)
-  copyOne m ρ (while e b) c s η ts t evs = moved h ts t evs (instr by procs t m ρ tt (while e b) c s η)
-  copyOne m ρ (if e b d) c s η ts t evs = moved h ts t evs (instr by procs t m ρ tt (if e b d) c s η)
-  copyOne m ρ (call n es) c s η ts t evs = moved h ts t evs (instr by procs t m ρ tt (call n es) c s η)
+  copyOne m ρ (assign x e) c s η ts t evs = moved h ts t evs (instr by procs t m m ρ tt (assign x e) c s η)
+  copyOne m ρ (write y o e) c s η ts t evs = moved h ts t evs (instr by procs t m m ρ tt (write y o e) c s η)
+  copyOne m ρ (read x y o) c s η ts t evs = moved h ts t evs (instr by procs t m m ρ tt (read x y o) c s η)
+  copyOne m ρ (while e b) c s η ts t evs = moved h ts t evs (instr by procs t m m ρ tt (while e b) c s η)
+  copyOne m ρ (if e b d) c s η ts t evs = moved h ts t evs (instr by procs t m m ρ tt (if e b d) c s η)
+  copyOne m ρ (call n es) c s η ts t evs = moved h ts t evs (instr by procs t m m ρ tt (call n es) c s η)
   copyOne m ρ (atomic b) c s η ts t evs = ended blocked
 
   -- code, or a return

@@ -11,7 +11,7 @@ use borrow.Author.Tests.{leb-true, leb-false, le-leb, lt-leb}
 use Rattle.value.specs.Maybe.{is}
 use Rattle.value.specs.Try.{reasonNumber}
 use Rattle.value.specs.Lists.{at, sum}
-use Rattle.value.specs.Values.{cellBytes, cellSize}
+use Rattle.value.specs.Values.{bytes, cellBytes, cellSize}
 use Rattle.value.specs.Laws.Maybes.{is-inj, missing}
 use Rattle.value.specs.Laws.Tests.{Decides, never, by-test, _and_, le?, lt?}
 use Rattle.value.specs.Laws.Reasons.{reason-number, reason-positive}
@@ -49,7 +49,7 @@ length-cells (row ∷ η) =
 
 -- an event has as many as is said
 pub length-event : (e : Event) → length (eventBytes e) ≡ eventSize
-length-event e = omega (arith, length-cell (e .value))
+length-event e = omega (arith, length-append (cellBytes (e .value)) (bytes 2 (e .label)), length-cell (e .value))
 
 -- only whole events are written
 pub whole-events : (room : ℕ) (evs : List Event) → length (log room evs) ≡ eventSize * length (take (room / eventSize) evs)

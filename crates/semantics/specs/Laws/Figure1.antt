@@ -100,9 +100,9 @@ evals-exactly ρ es vs = (have ρ es, all-come)
 abbrev pub context : {A : Type 0} → ℕ → Env → Block A → Frame A
 context m ρ c = record { proc = m; env = ρ; code = c }
 
--- a read or write of thread t
-abbrev pub event : ℕ → Way → ℕ → ℕ → Value → Event
-event t way l i v = record { thread = t; way = way; place = l; index = i; value = v }
+-- a read or write of thread t at label j
+abbrev pub event : ℕ → ℕ → Way → ℕ → ℕ → Value → Event
+event t j way l i v = record { thread = t; way = way; place = l; index = i; value = v; label = j }
 
 -- the report's m' ∉ s: no frame is of procedure n
 abbrev pub Absent : {A : Type 0} → ℕ → Stack A → Type 0
@@ -171,8 +171,8 @@ module _ {A : Type 0} (n : ℕ) where
   not-running [] h = refl
   not-running (f ∷ s) h = rw (ne-eqb n (f .proc) (h .0), not-running s (h .1))
 
--- thread t, where instruction i with tag a comes first and then c, in procedure m with locals ρ, above the frames s, with memory η
-module _ {A : Type 0} (procs : List (Proc A)) (t m : ℕ) (ρ : Env) (a : A) (c : Block A) (s : Stack A) (η : Memory) where
+-- thread t at label j, where instruction i with tag a comes first and then c, in procedure m with locals ρ, above the frames s, with memory η
+module _ {A : Type 0} (procs : List (Proc A)) (t j m : ℕ) (ρ : Env) (a : A) (c : Block A) (s : Stack A) (η : Memory) where
   -- the frame goes on with these locals and this code; memory; what is read or written
   abbrev pub to : Env → Block A → Memory → List Event → Moved A
   to ρ′ c′ η′ evs = record { stack = context m ρ′ c′ ∷ s; memory = η′; events = evs }
@@ -185,11 +185,11 @@ module _ {A : Type 0} (procs : List (Proc A)) (t m : ℕ) (ρ : Env) (a : A) (c 
     -- y[o] := e: "if ⟦e⟧ρ = v, ⟦o⟧ρ = i, ρ(y) = l, i < mem(l)": η[(l, i) ↦ v]. The figure has the names [read] and [write] in each other's place.
     writes : {y : ℕ} {o e : Expr} {v : Value} {i l n : ℕ}
         → eval ρ e ≡ has v → eval ρ o ≡ has (Whole (pos i)) → lookup ρ y ≡ is (Location l) → at (shape η) l ≡ is n → i < n
-        → Rule (write y o e) (to ρ c (stored η l i v) (event t writing l i v ∷ []))
+        → Rule (write y o e) (to ρ c (stored η l i v) (event t j writing l i v ∷ []))
     -- x := y[o]: "if ⟦o⟧ρ = i, ρ(y) = l, i < mem(l), η(l)(i) = v": ρ[x ↦ v]
     reads : {x y : ℕ} {o : Expr} {v : Value} {i l : ℕ}
         → eval ρ o ≡ has (Whole (pos i)) → lookup ρ y ≡ is (Location l) → cell η l i ≡ has v
-        → Rule (read x y o) (to (bound ρ x v) c η (event t reading l i v ∷ []))
+        → Rule (read x y o) (to (bound ρ x v) c η (event t j reading l i v ∷ []))
     -- [while : true] "if ⟦e⟧ρ = true": the body, then the loop again
     while-true : {e : Expr} {b : Block A} → eval ρ e ≡ has (Truth true) → Rule (while e b) (to ρ (b ⊕ step a (while e b) c) η [])
     -- [while : false]
@@ -203,7 +203,7 @@ module _ {A : Type 0} (procs : List (Proc A)) (t m : ℕ) (ρ : Env) (a : A) (c 
         → Rule (call n es) (record { stack = entered n p vs ∷ context m ρ c ∷ s; memory = η; events = [] })
 
   -- a step is by a rule
-  so : (i : Instr A) (r : Moved A) → instr procs t m ρ a i c s η ≡ has r → Rule i r
+  so : (i : Instr A) (r : Moved A) → instr procs t j m ρ a i c s η ≡ has r → Rule i r
   so (assign x e) r h = let b = chain-has (eval ρ e) _ h in rw (← has-inj (b .2)) (assigns (b .1))
   so (write y o e) r h =
       let v = chain-has (eval ρ e) _ h in
@@ -242,7 +242,7 @@ module _ {A : Type 0} (procs : List (Proc A)) (t m : ℕ) (ρ : Env) (a : A) (c 
   so (select x y) r h = lacking h
 
   -- a rule is a step
-  of : {i : Instr A} {r : Moved A} → Rule i r → instr procs t m ρ a i c s η ≡ has r
+  of : {i : Instr A} {r : Moved A} → Rule i r → instr procs t j m ρ a i c s η ≡ has r
   of (assigns e) = rw e
   of (writes {i = i} {l = l} v o y n h) = let u = cell-there η l i n h in rw (v, o, y, u .1)
   of (reads o y v) = rw (o, y, v)
@@ -253,34 +253,34 @@ module _ {A : Type 0} (procs : List (Proc A)) (t m : ℕ) (ρ : Env) (a : A) (c 
   of (calls {n = n} p h free) = rw (all-come h, p, not-running n (context m ρ c ∷ s) free)
 
   -- FIGURE 1: AN INSTRUCTION TAKES A STEP EXACTLY IF A RULE OF THE REPORT DOES, AND TO WHERE THE RULE SAYS.
-  pub rules-exactly : (i : Instr A) (r : Moved A) → (instr procs t m ρ a i c s η ≡ has r) ↔ Rule i r
+  pub rules-exactly : (i : Instr A) (r : Moved A) → (instr procs t j m ρ a i c s η ≡ has r) ↔ Rule i r
   rules-exactly i r = (so i r, of)
 
 -- ---- figure 1, of a stack of frames
 
--- P ⊢ s, η → s', η' of thread t
-pub data Figure1 {A : Type 0} (procs : List (Proc A)) (t : ℕ) : Stack A → Memory → Moved A → Type 0 where
-  by-rule : {m : ℕ} {ρ : Env} {a : A} {i : Instr A} {c : Block A} {s : Stack A} {η : Memory} {r : Moved A} → Rule procs t m ρ a c s η i r
-      → Figure1 procs t (context m ρ (step a i c) ∷ s) η r
+-- P ⊢ s, η → s', η' of thread t at label j
+pub data Figure1 {A : Type 0} (procs : List (Proc A)) (t j : ℕ) : Stack A → Memory → Moved A → Type 0 where
+  by-rule : {m : ℕ} {ρ : Env} {a : A} {i : Instr A} {c : Block A} {s : Stack A} {η : Memory} {r : Moved A} → Rule procs t j m ρ a c s η i r
+      → Figure1 procs t j (context m ρ (step a i c) ∷ s) η r
   -- [return] (m, ρ, []) · s, η → s, η
-  returns : {m : ℕ} {ρ : Env} {s : Stack A} {η : Memory} → Figure1 procs t (context m ρ end ∷ s) η (record { stack = s; memory = η; events = [] })
+  returns : {m : ℕ} {ρ : Env} {s : Stack A} {η : Memory} → Figure1 procs t j (context m ρ end ∷ s) η (record { stack = s; memory = η; events = [] })
 
 -- what a stack's first frame does
-abbrev taken : {A : Type 0} → List (Proc A) → ℕ → Stack A → Memory → Try (Moved A)
-taken procs t [] η = lacks FinishedThread
-taken procs t (f ∷ s) η = frame procs t (f .code) (f .proc) (f .env) s η
+abbrev taken : {A : Type 0} → List (Proc A) → ℕ → ℕ → Stack A → Memory → Try (Moved A)
+taken procs t j [] η = lacks FinishedThread
+taken procs t j (f ∷ s) η = frame procs t j (f .code) (f .proc) (f .env) s η
 
 -- a step of figure 1
-figure-of : {A : Type 0} {procs : List (Proc A)} {t : ℕ} {s : Stack A} {η : Memory} {r : Moved A} → Figure1 procs t s η r → taken procs t s η ≡ has r
-figure-of {procs = procs} {t = t} (by-rule {m = m} {ρ = ρ} {a = a} {i = i} {c = c} {s = s} {η = η} {r = r} h) =
-    rules-exactly procs t m ρ a c s η i r .1 h
+figure-of : {A : Type 0} {procs : List (Proc A)} {t j : ℕ} {s : Stack A} {η : Memory} {r : Moved A} → Figure1 procs t j s η r → taken procs t j s η ≡ has r
+figure-of {procs = procs} {t = t} {j = j} (by-rule {m = m} {ρ = ρ} {a = a} {i = i} {c = c} {s = s} {η = η} {r = r} h) =
+    rules-exactly procs t j m ρ a c s η i r .1 h
 figure-of returns = refl
 
 -- FIGURE 1 IS WHAT A STACK'S FIRST FRAME DOES.
-pub figure-1 : {A : Type 0} (procs : List (Proc A)) (t m : ℕ) (ρ : Env) (c : Block A) (s : Stack A) (η : Memory) (r : Moved A)
-    → (frame procs t c m ρ s η ≡ has r) ↔ Figure1 procs t (context m ρ c ∷ s) η r
-figure-1 {A} procs t m ρ c s η r = (so c, figure-of)
+pub figure-1 : {A : Type 0} (procs : List (Proc A)) (t j m : ℕ) (ρ : Env) (c : Block A) (s : Stack A) (η : Memory) (r : Moved A)
+    → (frame procs t j c m ρ s η ≡ has r) ↔ Figure1 procs t j (context m ρ c ∷ s) η r
+figure-1 {A} procs t j m ρ c s η r = (so c, figure-of)
   where
-    so : (c : Block A) → frame procs t c m ρ s η ≡ has r → Figure1 procs t (context m ρ c ∷ s) η r
+    so : (c : Block A) → frame procs t j c m ρ s η ≡ has r → Figure1 procs t j (context m ρ c ∷ s) η r
     so end e = rw (← has-inj e) returns
-    so (step a i c) e = by-rule (rules-exactly procs t m ρ a c s η i r .0 e)
+    so (step a i c) e = by-rule (rules-exactly procs t j m ρ a c s η i r .0 e)

@@ -27,11 +27,11 @@ use Rattle.semantics.specs.Laws.Figure1.{context, Figure1, by-rule, retu
 
 -- ---- the two rules
 
--- the report's P ⊢ s, η →* s', η', with what is read and written on the way
-pub data Runs (procs : List (Proc ℕ)) (t : ℕ) : Stack ℕ → Memory → Stack ℕ → Memory → List Event → Type 0 where
-  stays : {s : Stack ℕ} {η : Memory} → Runs procs t s η s η []
-  goes : {s s′ : Stack ℕ} {η η′ : Memory} {r : Moved ℕ} {evs : List Event} → Figure1 procs t s η r → Runs procs t (r .stack) (r .memory) s′ η′ evs
-      → Runs procs t s η s′ η′ (r .events ++ evs)
+-- the report's P ⊢ s, η →* s', η', at label j, with what is read and written on the way
+pub data Runs (procs : List (Proc ℕ)) (t j : ℕ) : Stack ℕ → Memory → Stack ℕ → Memory → List Event → Type 0 where
+  stays : {s : Stack ℕ} {η : Memory} → Runs procs t j s η s η []
+  goes : {s s′ : Stack ℕ} {η η′ : Memory} {r : Moved ℕ} {evs : List Event} → Figure1 procs t j s η r → Runs procs t j (r .stack) (r .memory) s′ η′ evs
+      → Runs procs t j s η s′ η′ (r .events ++ evs)
 
 -- the report's stacks[t ↦ s'], η'
 abbrev pub put : State → ℕ → Moved ℕ → Step
@@ -39,12 +39,12 @@ put σ t r = record { state = record { threads = set (σ .threads) t (r .stack);
 
 -- P ⊢ stacks, η → stacks', η' by thread t
 pub data Figure2 (p : Program ℕ) (t : ℕ) (σ : State) : Step → Type 0 where
-  -- [seq] "if P ⊢ stacks(t), η → s', η' and 0 ≤ t < #tid"
-  seq : {s : Stack ℕ} {r : Moved ℕ} → at (σ .threads) t ≡ is s → Figure1 (p .procs) t s (σ .memory) r → Figure2 p t σ (put σ t r)
-  -- [atomic] "if P ⊢ [(m, ρ, b)], η →* [(m, ρ', [])], η' where stacks(t) = (m, ρ, (atomic(b); c)) · s"
+  -- [seq] "if P ⊢ stacks(t), η → s', η' and 0 ≤ t < #tid"; an event has the label where the thread is
+  seq : {s : Stack ℕ} {r : Moved ℕ} → at (σ .threads) t ≡ is s → Figure1 (p .procs) t (labelOf p s) s (σ .memory) r → Figure2 p t σ (put σ t r)
+  -- [atomic] "if P ⊢ [(m, ρ, b)], η →* [(m, ρ', [])], η' where stacks(t) = (m, ρ, (atomic(b); c)) · s"; at the block's label
   whole : {m : ℕ} {ρ ρ′ : Env} {a : ℕ} {b c : Block ℕ} {s : Stack ℕ} {η′ : Memory} {evs : List Event}
       → at (σ .threads) t ≡ is (context m ρ (step a (atomic b) c) ∷ s)
-      → Runs (p .procs) t (context m ρ b ∷ []) (σ .memory) (context m ρ′ end ∷ []) η′ evs
+      → Runs (p .procs) t a (context m ρ b ∷ []) (σ .memory) (context m ρ′ end ∷ []) η′ evs
       → Figure2 p t σ (put σ t (record { stack = context m ρ′ c ∷ s; memory = η′; events = evs }))
 
 -- rule 4 of what stands in an atomic block of procedure m: "within it no while, call or atomic"
@@ -72,9 +72,9 @@ pub record Left (m n : ℕ) (r : Moved ℕ) : Type 0 where
   pub less : size code < n
   pub right : allowed (inside m) code ≡ true
 
-module _ (procs : List (Proc ℕ)) (t : ℕ) where
+module _ (procs : List (Proc ℕ)) (t j : ℕ) where
   -- it does
-  pub left : {m : ℕ} {ρ : Env} {a : ℕ} {c : Block ℕ} {η : Memory} {i : Instr ℕ} {r : Moved ℕ} → Rule procs t m ρ a c [] η i r
+  pub left : {m : ℕ} {ρ : Env} {a : ℕ} {c : Block ℕ} {η : Memory} {i : Instr ℕ} {r : Moved ℕ} → Rule procs t j m ρ a c [] η i r
       → allowedI (inside m) i ≡ true → allowed (inside m) c ≡ true → Left m (sizeI i + size c) r
   left (assigns e) h k = record { env = _; code = _; same = refl; less = omega arith; right = k }
   left (writes v o y n l) h k = record { env = _; code = _; same = refl; less = omega arith; right = k }
@@ -92,19 +92,19 @@ module _ (procs : List (Proc ℕ)) (t : ℕ) where
   -- what the block in one go leaves, after some events
   record Ended (m : ℕ) (ρ : Env) (b : Block ℕ) (η : Memory) (evs : List Event) (r : Atomic) : Type 0 where
     new : List Event
-    runs : Runs procs t (context m ρ b ∷ []) η (context m (r .env) end ∷ []) (r .memory) new
+    runs : Runs procs t j (context m ρ b ∷ []) η (context m (r .env) end ∷ []) (r .memory) new
     events : r .events ≡ evs ++ new
 
   -- a block in one go takes steps of figure 1
   to-end : (n m : ℕ) (ρ : Env) (b : Block ℕ) (η : Memory) (evs : List Event) (r : Atomic) → allowed (inside m) b ≡ true
-      → toEnd procs t n (context m ρ b ∷ []) η evs ≡ has r → Ended m ρ b η evs r
+      → toEnd procs t j n (context m ρ b ∷ []) η evs ≡ has r → Ended m ρ b η evs r
   to-end zero m ρ end η evs r k h = rw (← has-inj h) (record { new = []; runs = stays; events = sym (append-nil evs) })
   to-end zero m ρ (step a i c) η evs r k h = lacking h
   to-end (suc n) m ρ end η evs r k h = rw (← has-inj h) (record { new = []; runs = stays; events = sym (append-nil evs) })
   to-end (suc n) m ρ (step a i c) η evs r k h =
-      let q = chain-has (instr procs t m ρ a i c [] η) _ h in
+      let q = chain-has (instr procs t j m ρ a i c [] η) _ h in
       let ok = both-passed (allowedI (inside m) i) (allowed (inside m) c) k in
-      let rule : Rule procs t m ρ a c [] η i (q .0) = rules-exactly procs t m ρ a c [] η i (q .0) .0 (q .1) in
+      let rule : Rule procs t j m ρ a c [] η i (q .0) = rules-exactly procs t j m ρ a c [] η i (q .0) .0 (q .1) in
       let l : Left m (sizeI i + size c) (q .0) = left rule (ok .0) (ok .1) in
       let rest : Ended m (l .env) (l .code) (q .0 .memory) (evs ++ q .0 .events) r
       = to-end n m (l .env) (l .code) (q .0 .memory) (evs ++ q .0 .events) r (l .right) (rw (l .same) at (q .2)) in
@@ -115,36 +115,36 @@ module _ (procs : List (Proc ℕ)) (t : ℕ) where
       }
 
   -- no step begins without a frame
-  pub from-none : {s s′ : Stack ℕ} {η η′ : Memory} {evs : List Event} → Runs procs t s η s′ η′ evs → s ≡ [] → s′ ≡ []
+  pub from-none : {s s′ : Stack ℕ} {η η′ : Memory} {evs : List Event} → Runs procs t j s η s′ η′ evs → s ≡ [] → s′ ≡ []
   from-none stays e = e
   from-none (goes (by-rule h) rest) e = let z : _≡_ {A = ℕ} 0 1 = cc in absurd (omega arith)
   from-none (goes returns rest) e = let z : _≡_ {A = ℕ} 0 1 = cc in absurd (omega arith)
 
   -- at its end
   at-end : (n m : ℕ) (ρ : Env) (η : Memory) (evs : List Event)
-      → toEnd procs t n (context m ρ end ∷ []) η evs ≡ has (record { env = ρ; memory = η; events = evs })
+      → toEnd procs t j n (context m ρ end ∷ []) η evs ≡ has (record { env = ρ; memory = η; events = evs })
   at-end zero m ρ η evs = refl
   at-end (suc n) m ρ η evs = refl
 
   -- steps of figure 1 to the end of a block are the block in one go
-  in-one : {s s′ : Stack ℕ} {η η′ : Memory} {new : List Event} → Runs procs t s η s′ η′ new
+  in-one : {s s′ : Stack ℕ} {η η′ : Memory} {new : List Event} → Runs procs t j s η s′ η′ new
       → (n m : ℕ) (ρ ρ′ : Env) (b : Block ℕ) (evs : List Event) → s ≡ context m ρ b ∷ [] → s′ ≡ context m ρ′ end ∷ [] → size b ≤ n
-      → allowed (inside m) b ≡ true → toEnd procs t n (context m ρ b ∷ []) η evs ≡ has (record { env = ρ′; memory = η′; events = evs ++ new })
+      → allowed (inside m) b ≡ true → toEnd procs t j n (context m ρ b ∷ []) η evs ≡ has (record { env = ρ′; memory = η′; events = evs ++ new })
   in-one (stays {η = η}) n m ρ ρ′ b evs e e′ h k =
       let same : context m ρ b ≡ context m ρ′ end = cc in
       let locals : ρ ≡ ρ′ = ap (λ (f : Frame ℕ). f .env) same in
       let done : b ≡ end = ap (λ (f : Frame ℕ). f .code) same in
       rw (locals, done, append-nil evs) (at-end n m ρ′ η evs)
   in-one (goes {s′ = s′} {η = η} {η′ = η′} {r = r} {evs = new} f rest) n m ρ ρ′ b evs e e′ h k =
-      by b (λ n m ρ ρ′ b evs e e′ h k. in-one rest n m ρ ρ′ b evs e e′ h k) (figure-1 procs t m ρ b [] η r .1 (rw e at f)) h k
+      by b (λ n m ρ ρ′ b evs e e′ h k. in-one rest n m ρ ρ′ b evs e e′ h k) (figure-1 procs t j m ρ b [] η r .1 (rw e at f)) h k
     where
       Later : Type 0
       Later = (n m : ℕ) (ρ ρ′ : Env) (b : Block ℕ) (evs : List Event) → r .stack ≡ context m ρ b ∷ [] → s′ ≡ context m ρ′ end ∷ [] → size b ≤ n
           → allowed (inside m) b ≡ true
-          → toEnd procs t n (context m ρ b ∷ []) (r .memory) evs ≡ has (record { env = ρ′; memory = η′; events = evs ++ new })
+          → toEnd procs t j n (context m ρ b ∷ []) (r .memory) evs ≡ has (record { env = ρ′; memory = η′; events = evs ++ new })
 
-      by : (b : Block ℕ) → Later → frame procs t b m ρ [] η ≡ has r → size b ≤ n → allowed (inside m) b ≡ true
-          → toEnd procs t n (context m ρ b ∷ []) η evs ≡ has (record { env = ρ′; memory = η′; events = evs ++ (r .events ++ new) })
+      by : (b : Block ℕ) → Later → frame procs t j b m ρ [] η ≡ has r → size b ≤ n → allowed (inside m) b ≡ true
+          → toEnd procs t j n (context m ρ b ∷ []) η evs ≡ has (record { env = ρ′; memory = η′; events = evs ++ (r .events ++ new) })
       by end ih g h k =
           let none : r .stack ≡ [] = ap (λ (r : Moved ℕ). r .stack) (sym (has-inj g)) in
           let no : s′ ≡ [] = from-none rest none in
@@ -152,15 +152,16 @@ module _ (procs : List (Proc ℕ)) (t : ℕ) where
           absurd (omega arith)
       by (step a i c) ih g h k =
           let ok = both-passed (allowedI (inside m) i) (allowed (inside m) c) k in
-          let l : Left m (sizeI i + size c) r = left (rules-exactly procs t m ρ a c [] η i r .0 g) (ok .0) (ok .1) in
+          let l : Left m (sizeI i + size c) r = left (rules-exactly procs t j m ρ a c [] η i r .0 g) (ok .0) (ok .1) in
           on n (l .env) (l .code) (l .same) (omega (arith, l .less)) (l .right)
         where
           on : (n : ℕ) (ρ₁ : Env) (c₁ : Block ℕ) → r .stack ≡ context m ρ₁ c₁ ∷ [] → size c₁ < n → allowed (inside m) c₁ ≡ true
-              → toEnd procs t n (context m ρ (step a i c) ∷ []) η evs ≡ has (record { env = ρ′; memory = η′; events = evs ++ (r .events ++ new) })
+              → toEnd procs t j n (context m ρ (step a i c) ∷ []) η evs ≡ has (record { env = ρ′; memory = η′; events = evs ++ (r .events ++ new) })
           on zero ρ₁ c₁ same less right = absurd (omega arith)
           on (suc n) ρ₁ c₁ same less right =
               rw (g, same, ← append-assoc evs (r .events) new) (ih n m ρ₁ ρ′ c₁ (evs ++ r .events) same e′ (omega arith) right)
 
+module _ (procs : List (Proc ℕ)) (t : ℕ) where
   -- "A finished thread .. blocks"
   pub finished-blocks : (η : Memory) → thread procs t [] η ≡ lacks FinishedThread
   finished-blocks η = refl
@@ -168,21 +169,21 @@ module _ (procs : List (Proc ℕ)) (t : ℕ) where
   -- ---- a thread's first instruction
 
   -- other than an atomic block, it is figure 1's
-  first-of : {m : ℕ} {ρ : Env} {a : ℕ} {c : Block ℕ} {s : Stack ℕ} {η : Memory} (i : Instr ℕ) {r : Moved ℕ} → Rule procs t m ρ a c s η i r
+  first-of : {m : ℕ} {ρ : Env} {a : ℕ} {c : Block ℕ} {s : Stack ℕ} {η : Memory} (i : Instr ℕ) {r : Moved ℕ} → Rule procs t a m ρ a c s η i r
       → first-instr procs t m ρ a i c s η ≡ has r
-  first-of (assign x e) h = rules-exactly procs t _ _ _ _ _ _ _ _ .1 h
-  first-of (write y o e) h = rules-exactly procs t _ _ _ _ _ _ _ _ .1 h
-  first-of (read x y o) h = rules-exactly procs t _ _ _ _ _ _ _ _ .1 h
-  first-of (while e b) h = rules-exactly procs t _ _ _ _ _ _ _ _ .1 h
-  first-of (if e b d) h = rules-exactly procs t _ _ _ _ _ _ _ _ .1 h
-  first-of (call n es) h = rules-exactly procs t _ _ _ _ _ _ _ _ .1 h
-  first-of (atomic b) h = lacking (rules-exactly procs t _ _ _ _ _ _ _ _ .1 h)
-  first-of (select x y) h = lacking (rules-exactly procs t _ _ _ _ _ _ _ _ .1 h)
+  first-of (assign x e) h = rules-exactly procs t _ _ _ _ _ _ _ _ _ .1 h
+  first-of (write y o e) h = rules-exactly procs t _ _ _ _ _ _ _ _ _ .1 h
+  first-of (read x y o) h = rules-exactly procs t _ _ _ _ _ _ _ _ _ .1 h
+  first-of (while e b) h = rules-exactly procs t _ _ _ _ _ _ _ _ _ .1 h
+  first-of (if e b d) h = rules-exactly procs t _ _ _ _ _ _ _ _ _ .1 h
+  first-of (call n es) h = rules-exactly procs t _ _ _ _ _ _ _ _ _ .1 h
+  first-of (atomic b) h = lacking (rules-exactly procs t _ _ _ _ _ _ _ _ _ .1 h)
+  first-of (select x y) h = lacking (rules-exactly procs t _ _ _ _ _ _ _ _ _ .1 h)
 
-  -- a step of figure 1 is a thread's step
-  thread-of : {s : Stack ℕ} {η : Memory} {r : Moved ℕ} → Figure1 procs t s η r → thread procs t s η ≡ has r
-  thread-of (by-rule {i = i} h) = first-of i h
-  thread-of returns = refl
+-- a step of figure 1, at the label where the thread is, is the thread's step
+thread-of : (p : Program ℕ) (t : ℕ) {s : Stack ℕ} {η : Memory} {r : Moved ℕ} → Figure1 (p .procs) t (labelOf p s) s η r → thread (p .procs) t s η ≡ has r
+thread-of p t (by-rule {i = i} h) = first-of (p .procs) t i h
+thread-of p t returns = refl
 
 -- FIGURE 2: A THREAD TAKES A STEP EXACTLY IF A RULE OF THE REPORT DOES, AND TO WHERE THE RULE SAYS. A finished thread has none.
 pub figure-2 : (p : Program ℕ) (t : ℕ) (σ : State) (r : Step) → Allowed σ t → (threadStep p t σ ≡ has r) ↔ Figure2 p t σ r
@@ -196,9 +197,9 @@ figure-2 p t σ r ok = (so, of ok)
     by m ρ end s q e h = rw (← has-inj h) (seq e returns)
     by m ρ (step a i c) s q e h = on i e h
       where
-        simply : (i : Instr ℕ) → at (σ .threads) t ≡ is (context m ρ (step a i c) ∷ s) → instr (p .procs) t m ρ a i c s η ≡ has q
+        simply : (i : Instr ℕ) → at (σ .threads) t ≡ is (context m ρ (step a i c) ∷ s) → instr (p .procs) t a m ρ a i c s η ≡ has q
             → Figure2 p t σ (put σ t q)
-        simply i e h = seq e (by-rule (rules-exactly (p .procs) t m ρ a c s η i q .0 h))
+        simply i e h = seq e (by-rule (rules-exactly (p .procs) t a m ρ a c s η i q .0 h))
 
         on : (i : Instr ℕ) → at (σ .threads) t ≡ is (context m ρ (step a i c) ∷ s) → first-instr (p .procs) t m ρ a i c s η ≡ has q
             → Figure2 p t σ (put σ t q)
@@ -209,8 +210,8 @@ figure-2 p t σ r ok = (so, of ok)
         on (if e b d) g h = simply (if e b d) g h
         on (call n es) g h = simply (call n es) g h
         on (atomic b) g h =
-            let z = chain-has (toEnd (p .procs) t (size b) (context m ρ b ∷ []) η []) _ h in
-            let w = to-end (p .procs) t (size b) m ρ b η [] (z .0) (ok m ρ a b c s g) (z .1) in
+            let z = chain-has (toEnd (p .procs) t a (size b) (context m ρ b ∷ []) η []) _ h in
+            let w = to-end (p .procs) t a (size b) m ρ b η [] (z .0) (ok m ρ a b c s g) (z .1) in
             rw (← has-inj (z .2), w .events) (whole g (w .runs))
         on (select x y) g h = lacking h
 
@@ -225,9 +226,9 @@ figure-2 p t σ r ok = (so, of ok)
         on (f ∷ s) e q h = by (f .proc) (f .env) (f .code) s q e h
 
     of : {r : Step} → Allowed σ t → Figure2 p t σ r → threadStep p t σ ≡ has r
-    of ok (seq e f) = rw (e, thread-of (p .procs) t f)
+    of ok (seq e f) = rw (e, thread-of p t f)
     of ok (whole {m = m} {ρ = ρ} {ρ′ = ρ′} {a = a} {b = b} {c = c} {s = s} e runs) =
-        rw (e, in-one (p .procs) t runs (size b) m ρ ρ′ b [] refl refl (omega arith) (ok m ρ a b c s e))
+        rw (e, in-one (p .procs) t a runs (size b) m ρ ρ′ b [] refl refl (omega arith) (ok m ρ a b c s e))
 
 -- ---- where a run begins, and where a thread is
 

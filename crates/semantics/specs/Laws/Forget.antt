@@ -81,10 +81,10 @@ module _ (ρ : Env) (η : Memory) (y : ℕ) (o : Expr) where
       on (has (Location l)) m e = rw (← e) refl
       on (has (Truth b)) m e = rw (← e) refl
 
-module _ {A : Type 0} (procs : List (Proc A)) (t : ℕ) where
+module _ {A : Type 0} (procs : List (Proc A)) (t j : ℕ) where
   -- AN INSTRUCTION, WITHOUT ITS REASON
   pub forget-instr : (m : ℕ) (ρ : Env) (a : A) (i : Instr A) (c : Block A) (s : Stack A) (η : Memory)
-      → forget (instr procs t m ρ a i c s η) ≡ Bare.instr now procs t m ρ a i c s η
+      → forget (instr procs t j m ρ a i c s η) ≡ Bare.instr now procs t j m ρ a i c s η
   forget-instr m ρ a (assign x e) c s η = forget-chain (eval ρ e) _ (now ρ e) _ refl (λ v. refl)
   forget-instr m ρ a (write y o e) c s η =
       forget-chain (eval ρ e) _ (now ρ e) _ refl (λ v. forget-reached ρ η y o _)
@@ -102,41 +102,42 @@ module _ {A : Type 0} (procs : List (Proc A)) (t : ℕ) where
 
 -- ---- the concurrent machine
 
-module _ (procs : List (Proc ℕ)) (t : ℕ) where
+module _ (procs : List (Proc ℕ)) (t j : ℕ) where
   -- an atomic block
-  forget-toEnd : (n : ℕ) (z : Stack ℕ) (η : Memory) (evs : List Event) → forget (toEnd procs t n z η evs) ≡ Bare.toEnd now procs t n z η evs
+  forget-toEnd : (n : ℕ) (z : Stack ℕ) (η : Memory) (evs : List Event) → forget (toEnd procs t j n z η evs) ≡ Bare.toEnd now procs t j n z η evs
   forget-toEnd zero [] η evs = refl
   forget-toEnd zero (f ∷ s) η evs = by (f .code)
     where
       by : (c : Block ℕ)
-          → forget (toEnd procs t zero (record { proc = f .proc; env = f .env; code = c } ∷ s) η evs)
-          ≡ Bare.toEnd now procs t zero (record { proc = f .proc; env = f .env; code = c } ∷ s) η evs
+          → forget (toEnd procs t j zero (record { proc = f .proc; env = f .env; code = c } ∷ s) η evs)
+          ≡ Bare.toEnd now procs t j zero (record { proc = f .proc; env = f .env; code = c } ∷ s) η evs
       by end = refl
       by (step a i c) = refl
   forget-toEnd (suc n) [] η evs = refl
   forget-toEnd (suc n) (f ∷ s) η evs = by (forget-toEnd n) (f .code)
     where
-      by : ((z : Stack ℕ) (η : Memory) (evs : List Event) → forget (toEnd procs t n z η evs) ≡ Bare.toEnd now procs t n z η evs) → (c : Block ℕ)
-          → forget (toEnd procs t (suc n) (record { proc = f .proc; env = f .env; code = c } ∷ s) η evs)
-          ≡ Bare.toEnd now procs t (suc n) (record { proc = f .proc; env = f .env; code = c } ∷ s) η evs
+      by : ((z : Stack ℕ) (η : Memory) (evs : List Event) → forget (toEnd procs t j n z η evs) ≡ Bare.toEnd now procs t j n z η evs) → (c : Block ℕ)
+          → forget (toEnd procs t j (suc n) (record { proc = f .proc; env = f .env; code = c } ∷ s) η evs)
+          ≡ Bare.toEnd now procs t j (suc n) (record { proc = f .proc; env = f .env; code = c } ∷ s) η evs
       by ih end = refl
       by ih (step a i c) =
-          forget-chain (instr procs t (f .proc) (f .env) a i c s η) _ (Bare.instr now procs t (f .proc) (f .env) a i c s η) _
-          (forget-instr procs t (f .proc) (f .env) a i c s η) (λ r. ih (r .stack) (r .memory) (evs ++ r .events))
+          forget-chain (instr procs t j (f .proc) (f .env) a i c s η) _ (Bare.instr now procs t j (f .proc) (f .env) a i c s η) _
+          (forget-instr procs t j (f .proc) (f .env) a i c s η) (λ r. ih (r .stack) (r .memory) (evs ++ r .events))
 
+module _ (procs : List (Proc ℕ)) (t : ℕ) where
   -- a thread's first instruction
   forget-first : (m : ℕ) (ρ : Env) (a : ℕ) (i : Instr ℕ) (c : Block ℕ) (s : Stack ℕ) (η : Memory)
       → forget (first-instr procs t m ρ a i c s η) ≡ Bare.first-instr now procs t m ρ a i c s η
-  forget-first m ρ a (assign x e) c s η = forget-instr procs t m ρ a (assign x e) c s η
-  forget-first m ρ a (write y o e) c s η = forget-instr procs t m ρ a (write y o e) c s η
-  forget-first m ρ a (read x y o) c s η = forget-instr procs t m ρ a (read x y o) c s η
-  forget-first m ρ a (while e b) c s η = forget-instr procs t m ρ a (while e b) c s η
-  forget-first m ρ a (if e b d) c s η = forget-instr procs t m ρ a (if e b d) c s η
-  forget-first m ρ a (call n es) c s η = forget-instr procs t m ρ a (call n es) c s η
+  forget-first m ρ a (assign x e) c s η = forget-instr procs t a m ρ a (assign x e) c s η
+  forget-first m ρ a (write y o e) c s η = forget-instr procs t a m ρ a (write y o e) c s η
+  forget-first m ρ a (read x y o) c s η = forget-instr procs t a m ρ a (read x y o) c s η
+  forget-first m ρ a (while e b) c s η = forget-instr procs t a m ρ a (while e b) c s η
+  forget-first m ρ a (if e b d) c s η = forget-instr procs t a m ρ a (if e b d) c s η
+  forget-first m ρ a (call n es) c s η = forget-instr procs t a m ρ a (call n es) c s η
   forget-first m ρ a (atomic b) c s η =
       let f : Frame ℕ = record { proc = m; env = ρ; code = b } in
-      forget-chain (toEnd procs t (size b) (f ∷ []) η []) _ (Bare.toEnd now procs t (size b) (f ∷ []) η []) _
-      (forget-toEnd (size b) (f ∷ []) η []) (λ r. refl)
+      forget-chain (toEnd procs t a (size b) (f ∷ []) η []) _ (Bare.toEnd now procs t a (size b) (f ∷ []) η []) _
+      (forget-toEnd procs t a (size b) (f ∷ []) η []) (λ r. refl)
   forget-first m ρ a (select x y) c s η = refl
 
   -- A STEP OF A THREAD, WITHOUT ITS REASON
@@ -192,8 +193,8 @@ bareNext (C.goes c) = Bare.goes c
 module _ (h : ℕ) (procs : List (Proc Plain)) where
   -- a step of figure 1
   forget-moved : (m : ℕ) (ρ : Env) (i : Instr Plain) (c : Block Plain) (s : Stack Plain) (η : Memory) (ts : List ℕ) (t : ℕ) (evs : List Event)
-      → bareNext (C.moved h ts t evs (instr procs t m ρ tt i c s η)) ≡ Bare.moved h ts t evs (Bare.instr now procs t m ρ tt i c s η)
-  forget-moved m ρ i c s η ts t evs = on (instr procs t m ρ tt i c s η) (Bare.instr now procs t m ρ tt i c s η) (forget-instr procs t m ρ tt i c s η)
+      → bareNext (C.moved h ts t evs (instr procs t m m ρ tt i c s η)) ≡ Bare.moved h ts t evs (Bare.instr now procs t m m ρ tt i c s η)
+  forget-moved m ρ i c s η ts t evs = on (instr procs t m m ρ tt i c s η) (Bare.instr now procs t m m ρ tt i c s η) (forget-instr procs t m m ρ tt i c s η)
     where
       on : (x : Try (Moved Plain)) (y : Maybe (Moved Plain)) → forget x ≡ y → bareNext (C.moved h ts t evs x) ≡ Bare.moved h ts t evs y
       on (has r) y e = rw (← e) refl

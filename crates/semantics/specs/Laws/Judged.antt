@@ -94,11 +94,16 @@ chosen-not (no-number {v = v} e k) = rw e (on v k)
     on (Truth b) k = refl
 chosen-not (zero-cell e) = rw e
 
+-- "the number of the procedure it is in": that of the first frame
+abbrev pub procedureOf : Stack Plain → ℕ
+procedureOf [] = 0
+procedureOf (f ∷ s) = f .proc
+
 module _ (h : ℕ) (procs : List (Proc Plain)) (c : Config) where
   -- a step of the machine
   pub data Goes : Config → Type 0 where
-    -- a step of figure 1, of the thread last selected
-    by-figure : {r : Moved Plain} → Figure1 procs (c .last) (c .stack) (c .memory) r
+    -- a step of figure 1, of the thread last selected; an event's label is the number of the procedure
+    by-figure : {r : Moved Plain} → Figure1 procs (c .last) (procedureOf (c .stack)) (c .stack) (c .memory) r
         → Goes (record { stack = r .stack; memory = r .memory; todo = c .todo; last = c .last; events = c .events ++ below h (r .events) })
     -- "Select takes the next entry t and writes t into a[0], without an event, if b[t] exists and is a number other than 0"
     selects : {m : ℕ} {ρ : Env} {a b : ℕ} {k : Block Plain} {s : Stack Plain} {t : ℕ} {ts : List ℕ}
@@ -116,7 +121,7 @@ module _ (h : ℕ) (procs : List (Proc Plain)) (c : Config) where
         → c .stack ≡ context m ρ (step tt (select a b) k) ∷ s → c .todo ≡ t ∷ ts → NotReady (c .memory) b t r → Ends (blocked r)
     -- an instruction blocks, in one of the ways of figure 1
     no-step : {m : ℕ} {ρ : Env} {i : Instr Plain} {k : Block Plain} {s : Stack Plain} {r : Reason} → c .stack ≡ context m ρ (step tt i k) ∷ s
-        → ((a b : ℕ) → i ≡ select a b → ⊥) → Blocks procs (c .last) m ρ tt k s (c .memory) i r → Ends (blocked r)
+        → ((a b : ℕ) → i ≡ select a b → ⊥) → Blocks procs (c .last) m m ρ tt k s (c .memory) i r → Ends (blocked r)
 
   -- by what comes next
   abbrev Judged : Next → Type 0
@@ -132,12 +137,12 @@ module _ (h : ℕ) (procs : List (Proc Plain)) (c : Config) where
 
   -- a step of figure 1, if there is one
   by-move : (m : ℕ) (ρ : Env) (i : Instr Plain) (k : Block Plain) (s : Stack Plain) → c .stack ≡ context m ρ (step tt i k) ∷ s
-      → ((a b : ℕ) → i ≡ select a b → ⊥) → (x : Try (Moved Plain)) → instr procs (c .last) m ρ tt i k s (c .memory) ≡ x
+      → ((a b : ℕ) → i ≡ select a b → ⊥) → (x : Try (Moved Plain)) → instr procs (c .last) m m ρ tt i k s (c .memory) ≡ x
       → Judged (moved h (c .todo) (c .last) (c .events) x)
-  by-move m ρ i k s e other (lacks r) q = no-step e other (blocks-exactly procs (c .last) m ρ tt k s (c .memory) i r .0 q)
+  by-move m ρ i k s e other (lacks r) q = no-step e other (blocks-exactly procs (c .last) m m ρ tt k s (c .memory) i r .0 q)
   by-move m ρ i k s e other (has r) q =
       rw (kept-below h (c .events) (r .events))
-      (by-figure {r = r} (rw e (by-rule (rules-exactly procs (c .last) m ρ tt k s (c .memory) i r .0 q))))
+      (by-figure {r = r} (rw e (by-rule (rules-exactly procs (c .last) m m ρ tt k s (c .memory) i r .0 q))))
 
   -- what comes next is a step, or the end
   by-code : (m : ℕ) (ρ : Env) (b : Block Plain) (s : Stack Plain) → c .stack ≡ context m ρ b ∷ s
@@ -169,12 +174,12 @@ module _ (h : ℕ) (procs : List (Proc Plain)) (c : Config) where
       on (f ∷ s) e = by-code (f .proc) (f .env) (f .code) s e
 
   -- each of these steps is taken
-  figured : {t : ℕ} {s : Stack Plain} {η : Memory} {r : Moved Plain} (ts : List ℕ) (evs : List Event) → Figure1 procs t s η r
+  figured : {t : ℕ} {s : Stack Plain} {η : Memory} {r : Moved Plain} (ts : List ℕ) (evs : List Event) → Figure1 procs t (procedureOf s) s η r
       → stack h procs s η ts t evs ≡ goes (record { stack = r .stack; memory = r .memory; todo = ts; last = t; events = evs ++ below h (r .events) })
   figured ts evs returns = rw (append-nil evs)
-  figured {t} ts evs (by-rule {m = m} {ρ = ρ} {i = i} {c = k} {s = s} {η = η} {r = r} f) = on i (rules-exactly procs t m ρ tt k s η i r .1 f)
+  figured {t} ts evs (by-rule {m = m} {ρ = ρ} {i = i} {c = k} {s = s} {η = η} {r = r} f) = on i (rules-exactly procs t m m ρ tt k s η i r .1 f)
     where
-      on : (i : Instr Plain) → instr procs t m ρ tt i k s η ≡ has r
+      on : (i : Instr Plain) → instr procs t m m ρ tt i k s η ≡ has r
           → one h procs m ρ i k s η ts t evs
           ≡ goes (record { stack = r .stack; memory = r .memory; todo = ts; last = t; events = evs ++ below h (r .events) })
       on (assign x e) q = rw (q, kept-below h evs (r .events))
@@ -197,9 +202,9 @@ module _ (h : ℕ) (procs : List (Proc Plain)) (c : Config) where
   ends-of (no-entry e f) = rw (e, f)
   ends-of (not-ready e f r) = rw (e, f, chosen-not r)
   ends-of (no-step {m = m} {ρ = ρ} {i = i} {k = k} {s = s} {r = r} e other b) =
-      rw e (on i other (blocks-exactly procs (c .last) m ρ tt k s (c .memory) i r .1 b))
+      rw e (on i other (blocks-exactly procs (c .last) m m ρ tt k s (c .memory) i r .1 b))
     where
-      on : (i : Instr Plain) → ((a b : ℕ) → i ≡ select a b → ⊥) → instr procs (c .last) m ρ tt i k s (c .memory) ≡ lacks r
+      on : (i : Instr Plain) → ((a b : ℕ) → i ≡ select a b → ⊥) → instr procs (c .last) m m ρ tt i k s (c .memory) ≡ lacks r
           → one h procs m ρ i k s (c .memory) (c .todo) (c .last) (c .events) ≡ ended (blocked r)
       on (assign x e) other q = rw q
       on (write y o e) other q = rw q

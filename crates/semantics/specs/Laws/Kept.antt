@@ -100,62 +100,63 @@ module _ (f g : Bare.Evaluator) (more : Extends f g) where
       rw (more ρ e (p .0) (p .1), evals-kept ρ es (q .1)) (q .2)
 
   -- an instruction
-  instr-kept : {A : Type 0} (procs : List (Proc A)) (t m : ℕ) (ρ : Env) (a : A) (i : Instr A) (c : Block A) (s : Stack A) (η : Memory) {r : Moved A}
-      → Bare.instr f procs t m ρ a i c s η ≡ is r → Bare.instr g procs t m ρ a i c s η ≡ is r
-  instr-kept procs t m ρ a (assign x e) c s η h = let p = bind-is (f ρ e) _ h in rw (more ρ e (p .0) (p .1)) (p .2)
-  instr-kept procs t m ρ a (write y o e) c s η h =
+  instr-kept : {A : Type 0} (procs : List (Proc A)) (t j m : ℕ) (ρ : Env) (a : A) (i : Instr A) (c : Block A) (s : Stack A) (η : Memory) {r : Moved A}
+      → Bare.instr f procs t j m ρ a i c s η ≡ is r → Bare.instr g procs t j m ρ a i c s η ≡ is r
+  instr-kept procs t j m ρ a (assign x e) c s η h = let p = bind-is (f ρ e) _ h in rw (more ρ e (p .0) (p .1)) (p .2)
+  instr-kept procs t j m ρ a (write y o e) c s η h =
       let p = bind-is (f ρ e) _ h in
       let q = bind-is (f ρ o >>= Bare.index) _ (p .2) in
       let w = bind-is (f ρ o) _ (q .1) in
       rw (more ρ e (p .0) (p .1), more ρ o (w .0) (w .1), w .2) (q .2)
-  instr-kept procs t m ρ a (read x y o) c s η h =
+  instr-kept procs t j m ρ a (read x y o) c s η h =
       let q = bind-is (f ρ o >>= Bare.index) _ h in
       let w = bind-is (f ρ o) _ (q .1) in
       rw (more ρ o (w .0) (w .1), w .2) (q .2)
-  instr-kept procs t m ρ a (while e b) c s η h =
+  instr-kept procs t j m ρ a (while e b) c s η h =
       let q = bind-is (f ρ e >>= BareValues.truth) _ h in
       let w = bind-is (f ρ e) _ (q .1) in
       rw (more ρ e (w .0) (w .1), w .2) (q .2)
-  instr-kept procs t m ρ a (if e b d) c s η h =
+  instr-kept procs t j m ρ a (if e b d) c s η h =
       let q = bind-is (f ρ e >>= BareValues.truth) _ h in
       let w = bind-is (f ρ e) _ (q .1) in
       rw (more ρ e (w .0) (w .1), w .2) (q .2)
-  instr-kept procs t m ρ a (call n es) c s η h = let p = bind-is (Bare.evals f ρ es) _ h in rw (evals-kept ρ es (p .1)) (p .2)
-  instr-kept procs t m ρ a (atomic b) c s η h = missing h
-  instr-kept procs t m ρ a (select x y) c s η h = missing h
+  instr-kept procs t j m ρ a (call n es) c s η h = let p = bind-is (Bare.evals f ρ es) _ h in rw (evals-kept ρ es (p .1)) (p .2)
+  instr-kept procs t j m ρ a (atomic b) c s η h = missing h
+  instr-kept procs t j m ρ a (select x y) c s η h = missing h
 
   -- ---- the concurrent machine
 
-  module _ (procs : List (Proc ℕ)) (t : ℕ) where
+  module _ (procs : List (Proc ℕ)) (t j : ℕ) where
     -- an atomic block
-    end-kept : (n : ℕ) (z : Stack ℕ) (η : Memory) (evs : List Event) {r : Atomic} → Bare.toEnd f procs t n z η evs ≡ is r
-        → Bare.toEnd g procs t n z η evs ≡ is r
+    end-kept : (n : ℕ) (z : Stack ℕ) (η : Memory) (evs : List Event) {r : Atomic} → Bare.toEnd f procs t j n z η evs ≡ is r
+        → Bare.toEnd g procs t j n z η evs ≡ is r
     end-kept zero [] η evs h = h
     end-kept zero (x ∷ s) η evs h = h
     end-kept (suc n) [] η evs h = h
     end-kept (suc n) (x ∷ s) η evs h = by (λ z η evs r h. end-kept n z η evs {r = r} h) (x .code) h
       where
-        by : ((z : Stack ℕ) (η : Memory) (evs : List Event) (r : Atomic) → Bare.toEnd f procs t n z η evs ≡ is r → Bare.toEnd g procs t n z η evs ≡ is r)
-            → (c : Block ℕ) {r : Atomic} → Bare.toEnd f procs t (suc n) (record { proc = x .proc; env = x .env; code = c } ∷ s) η evs ≡ is r
-            → Bare.toEnd g procs t (suc n) (record { proc = x .proc; env = x .env; code = c } ∷ s) η evs ≡ is r
+        by : ((z : Stack ℕ) (η : Memory) (evs : List Event) (r : Atomic) → Bare.toEnd f procs t j n z η evs ≡ is r → Bare.toEnd g procs t j n z η evs ≡ is r)
+            → (c : Block ℕ) {r : Atomic} → Bare.toEnd f procs t j (suc n) (record { proc = x .proc; env = x .env; code = c } ∷ s) η evs ≡ is r
+            → Bare.toEnd g procs t j (suc n) (record { proc = x .proc; env = x .env; code = c } ∷ s) η evs ≡ is r
         by ih end h = h
         by ih (step a i c) h =
-            let p = bind-is (Bare.instr f procs t (x .proc) (x .env) a i c s η) _ h in
-            rw (instr-kept procs t (x .proc) (x .env) a i c s η (p .1)) (ih _ _ _ _ (p .2))
+            let p = bind-is (Bare.instr f procs t j (x .proc) (x .env) a i c s η) _ h in
+            rw (instr-kept procs t j (x .proc) (x .env) a i c s η (p .1)) (ih _ _ _ _ (p .2))
 
+  module _ (procs : List (Proc ℕ)) (t : ℕ) where
     -- a thread's first instruction
     first-kept : (m : ℕ) (ρ : Env) (a : ℕ) (i : Instr ℕ) (c : Block ℕ) (s : Stack ℕ) (η : Memory) {r : Moved ℕ}
         → Bare.first-instr f procs t m ρ a i c s η ≡ is r → Bare.first-instr g procs t m ρ a i c s η ≡ is r
-    first-kept m ρ a (assign x e) c s η h = instr-kept procs t m ρ a (assign x e) c s η h
-    first-kept m ρ a (write y o e) c s η h = instr-kept procs t m ρ a (write y o e) c s η h
-    first-kept m ρ a (read x y o) c s η h = instr-kept procs t m ρ a (read x y o) c s η h
-    first-kept m ρ a (while e b) c s η h = instr-kept procs t m ρ a (while e b) c s η h
-    first-kept m ρ a (if e b d) c s η h = instr-kept procs t m ρ a (if e b d) c s η h
-    first-kept m ρ a (call n es) c s η h = instr-kept procs t m ρ a (call n es) c s η h
+    first-kept m ρ a (assign x e) c s η h = instr-kept procs t a m ρ a (assign x e) c s η h
+    first-kept m ρ a (write y o e) c s η h = instr-kept procs t a m ρ a (write y o e) c s η h
+    first-kept m ρ a (read x y o) c s η h = instr-kept procs t a m ρ a (read x y o) c s η h
+    first-kept m ρ a (while e b) c s η h = instr-kept procs t a m ρ a (while e b) c s η h
+    first-kept m ρ a (if e b d) c s η h = instr-kept procs t a m ρ a (if e b d) c s η h
+    first-kept m ρ a (call n es) c s η h = instr-kept procs t a m ρ a (call n es) c s η h
     first-kept m ρ a (atomic b) c s η h =
         let x : Frame ℕ = record { proc = m; env = ρ; code = b } in
-        let p = bind-is (Bare.toEnd f procs t (size b) (x ∷ []) η []) _ h in
-        rw (end-kept (size b) (x ∷ []) η [] (p .1)) (p .2)
+        let p = bind-is (Bare.toEnd f procs t a (size b) (x ∷ []) η []) _ h in
+        rw (end-kept procs t a (size b) (x ∷ []) η [] (p .1)) (p .2)
     first-kept m ρ a (select x y) c s η h = h
 
     -- a step of a thread
@@ -193,14 +194,14 @@ module _ (f g : Bare.Evaluator) (more : Extends f g) where
   module _ (h : ℕ) (procs : List (Proc Plain)) where
     -- a step of figure 1
     moved-kept : (m : ℕ) (ρ : Env) (i : Instr Plain) (c : Block Plain) (s : Stack Plain) (η : Memory) (ts : List ℕ) (t : ℕ) (evs : List Event)
-        → (Bare.moved h ts t evs (Bare.instr f procs t m ρ tt i c s η) ≡ Bare.ended Bare.blocked → ⊥)
-        → Bare.moved h ts t evs (Bare.instr g procs t m ρ tt i c s η) ≡ Bare.moved h ts t evs (Bare.instr f procs t m ρ tt i c s η)
-    moved-kept m ρ i c s η ts t evs n = on (Bare.instr f procs t m ρ tt i c s η) refl n
+        → (Bare.moved h ts t evs (Bare.instr f procs t m m ρ tt i c s η) ≡ Bare.ended Bare.blocked → ⊥)
+        → Bare.moved h ts t evs (Bare.instr g procs t m m ρ tt i c s η) ≡ Bare.moved h ts t evs (Bare.instr f procs t m m ρ tt i c s η)
+    moved-kept m ρ i c s η ts t evs n = on (Bare.instr f procs t m m ρ tt i c s η) refl n
       where
-        on : (x : Maybe (Moved Plain)) → Bare.instr f procs t m ρ tt i c s η ≡ x → (Bare.moved h ts t evs x ≡ Bare.ended Bare.blocked → ⊥)
-            → Bare.moved h ts t evs (Bare.instr g procs t m ρ tt i c s η) ≡ Bare.moved h ts t evs (Bare.instr f procs t m ρ tt i c s η)
+        on : (x : Maybe (Moved Plain)) → Bare.instr f procs t m m ρ tt i c s η ≡ x → (Bare.moved h ts t evs x ≡ Bare.ended Bare.blocked → ⊥)
+            → Bare.moved h ts t evs (Bare.instr g procs t m m ρ tt i c s η) ≡ Bare.moved h ts t evs (Bare.instr f procs t m m ρ tt i c s η)
         on nothing e n = absurd (n refl)
-        on (is r) e n = rw (e, instr-kept procs t m ρ tt i c s η e)
+        on (is r) e n = rw (e, instr-kept procs t m m ρ tt i c s η e)
 
     -- an instruction
     one-kept : (m : ℕ) (ρ : Env) (i : Instr Plain) (c : Block Plain) (s : Stack Plain) (η : Memory) (ts : List ℕ) (t : ℕ) (evs : List Event)
@@ -242,12 +243,12 @@ module _ (f g : Bare.Evaluator) (more : Extends f g) where
     -- so the evaluator does not matter there
     one-budget : (m : ℕ) (ρ : Env) (i : Instr Plain) (c : Block Plain) (s : Stack Plain) (η : Memory) (ts : List ℕ) (t : ℕ) (evs : List Event)
         → Bare.atBudget (Bare.copyOne g h procs m ρ i c s η ts t evs) ≡ Bare.atBudget (Bare.copyOne f h procs m ρ i c s η ts t evs)
-    one-budget m ρ (assign x e) c s η ts t evs = both-budgets (Bare.instr g procs t m ρ tt (assign x e) c s η) (Bare.instr f procs t m ρ tt (assign x e) c s η) ts t evs
-    one-budget m ρ (write y o e) c s η ts t evs = both-budgets (Bare.instr g procs t m ρ tt (write y o e) c s η) (Bare.instr f procs t m ρ tt (write y o e) c s η) ts t evs
-    one-budget m ρ (read x y o) c s η ts t evs = both-budgets (Bare.instr g procs t m ρ tt (read x y o) c s η) (Bare.instr f procs t m ρ tt (read x y o) c s η) ts t evs
-    one-budget m ρ (while e b) c s η ts t evs = both-budgets (Bare.instr g procs t m ρ tt (while e b) c s η) (Bare.instr f procs t m ρ tt (while e b) c s η) ts t evs
-    one-budget m ρ (if e b d) c s η ts t evs = both-budgets (Bare.instr g procs t m ρ tt (if e b d) c s η) (Bare.instr f procs t m ρ tt (if e b d) c s η) ts t evs
-    one-budget m ρ (call n es) c s η ts t evs = both-budgets (Bare.instr g procs t m ρ tt (call n es) c s η) (Bare.instr f procs t m ρ tt (call n es) c s η) ts t evs
+    one-budget m ρ (assign x e) c s η ts t evs = both-budgets (Bare.instr g procs t m m ρ tt (assign x e) c s η) (Bare.instr f procs t m m ρ tt (assign x e) c s η) ts t evs
+    one-budget m ρ (write y o e) c s η ts t evs = both-budgets (Bare.instr g procs t m m ρ tt (write y o e) c s η) (Bare.instr f procs t m m ρ tt (write y o e) c s η) ts t evs
+    one-budget m ρ (read x y o) c s η ts t evs = both-budgets (Bare.instr g procs t m m ρ tt (read x y o) c s η) (Bare.instr f procs t m m ρ tt (read x y o) c s η) ts t evs
+    one-budget m ρ (while e b) c s η ts t evs = both-budgets (Bare.instr g procs t m m ρ tt (while e b) c s η) (Bare.instr f procs t m m ρ tt (while e b) c s η) ts t evs
+    one-budget m ρ (if e b d) c s η ts t evs = both-budgets (Bare.instr g procs t m m ρ tt (if e b d) c s η) (Bare.instr f procs t m m ρ tt (if e b d) c s η) ts t evs
+    one-budget m ρ (call n es) c s η ts t evs = both-budgets (Bare.instr g procs t m m ρ tt (call n es) c s η) (Bare.instr f procs t m m ρ tt (call n es) c s η) ts t evs
     one-budget m ρ (atomic b) c s η ts t evs = refl
     one-budget m ρ (select a b) c s η ts t evs = refl
 

@@ -41,7 +41,7 @@ each-set P (x ∷ xs) (suc i) y h k = (h .0, each-set P xs i y (h .1) k)
 
 module _ (procs : List (Proc ℕ)) (bodies : (n : ℕ) (q : Proc ℕ) → at procs n ≡ is q → allowed (bodyIn concurrent n) (q .body) ≡ true) where
   -- a rule of figure 1 keeps it
-  rule-right : {t m : ℕ} {ρ : Env} {a : ℕ} {c : Block ℕ} {s : Stack ℕ} {η : Memory} {i : Instr ℕ} {r : Moved ℕ} → Rule procs t m ρ a c s η i r
+  rule-right : {t j m : ℕ} {ρ : Env} {a : ℕ} {c : Block ℕ} {s : Stack ℕ} {η : Memory} {i : Instr ℕ} {r : Moved ℕ} → Rule procs t j m ρ a c s η i r
       → allowed (bodyIn concurrent m) (step a i c) ≡ true → Right s → Right (r .stack)
   rule-right (assigns e) h k = (h, k)
   rule-right (writes v o y n l) h k = (h, k)
@@ -66,7 +66,7 @@ module _ (procs : List (Proc ℕ)) (bodies : (n : ℕ) (q : Proc ℕ) → at pro
   turn-right {t = t} {σ = σ} same (seq {s = s} {r = r} e f) h =
       each-set Right (σ .threads) t (r .stack) h (figure-right (rw same at f) (each-at Right (σ .threads) t h e))
     where
-      figure-right : {s : Stack ℕ} {η : Memory} {r : Moved ℕ} → Figure1 procs t s η r → Right s → Right (r .stack)
+      figure-right : {j : ℕ} {s : Stack ℕ} {η : Memory} {r : Moved ℕ} → Figure1 procs t j s η r → Right s → Right (r .stack)
       figure-right (by-rule g) k = rule-right g (k .0) (k .1)
       figure-right returns k = k .1
   turn-right {t = t} {σ = σ} same (whole {m = m} {a = a} {b = b} {c = c} {s = s} e runs) h =

@@ -245,7 +245,7 @@ test-of {ρ} {e} (test-kind {u = u} h k) = rw (eval-exactly ρ e u .1 h, truthfu
 -- ---- instructions
 
 -- as in Figure1
-module _ {A : Type 0} (procs : List (Proc A)) (t m : ℕ) (ρ : Env) (a : A) (c : Block A) (s : Stack A) (η : Memory) where
+module _ {A : Type 0} (procs : List (Proc A)) (t j m : ℕ) (ρ : Env) (a : A) (c : Block A) (s : Stack A) (η : Memory) where
   -- each way to block, and its reason; a call of a procedure that is not there or that runs already, an atomic block as one step of figure 1 and a
   -- select there are kept out by the rules
   pub data Blocks : Instr A → Reason → Type 0 where
@@ -266,7 +266,7 @@ module _ {A : Type 0} (procs : List (Proc A)) (t m : ℕ) (ρ : Env) (a : A) (c 
     select-apart : {x y : ℕ} → Blocks (select x y) WrongKind
 
   -- what lacks blocks in one of these ways
-  stops : (i : Instr A) {r : Reason} → instr procs t m ρ a i c s η ≡ lacks r → Blocks i r
+  stops : (i : Instr A) {r : Reason} → instr procs t j m ρ a i c s η ≡ lacks r → Blocks i r
   stops (assign x e) h = chain-stops (eval ρ e) _ h (λ n. assign-value (lacks-exactly ρ e _ .0 n)) (λ v p q. lacking (sym q))
   stops (write y o e) h =
       chain-stops (eval ρ e) _ h (λ n. write-value (lacks-exactly ρ e _ .0 n))
@@ -287,7 +287,7 @@ module _ {A : Type 0} (procs : List (Proc A)) (t m : ℕ) (ρ : Env) (a : A) (c 
   stops (select x y) h = rw (← lacks-inj h) select-apart
 
   -- and each of these ways lacks for its reason
-  blocks : {i : Instr A} {r : Reason} → Blocks i r → instr procs t m ρ a i c s η ≡ lacks r
+  blocks : {i : Instr A} {r : Reason} → Blocks i r → instr procs t j m ρ a i c s η ≡ lacks r
   blocks (assign-value {e = e} h) = rw (lacks-exactly ρ e _ .1 h)
   blocks (write-value {e = e} h) = rw (lacks-exactly ρ e _ .1 h)
   blocks (write-cell {y = y} {o = o} {e = e} {v = v} h k) = rw (eval-exactly ρ e v .1 h) (cell-of ρ η y o _ k)
@@ -303,5 +303,5 @@ module _ {A : Type 0} (procs : List (Proc A)) (t m : ℕ) (ρ : Env) (a : A) (c 
   blocks select-apart = refl
 
   -- AN INSTRUCTION BLOCKS IN EXACTLY THESE WAYS, FOR THESE REASONS.
-  pub blocks-exactly : (i : Instr A) (r : Reason) → (instr procs t m ρ a i c s η ≡ lacks r) ↔ Blocks i r
+  pub blocks-exactly : (i : Instr A) (r : Reason) → (instr procs t j m ρ a i c s η ≡ lacks r) ↔ Blocks i r
   blocks-exactly i r = (stops i, blocks)

@@ -24,9 +24,9 @@ use Rattle.semantics.specs.Laws.Ends.{finished-run, used-run, blocked-ru
 
 -- ---- figure 1
 
-module _ {A : Type 0} (procs : List (Proc A)) (t : ℕ) where
+module _ {A : Type 0} (procs : List (Proc A)) (t j : ℕ) where
   -- a rule keeps the shape
-  rule-shape : {m : ℕ} {ρ : Env} {a : A} {c : Block A} {s : Stack A} {η : Memory} {i : Instr A} {r : Moved A} → Rule procs t m ρ a c s η i r
+  rule-shape : {m : ℕ} {ρ : Env} {a : A} {c : Block A} {s : Stack A} {η : Memory} {i : Instr A} {r : Moved A} → Rule procs t j m ρ a c s η i r
       → shape (r .memory) ≡ shape η
   rule-shape (assigns e) = refl
   rule-shape {η = η} (writes {v = v} {i = i} {l = l} e o y n h) = shape-stored η l i v
@@ -38,37 +38,38 @@ module _ {A : Type 0} (procs : List (Proc A)) (t : ℕ) where
   rule-shape (calls p h free) = refl
 
   -- so does an instruction
-  instr-shape : (m : ℕ) (ρ : Env) (a : A) (c : Block A) (s : Stack A) (η : Memory) (i : Instr A) (r : Moved A) → instr procs t m ρ a i c s η ≡ has r
+  instr-shape : (m : ℕ) (ρ : Env) (a : A) (c : Block A) (s : Stack A) (η : Memory) (i : Instr A) (r : Moved A) → instr procs t j m ρ a i c s η ≡ has r
       → shape (r .memory) ≡ shape η
-  instr-shape m ρ a c s η i r p = rule-shape (rules-exactly procs t m ρ a c s η i r .0 p)
+  instr-shape m ρ a c s η i r p = rule-shape (rules-exactly procs t j m ρ a c s η i r .0 p)
 
   -- and a step of a stack
-  figure-shape : {s : Stack A} {η : Memory} {r : Moved A} → Figure1 procs t s η r → shape (r .memory) ≡ shape η
+  figure-shape : {s : Stack A} {η : Memory} {r : Moved A} → Figure1 procs t j s η r → shape (r .memory) ≡ shape η
   figure-shape (by-rule h) = rule-shape h
   figure-shape returns = refl
 
 -- ---- the concurrent machine
 
-module _ (procs : List (Proc ℕ)) (t : ℕ) where
+module _ (procs : List (Proc ℕ)) (t j : ℕ) where
   -- a whole atomic block
-  toEnd-shape : (n : ℕ) (z : Stack ℕ) (η : Memory) (evs : List Event) (r : P.Atomic) → P.toEnd procs t n z η evs ≡ has r → shape (r .memory) ≡ shape η
+  toEnd-shape : (n : ℕ) (z : Stack ℕ) (η : Memory) (evs : List Event) (r : P.Atomic) → P.toEnd procs t j n z η evs ≡ has r → shape (r .memory) ≡ shape η
   toEnd-shape zero [] η evs r p = lacking p
   toEnd-shape zero (f ∷ s) η evs r p = by (f .code) p
     where
-      by : (c : Block ℕ) → P.toEnd procs t zero (record { proc = f .proc; env = f .env; code = c } ∷ s) η evs ≡ has r → shape (r .memory) ≡ shape η
+      by : (c : Block ℕ) → P.toEnd procs t j zero (record { proc = f .proc; env = f .env; code = c } ∷ s) η evs ≡ has r → shape (r .memory) ≡ shape η
       by end p = rw (← has-inj p) refl
       by (step a i c) p = lacking p
   toEnd-shape (suc n) [] η evs r p = lacking p
   toEnd-shape (suc n) (f ∷ s) η evs r p = by (toEnd-shape n) (f .code) p
     where
-      by : ((z : Stack ℕ) (η : Memory) (evs : List Event) (r : P.Atomic) → P.toEnd procs t n z η evs ≡ has r → shape (r .memory) ≡ shape η)
-          → (c : Block ℕ) → P.toEnd procs t (suc n) (record { proc = f .proc; env = f .env; code = c } ∷ s) η evs ≡ has r
+      by : ((z : Stack ℕ) (η : Memory) (evs : List Event) (r : P.Atomic) → P.toEnd procs t j n z η evs ≡ has r → shape (r .memory) ≡ shape η)
+          → (c : Block ℕ) → P.toEnd procs t j (suc n) (record { proc = f .proc; env = f .env; code = c } ∷ s) η evs ≡ has r
           → shape (r .memory) ≡ shape η
       by ih end p = rw (← has-inj p) refl
       by ih (step a i c) p =
-          let b = chain-has (instr procs t (f .proc) (f .env) a i c s η) _ p in
-          ih (b .0 .stack) (b .0 .memory) (evs ++ b .0 .events) r (b .2) ∙ instr-shape procs t (f .proc) (f .env) a c s η i (b .0) (b .1)
+          let b = chain-has (instr procs t j (f .proc) (f .env) a i c s η) _ p in
+          ih (b .0 .stack) (b .0 .memory) (evs ++ b .0 .events) r (b .2) ∙ instr-shape procs t j (f .proc) (f .env) a c s η i (b .0) (b .1)
 
+module _ (procs : List (Proc ℕ)) (t : ℕ) where
   -- a step of a thread
   pub thread-shape : (s : Stack ℕ) (η : Memory) (r : Moved ℕ) → P.thread procs t s η ≡ has r → shape (r .memory) ≡ shape η
   thread-shape [] η r p = lacking (sym (finished-blocks procs t η) ∙ p)
@@ -76,15 +77,15 @@ module _ (procs : List (Proc ℕ)) (t : ℕ) where
     where
       by : (c : Block ℕ) → P.code procs t c (f .proc) (f .env) s η ≡ has r → shape (r .memory) ≡ shape η
       by end p = rw (← has-inj p) refl
-      by (step a (assign x e) c) p = instr-shape procs t (f .proc) (f .env) a c s η (assign x e) r p
-      by (step a (write y o e) c) p = instr-shape procs t (f .proc) (f .env) a c s η (write y o e) r p
-      by (step a (read x y o) c) p = instr-shape procs t (f .proc) (f .env) a c s η (read x y o) r p
-      by (step a (while e b) c) p = instr-shape procs t (f .proc) (f .env) a c s η (while e b) r p
-      by (step a (if e b d) c) p = instr-shape procs t (f .proc) (f .env) a c s η (if e b d) r p
-      by (step a (call q es) c) p = instr-shape procs t (f .proc) (f .env) a c s η (call q es) r p
+      by (step a (assign x e) c) p = instr-shape procs t a (f .proc) (f .env) a c s η (assign x e) r p
+      by (step a (write y o e) c) p = instr-shape procs t a (f .proc) (f .env) a c s η (write y o e) r p
+      by (step a (read x y o) c) p = instr-shape procs t a (f .proc) (f .env) a c s η (read x y o) r p
+      by (step a (while e b) c) p = instr-shape procs t a (f .proc) (f .env) a c s η (while e b) r p
+      by (step a (if e b d) c) p = instr-shape procs t a (f .proc) (f .env) a c s η (if e b d) r p
+      by (step a (call q es) c) p = instr-shape procs t a (f .proc) (f .env) a c s η (call q es) r p
       by (step a (atomic b) c) p =
-          let u = chain-has (P.toEnd procs t (P.size b) (record { proc = f .proc; env = f .env; code = b } ∷ []) η []) _ p in
-          rw (← has-inj (u .2)) (toEnd-shape (P.size b) (record { proc = f .proc; env = f .env; code = b } ∷ []) η [] (u .0) (u .1))
+          let u = chain-has (P.toEnd procs t a (P.size b) (record { proc = f .proc; env = f .env; code = b } ∷ []) η []) _ p in
+          rw (← has-inj (u .2)) (toEnd-shape procs t a (P.size b) (record { proc = f .proc; env = f .env; code = b } ∷ []) η [] (u .0) (u .1))
       by (step a (select x y) c) p = lacking p
 
 -- a run keeps the shape
@@ -109,7 +110,7 @@ run-shape p (t ∷ ts) st k evs =
 module _ (h : ℕ) (procs : List (Proc Plain)) where
   -- a step keeps the shape
   step-shape : (c : C.Config) {d : C.Config} → Goes h procs c d → shape (d .memory) ≡ shape (c .memory)
-  step-shape c (by-figure f) = figure-shape procs (c .last) f
+  step-shape c (by-figure f) = figure-shape procs (c .last) _ f
   step-shape c (selects {a = a} {t = t} e f r) = shape-stored (c .memory) a 0 (Whole (pos t))
 
   -- a run keeps the shape

@@ -23,7 +23,7 @@ use Rattle.semantics.specs.Laws.Reasons.{Blocks, blocks-exactly}
 
 -- ---- where an atomic block stops
 
-module _ (procs : List (Proc ℕ)) (t : ℕ) where
+module _ (procs : List (Proc ℕ)) (t j : ℕ) where
   -- steps of figure 1 from the block's beginning, and then an instruction that blocks
   record Stuck (m : ℕ) (ρ : Env) (b : Block ℕ) (η : Memory) (r : Reason) : Type 0 where
     env : Env
@@ -32,8 +32,8 @@ module _ (procs : List (Proc ℕ)) (t : ℕ) where
     code : Block ℕ
     memory : Memory
     new : List Event
-    runs : Runs procs t (context m ρ b ∷ []) η (context m env (step tag instr code) ∷ []) memory new
-    blocks : Blocks procs t m env tag code [] memory instr r
+    runs : Runs procs t j (context m ρ b ∷ []) η (context m env (step tag instr code) ∷ []) memory new
+    blocks : Blocks procs t j m env tag code [] memory instr r
 
   -- an instruction is one at least
   one-at-least : (i : Instr ℕ) → 0 < sizeI i
@@ -48,12 +48,12 @@ module _ (procs : List (Proc ℕ)) (t : ℕ) where
 
   -- a block in one go that lacks comes to such an instruction
   to-stop : (n m : ℕ) (ρ : Env) (b : Block ℕ) (η : Memory) (evs : List Event) {r : Reason} → allowed (inside m) b ≡ true → size b ≤ n
-      → toEnd procs t n (context m ρ b ∷ []) η evs ≡ lacks r → Stuck m ρ b η r
+      → toEnd procs t j n (context m ρ b ∷ []) η evs ≡ lacks r → Stuck m ρ b η r
   to-stop zero m ρ end η evs k z h = lacking (sym h)
   to-stop zero m ρ (step a i c) η evs k z h = absurd (omega (arith, one-at-least i))
   to-stop (suc n) m ρ end η evs k z h = lacking (sym h)
   to-stop (suc n) m ρ (step a i c) η evs k z h =
-      chain-stops (instr procs t m ρ a i c [] η) _ h
+      chain-stops (instr procs t j m ρ a i c [] η) _ h
       (λ e. record {
         env = ρ;
         tag = a;
@@ -62,15 +62,15 @@ module _ (procs : List (Proc ℕ)) (t : ℕ) where
         memory = η;
         new = [];
         runs = stays;
-        blocks = blocks-exactly procs t m ρ a c [] η i _ .0 e;
+        blocks = blocks-exactly procs t j m ρ a c [] η i _ .0 e;
       })
       (λ q e h.
       let ok = both-passed (allowedI (inside m) i) (allowed (inside m) c) k in
-      let rule : Rule procs t m ρ a c [] η i q = rules-exactly procs t m ρ a c [] η i q .0 e in
-      let l : Left m (sizeI i + size c) q = left procs t rule (ok .0) (ok .1) in
+      let rule : Rule procs t j m ρ a c [] η i q = rules-exactly procs t j m ρ a c [] η i q .0 e in
+      let l : Left m (sizeI i + size c) q = left procs t j rule (ok .0) (ok .1) in
       on rule l (to-stop n m (l .env) (l .code) (q .memory) (evs ++ q .events) (l .right) (omega (arith, l .less)) (rw (l .same) at h)))
     where
-      on : {q : Moved ℕ} {r : Reason} → Rule procs t m ρ a c [] η i q → (l : Left m (sizeI i + size c) q) → Stuck m (l .env) (l .code) (q .memory) r
+      on : {q : Moved ℕ} {r : Reason} → Rule procs t j m ρ a c [] η i q → (l : Left m (sizeI i + size c) q) → Stuck m (l .env) (l .code) (q .memory) r
           → Stuck m ρ (step a i c) η r
       on {q} rule l w = record {
         env = w .env;
@@ -84,40 +84,40 @@ module _ (procs : List (Proc ℕ)) (t : ℕ) where
       }
 
   -- and the other way
-  in-stop : {s s′ : Stack ℕ} {η η′ : Memory} {new : List Event} → Runs procs t s η s′ η′ new
+  in-stop : {s s′ : Stack ℕ} {η η′ : Memory} {new : List Event} → Runs procs t j s η s′ η′ new
       → (n m : ℕ) (ρ ρ′ : Env) (b : Block ℕ) (a′ : ℕ) (i′ : Instr ℕ) (c′ : Block ℕ) (evs : List Event) {r : Reason}
       → s ≡ context m ρ b ∷ [] → s′ ≡ context m ρ′ (step a′ i′ c′) ∷ [] → size b ≤ n
-      → allowed (inside m) b ≡ true → Blocks procs t m ρ′ a′ c′ [] η′ i′ r → toEnd procs t n (context m ρ b ∷ []) η evs ≡ lacks r
+      → allowed (inside m) b ≡ true → Blocks procs t j m ρ′ a′ c′ [] η′ i′ r → toEnd procs t j n (context m ρ b ∷ []) η evs ≡ lacks r
   in-stop (stays {η = η}) n m ρ ρ′ b a′ i′ c′ evs {r} e e′ h k w =
       let same : context m ρ b ≡ context m ρ′ (step a′ i′ c′) = cc in
       let locals : ρ ≡ ρ′ = ap (λ (f : Frame ℕ). f .env) same in
       let left : b ≡ step a′ i′ c′ = ap (λ (f : Frame ℕ). f .code) same in
       rw (locals, left) (on n (rw left at h))
     where
-      on : (n : ℕ) → size (step a′ i′ c′) ≤ n → toEnd procs t n (context m ρ′ (step a′ i′ c′) ∷ []) η evs ≡ lacks r
+      on : (n : ℕ) → size (step a′ i′ c′) ≤ n → toEnd procs t j n (context m ρ′ (step a′ i′ c′) ∷ []) η evs ≡ lacks r
       on zero h = absurd (omega (arith, one-at-least i′))
-      on (suc n) h = rw (blocks-exactly procs t m ρ′ a′ c′ [] η i′ r .1 w)
+      on (suc n) h = rw (blocks-exactly procs t j m ρ′ a′ c′ [] η i′ r .1 w)
   in-stop (goes {s′ = s′} {η = η} {η′ = η′} {r = q} {evs = new} f rest) n m ρ ρ′ b a′ i′ c′ evs {r} e e′ h k w =
-      by b (λ n ρ b evs e h k. in-stop rest n m ρ ρ′ b a′ i′ c′ evs e e′ h k w) (figure-1 procs t m ρ b [] η q .1 (rw e at f)) h k
+      by b (λ n ρ b evs e h k. in-stop rest n m ρ ρ′ b a′ i′ c′ evs e e′ h k w) (figure-1 procs t j m ρ b [] η q .1 (rw e at f)) h k
     where
       Later : Type 0
       Later = (n : ℕ) (ρ : Env) (b : Block ℕ) (evs : List Event) → q .stack ≡ context m ρ b ∷ [] → size b ≤ n
-          → allowed (inside m) b ≡ true → toEnd procs t n (context m ρ b ∷ []) (q .memory) evs ≡ lacks r
+          → allowed (inside m) b ≡ true → toEnd procs t j n (context m ρ b ∷ []) (q .memory) evs ≡ lacks r
 
-      by : (b : Block ℕ) → Later → frame procs t b m ρ [] η ≡ has q → size b ≤ n → allowed (inside m) b ≡ true
-          → toEnd procs t n (context m ρ b ∷ []) η evs ≡ lacks r
+      by : (b : Block ℕ) → Later → frame procs t j b m ρ [] η ≡ has q → size b ≤ n → allowed (inside m) b ≡ true
+          → toEnd procs t j n (context m ρ b ∷ []) η evs ≡ lacks r
       by end ih g h k =
           let none : q .stack ≡ [] = ap (λ (r : Moved ℕ). r .stack) (sym (has-inj g)) in
-          let no : s′ ≡ [] = from-none procs t rest none in
+          let no : s′ ≡ [] = from-none procs t j rest none in
           let z : _≡_ {A = ℕ} 0 1 = cc in
           absurd (omega arith)
       by (step a i c) ih g h k =
           let ok = both-passed (allowedI (inside m) i) (allowed (inside m) c) k in
-          let l : Left m (sizeI i + size c) q = left procs t (rules-exactly procs t m ρ a c [] η i q .0 g) (ok .0) (ok .1) in
+          let l : Left m (sizeI i + size c) q = left procs t j (rules-exactly procs t j m ρ a c [] η i q .0 g) (ok .0) (ok .1) in
           on n (l .env) (l .code) (l .same) (omega (arith, l .less)) (l .right)
         where
           on : (n : ℕ) (ρ₁ : Env) (c₁ : Block ℕ) → q .stack ≡ context m ρ₁ c₁ ∷ [] → size c₁ < n → allowed (inside m) c₁ ≡ true
-              → toEnd procs t n (context m ρ (step a i c) ∷ []) η evs ≡ lacks r
+              → toEnd procs t j n (context m ρ (step a i c) ∷ []) η evs ≡ lacks r
           on zero ρ₁ c₁ same less right = absurd (omega arith)
           on (suc n) ρ₁ c₁ same less right = rw (g, same) (ih n ρ₁ c₁ (evs ++ q .events) same (omega arith) right)
 
@@ -131,12 +131,12 @@ pub data Stops (p : Program ℕ) (t : ℕ) (σ : State) : Reason → Type 0 wher
   no-thread : at (σ .threads) t ≡ nothing → Stops p t σ FinishedThread
   -- its next instruction blocks
   at-instr : {m : ℕ} {ρ : Env} {a : ℕ} {i : Instr ℕ} {c : Block ℕ} {s : Stack ℕ} {r : Reason} → at (σ .threads) t ≡ is (context m ρ (step a i c) ∷ s)
-      → ((b : Block ℕ) → i ≡ atomic b → ⊥) → Blocks (p .procs) t m ρ a c s (σ .memory) i r → Stops p t σ r
+      → ((b : Block ℕ) → i ≡ atomic b → ⊥) → Blocks (p .procs) t a m ρ a c s (σ .memory) i r → Stops p t σ r
   -- the next instruction is an atomic block, and steps from its beginning come to one that blocks: the first inside that does
   in-atomic : {m : ℕ} {ρ ρ′ : Env} {a a′ : ℕ} {i : Instr ℕ} {b c c′ : Block ℕ} {s : Stack ℕ} {η′ : Memory} {evs : List Event} {r : Reason}
       → at (σ .threads) t ≡ is (context m ρ (step a (atomic b) c) ∷ s)
-      → Runs (p .procs) t (context m ρ b ∷ []) (σ .memory) (context m ρ′ (step a′ i c′) ∷ []) η′ evs
-      → Blocks (p .procs) t m ρ′ a′ c′ [] η′ i r → Stops p t σ r
+      → Runs (p .procs) t a (context m ρ b ∷ []) (σ .memory) (context m ρ′ (step a′ i c′) ∷ []) η′ evs
+      → Blocks (p .procs) t a m ρ′ a′ c′ [] η′ i r → Stops p t σ r
 
 -- A THREAD BLOCKS IN EXACTLY THESE WAYS, FOR THESE REASONS.
 pub stops-exactly : (p : Program ℕ) (t : ℕ) (σ : State) (r : Reason) → Allowed σ t → (threadStep p t σ ≡ lacks r) ↔ Stops p t σ r
@@ -151,8 +151,8 @@ stops-exactly p t σ r ok = (so, of)
     by m ρ (step a i c) s e h = on i e h
       where
         simply : (i : Instr ℕ) → at (σ .threads) t ≡ is (context m ρ (step a i c) ∷ s) → ((b : Block ℕ) → i ≡ atomic b → ⊥)
-            → instr (p .procs) t m ρ a i c s η ≡ lacks r → Stops p t σ r
-        simply i e other h = at-instr e other (blocks-exactly (p .procs) t m ρ a c s η i r .0 h)
+            → instr (p .procs) t a m ρ a i c s η ≡ lacks r → Stops p t σ r
+        simply i e other h = at-instr e other (blocks-exactly (p .procs) t a m ρ a c s η i r .0 h)
 
         on : (i : Instr ℕ) → at (σ .threads) t ≡ is (context m ρ (step a i c) ∷ s) → first-instr (p .procs) t m ρ a i c s η ≡ lacks r → Stops p t σ r
         on (assign x e) g h = simply (assign x e) g (λ b q. let z : _≡_ {A = ℕ} 0 1 = cc in omega arith) h
@@ -162,8 +162,8 @@ stops-exactly p t σ r ok = (so, of)
         on (if e b d) g h = simply (if e b d) g (λ b q. let z : _≡_ {A = ℕ} 0 1 = cc in omega arith) h
         on (call n es) g h = simply (call n es) g (λ b q. let z : _≡_ {A = ℕ} 0 1 = cc in omega arith) h
         on (atomic b) g h =
-            chain-stops (toEnd (p .procs) t (size b) (context m ρ b ∷ []) η []) _ h
-            (λ n. let w = to-stop (p .procs) t (size b) m ρ b η [] (ok m ρ a b c s g) (omega arith) n in in-atomic g (w .runs) (w .blocks))
+            chain-stops (toEnd (p .procs) t a (size b) (context m ρ b ∷ []) η []) _ h
+            (λ n. let w = to-stop (p .procs) t a (size b) m ρ b η [] (ok m ρ a b c s g) (omega arith) n in in-atomic g (w .runs) (w .blocks))
             (λ q e f. lacking (sym f))
         on (select x y) g h = simply (select x y) g (λ b q. let z : _≡_ {A = ℕ} 0 1 = cc in omega arith) h
 
@@ -181,9 +181,9 @@ stops-exactly p t σ r ok = (so, of)
     of (finished e) = rw e
     of (no-thread e) = rw e
     of {r} (at-instr {m = m} {ρ = ρ} {a = a} {i = i} {c = c} {s = s} e other b) =
-        rw (e, on i other (blocks-exactly (p .procs) t m ρ a c s η i r .1 b))
+        rw (e, on i other (blocks-exactly (p .procs) t a m ρ a c s η i r .1 b))
       where
-        on : (i : Instr ℕ) → ((b : Block ℕ) → i ≡ atomic b → ⊥) → instr (p .procs) t m ρ a i c s η ≡ lacks r
+        on : (i : Instr ℕ) → ((b : Block ℕ) → i ≡ atomic b → ⊥) → instr (p .procs) t a m ρ a i c s η ≡ lacks r
             → first-instr (p .procs) t m ρ a i c s η ≡ lacks r
         on (assign x e) other q = q
         on (write y o e) other q = q
@@ -194,4 +194,4 @@ stops-exactly p t σ r ok = (so, of)
         on (atomic b) other q = absurd (other b refl)
         on (select x y) other q = q
     of (in-atomic {m = m} {ρ = ρ} {ρ′ = ρ′} {a = a} {a′ = a′} {i = i} {b = b} {c = c} {c′ = c′} {s = s} e runs w) =
-        rw (e, in-stop (p .procs) t runs (size b) m ρ ρ′ b a′ i c′ [] refl refl (omega arith) (ok m ρ a b c s e) w)
+        rw (e, in-stop (p .procs) t a runs (size b) m ρ ρ′ b a′ i c′ [] refl refl (omega arith) (ok m ρ a b c s e) w)

@@ -133,8 +133,8 @@ module _ {A : Type 0} (P : Program A) (right : (m : ℕ) (q : Proc A) → at (P 
         (λ x h. more .2 x (sets x h)) (λ x h. h)
 
   -- a rule of figure 1 keeps it
-  fit-rule : {t : ℕ} {v : Known} {m : ℕ} {ρ : Env} {a : A} {c : Block A} {s : Stack A} {η : Memory} {i : Instr A} {r : Moved A}
-      → Rule (P .procs) t m ρ a c s η i r → Fit v (context m ρ (step a i c)) → Moves v s (r .stack)
+  fit-rule : {t j : ℕ} {v : Known} {m : ℕ} {ρ : Env} {a : A} {c : Block A} {s : Stack A} {η : Memory} {i : Instr A} {r : Moved A}
+      → Rule (P .procs) t j m ρ a c s η i r → Fit v (context m ρ (step a i c)) → Moves v s (r .stack)
   fit-rule {ρ = ρ} (assigns {x = x} {e = e} {v = w} h) F =
       let q = when-is (known (setIn ρ) e) (is (with (setIn ρ) x)) (first F .1) in
       let n = both-passed (ltb x (F .proc .locals)) (ex P (F .proc .locals) e) (parts F .0) in
@@ -198,7 +198,7 @@ module _ {A : Type 0} (P : Program A) (right : (m : ℕ) (q : Proc A) → at (P 
   Fits s = Each (Fit (λ x. false)) s
 
   -- a step of a stack keeps it
-  fit-figure : {t : ℕ} {s : Stack A} {η : Memory} {r : Moved A} → Figure1 (P .procs) t s η r → Fits s → Fits (r .stack)
+  fit-figure : {t j : ℕ} {s : Stack A} {η : Memory} {r : Moved A} → Figure1 (P .procs) t j s η r → Fits s → Fits (r .stack)
   fit-figure (by-rule h) k = on (fit-rule h (k .0)) (k .1)
     where
       on : {s z : Stack A} → Moves (λ x. false) s z → Fits s → Fits z
@@ -237,28 +237,28 @@ module _ (P : Program ℕ) (right : (m : ℕ) (q : Proc ℕ) → at (P .procs) m
   alone (calls-on G H) e = let no : _≡_ {A = ℕ} 0 1 = cc in absurd (omega arith)
 
   -- steps inside an atomic block keep what it is to set
-  fit-runs : {s s′ : Stack ℕ} {η η′ : Memory} {new : List Event} → Runs (P .procs) t s η s′ η′ new
+  fit-runs : {j : ℕ} {s s′ : Stack ℕ} {η η′ : Memory} {new : List Event} → Runs (P .procs) t j s η s′ η′ new
       → (v : Known) (m : ℕ) (ρ ρ′ : Env) (b c′ : Block ℕ) → s ≡ context m ρ b ∷ [] → s′ ≡ context m ρ′ c′ ∷ []
       → allowed (inside m) b ≡ true → Fit P right v (context m ρ b) → Fit P right v (context m ρ′ c′)
   fit-runs stays v m ρ ρ′ b c′ e e′ k F = let same : context m ρ b ≡ context m ρ′ c′ = cc in rw same at F
-  fit-runs (goes {s′ = s′} {η = η} {r = q} f rest) v m ρ ρ′ b c′ e e′ k F =
-      by b (λ ρ b e k F. fit-runs rest v m ρ ρ′ b c′ e e′ k F) (figure-1 (P .procs) t m ρ b [] η q .1 (rw e at f)) k F
+  fit-runs {j} (goes {s′ = s′} {η = η} {r = q} f rest) v m ρ ρ′ b c′ e e′ k F =
+      by b (λ ρ b e k F. fit-runs rest v m ρ ρ′ b c′ e e′ k F) (figure-1 (P .procs) t j m ρ b [] η q .1 (rw e at f)) k F
     where
       Later : Type 0
       Later = (ρ : Env) (b : Block ℕ) → q .stack ≡ context m ρ b ∷ [] → allowed (inside m) b ≡ true → Fit P right v (context m ρ b)
           → Fit P right v (context m ρ′ c′)
 
-      by : (b : Block ℕ) → Later → frame (P .procs) t b m ρ [] η ≡ has q → allowed (inside m) b ≡ true → Fit P right v (context m ρ b)
+      by : (b : Block ℕ) → Later → frame (P .procs) t j b m ρ [] η ≡ has q → allowed (inside m) b ≡ true → Fit P right v (context m ρ b)
           → Fit P right v (context m ρ′ c′)
       by end ih g k F =
           let none : q .stack ≡ [] = ap (λ (r : Moved ℕ). r .stack) (sym (has-inj g)) in
-          let no : s′ ≡ [] = from-none (P .procs) t rest none in
+          let no : s′ ≡ [] = from-none (P .procs) t j rest none in
           let z : _≡_ {A = ℕ} 0 1 = cc in
           absurd (omega arith)
       by (step a i c) ih g k F =
           let ok = both-passed (allowedI (inside m) i) (allowed (inside m) c) k in
-          let rule : Rule (P .procs) t m ρ a c [] η i q = rules-exactly (P .procs) t m ρ a c [] η i q .0 g in
-          let l : Left m (sizeI i + size c) q = left (P .procs) t rule (ok .0) (ok .1) in
+          let rule : Rule (P .procs) t j m ρ a c [] η i q = rules-exactly (P .procs) t j m ρ a c [] η i q .0 g in
+          let l : Left m (sizeI i + size c) q = left (P .procs) t j rule (ok .0) (ok .1) in
           ih (l .env) (l .code) (l .same) (l .right) (alone (fit-rule P right rule F) (l .same))
 
   -- a step of figure 2 keeps it, of every thread
