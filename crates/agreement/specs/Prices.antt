@@ -27,15 +27,15 @@ then a b = record { least = a .least + b .least; most = a .most + b .most }
 abbrev pub or : Prices → Prices → Prices
 or a b = record { least = min (a .least) (b .least); most = max (a .most) (b .most) }
 
--- in a procedure of n locals; no price of the list asks for a thread, a procedure or values, but what an atomic block runs
+-- in a procedure of n locals; no price of the list asks for a thread, a label, a procedure or values, but what an atomic block runs
 module _ (n : ℕ) where
   -- by the list, inside an atomic block
   abbrev pub inPlace : Instr ℕ → Prices
-  inPlace i = only (inner [] 0 0 n i)
+  inPlace i = only (inner [] 0 0 0 n i)
 
   -- by the list
   abbrev pub listed : Instr ℕ → Prices
-  listed i = only (instrPrice [] 0 0 n [] [] i)
+  listed i = only (instrPrice [] 0 0 0 n [] [] i)
 
   abbrev mutual
     -- "2k+1 and the branch taken"

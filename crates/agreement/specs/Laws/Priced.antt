@@ -239,7 +239,7 @@ module _ (q : Program ℕ) (find : ℕ → Maybe Prices) where
             let there = orLacks-has WrongKind (at (q .procs) f) (b₂ .1) in
             rw (← b₃ .1) (record { proc = b₂ .0; found = there; code = known f (b₂ .0) there .body }, (on c (h .3), K))
         go (atomic b) h r p =
-            let u = chain-has (P.toEnd (q .procs) t (P.size b) (record { proc = m; env = ρ; code = b } ∷ []) η []) _ p in
+            let u = chain-has (P.toEnd (q .procs) t a (P.size b) (record { proc = m; env = ρ; code = b } ∷ []) η []) _ p in
             rw (← has-inj (u .2)) (on c (h .3), K)
         go (select x y) h r p = lacking p
 

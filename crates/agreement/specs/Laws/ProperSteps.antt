@@ -40,14 +40,14 @@ AllProper h (f ∷ s) = ProperEnv h (f .env) × AllProper h s
 abbrev pub ProperMoved : ℕ → Moved ℕ → Type 0
 ProperMoved h r = AllProper h (r .stack) × ProperMemory h (r .memory)
 
-module _ (W : World) (t m : ℕ) (ρ : Env) (a : ℕ) (c : Block ℕ) (z : Stack ℕ) (η : Memory) (full : length ρ ≡ W .S .L m) (pρ : ProperEnv (W .S .h) ρ)
+module _ (W : World) (t j m : ℕ) (ρ : Env) (a : ℕ) (c : Block ℕ) (z : Stack ℕ) (η : Memory) (full : length ρ ≡ W .S .L m) (pρ : ProperEnv (W .S .h) ρ)
     (pz : AllProper (W .S .h) z) (pη : ProperMemory (W .S .h) η) where
   -- an expression of the frame's code
   value : (e : Expr) (v : Value) → inExpr (W .S .L m) (length (W .source .sizes)) e ≡ true → eval ρ e ≡ has v → Proper (W .S .h) v
   value e v n p = eval-proper (W .S .h) (W .S .L m) ρ e v (rw (← W .places) n) pρ p
 
   -- a step of one instruction keeps values proper
-  pub proper-instr : (ins : Instr ℕ) → namedI (W .source) (W .S .L m) ins ≡ true → (r : Moved ℕ) → instr (W .source .procs) t m ρ a ins c z η ≡ has r
+  pub proper-instr : (ins : Instr ℕ) → namedI (W .source) (W .S .L m) ins ≡ true → (r : Moved ℕ) → instr (W .source .procs) t j m ρ a ins c z η ≡ has r
       → ProperMoved (W .S .h) r
   proper-instr (assign x e) F r p =
       let b = chain-has (eval ρ e) _ p in
@@ -94,23 +94,23 @@ pub data Simple : Instr ℕ → Type 0 where
   simple-write : {y : ℕ} {o e : Expr} → Simple (write y o e)
 
 -- a simple instruction goes on with the code after it, and as many locals
-simple-shape : (procs : List (Proc ℕ)) (t m : ℕ) (ρ : Env) (a : ℕ) (c : Block ℕ) (z : Stack ℕ) (η : Memory) (ins : Instr ℕ) → Simple ins
-    → (r : Moved ℕ) → instr procs t m ρ a ins c z η ≡ has r
+simple-shape : (procs : List (Proc ℕ)) (t j m : ℕ) (ρ : Env) (a : ℕ) (c : Block ℕ) (z : Stack ℕ) (η : Memory) (ins : Instr ℕ) → Simple ins
+    → (r : Moved ℕ) → instr procs t j m ρ a ins c z η ≡ has r
     → (ρ₁ : Env) × (r .stack ≡ record { proc = m; env = ρ₁; code = c } ∷ z) × (length ρ₁ ≡ length ρ)
-simple-shape procs t m ρ a c z η (assign x e) simple-assign r p =
+simple-shape procs t j m ρ a c z η (assign x e) simple-assign r p =
     let b = chain-has (eval ρ e) _ p in (bound ρ x (b .0), ap (λ (o : Moved ℕ). o .stack) (sym (has-inj (b .2))), length-set ρ x (is (b .0)))
-simple-shape procs t m ρ a c z η (read x y o) simple-read r p =
+simple-shape procs t j m ρ a c z η (read x y o) simple-read r p =
     let g = access (indexed ρ o) (pointed ρ y) η _ p in
     (bound ρ x (g .v), ap (λ (o : Moved ℕ). o .stack) (sym (has-inj (g .then))), length-set ρ x (is (g .v)))
-simple-shape procs t m ρ a c z η (write y o e) simple-write r p =
+simple-shape procs t j m ρ a c z η (write y o e) simple-write r p =
     let b = chain-has (eval ρ e) _ p in
     let g = access (indexed ρ o) (pointed ρ y) η _ (b .2) in
     (ρ, ap (λ (o : Moved ℕ). o .stack) (sym (has-inj (g .then))), refl)
 
-module _ (W : World) (t m : ℕ) where
+module _ (W : World) (t j m : ℕ) where
   -- a block that is at its end is not blocked
   abbrev block-end : ℕ → Env → Block ℕ → Memory → List Event → Try P.Atomic
-  block-end n ρ c η old = P.toEnd (W .source .procs) t n (record { proc = m; env = ρ; code = c } ∷ []) η old
+  block-end n ρ c η old = P.toEnd (W .source .procs) t j n (record { proc = m; env = ρ; code = c } ∷ []) η old
 
   -- what an atomic block leaves is proper
   abbrev ProperAtomic : P.Atomic → Type 0
@@ -128,14 +128,14 @@ module _ (W : World) (t m : ℕ) where
   one-proper : {ρ : Env} {η : Memory} {a : ℕ} {c : Block ℕ} (n : ℕ) (old : List Event) (A : P.Atomic) (ins : Instr ℕ) → Simple ins
       → Block-proper ρ (step a ins c) η
       → ((ρ₁ : Env) (η₁ : Memory) (old : List Event) → Block-proper ρ₁ c η₁ → block-end n ρ₁ c η₁ old ≡ has A → ProperAtomic A)
-      → (instr (W .source .procs) t m ρ a ins c [] η ⟫ λ r. P.toEnd (W .source .procs) t n (r .stack) (r .memory) (old ++ r .events)) ≡ has A
+      → (instr (W .source .procs) t j m ρ a ins c [] η ⟫ λ r. P.toEnd (W .source .procs) t j n (r .stack) (r .memory) (old ++ r .events)) ≡ has A
       → ProperAtomic A
   one-proper {ρ} {η} {a} {c} n old A ins kind B ih e =
-      let p = chain-has (instr (W .source .procs) t m ρ a ins c [] η) _ e in
-      let g = simple-shape (W .source .procs) t m ρ a c [] η ins kind (p .0) (p .1) in
+      let p = chain-has (instr (W .source .procs) t j m ρ a ins c [] η) _ e in
+      let g = simple-shape (W .source .procs) t j m ρ a c [] η ins kind (p .0) (p .1) in
       let nm = both-passed (namedI (W .source) (W .S .L m) ins) (named (W .source) (W .S .L m) c) (B .named) in
       let al = both-passed (Rules.allowedI (inner m) ins) (Rules.allowed (inner m) c) (B .allowed) in
-      let pr : ProperMoved (W .S .h) (p .0) = proper-instr W t m ρ a c [] η (B .full) (B .env) tt (B .memory) ins (nm .0) (p .0) (p .1) in
+      let pr : ProperMoved (W .S .h) (p .0) = proper-instr W t j m ρ a c [] η (B .full) (B .env) tt (B .memory) ins (nm .0) (p .0) (p .1) in
       let pρ₁ : AllProper (W .S .h) (record { proc = m; env = g .0; code = c } ∷ []) = rw (g .1) at (pr .0) in
       ih (g .0) (p .0 .memory) (old ++ p .0 .events) (record { full = g .2 ∙ B .full; named = nm .1; allowed = al .1; env = pρ₁ .0; memory = pr .1 })
       (rw (g .1) at (p .2))
@@ -153,7 +153,7 @@ module _ (W : World) (t m : ℕ) where
   block-proper (suc n) (step a (write y o v) c) old A B e =
       one-proper n old A (write y o v) simple-write B (λ ρ₁ η₁ old₁ B₁ p. block-proper n c old₁ A B₁ p) e
   block-proper (suc n) (step a (if v b d) c) {ρ} {η} old A B e =
-      let q = chain-has (instr (W .source .procs) t m ρ a (if v b d) c [] η) _ e in
+      let q = chain-has (instr (W .source .procs) t j m ρ a (if v b d) c [] η) _ e in
       let u = chain-has (eval ρ v ⟫ truth) _ (q .1) in
       let nm = both-passed (namedI (W .source) (W .S .L m) (if v b d)) (named (W .source) (W .S .L m) c) (B .named) in
       let nb
@@ -199,21 +199,21 @@ pub proper-code : (W : World) (t m : ℕ) (ρ : Env) (s : Stack ℕ) (η : Memor
     → (r : Moved ℕ) → P.code (W .source .procs) t c m ρ s η ≡ has r → ProperMoved (W .S .h) r
 proper-code W t m ρ s η pρ ps pη end F r p = rw (← has-inj p) (ps, pη)
 proper-code W t m ρ s η pρ ps pη (step a (assign x e) c) F r p =
-    proper-instr W t m ρ a c s η (F .fit .full) pρ ps pη (assign x e) (fit-named (F .fit) .0) r p
+    proper-instr W t a m ρ a c s η (F .fit .full) pρ ps pη (assign x e) (fit-named (F .fit) .0) r p
 proper-code W t m ρ s η pρ ps pη (step a (write y o e) c) F r p =
-    proper-instr W t m ρ a c s η (F .fit .full) pρ ps pη (write y o e) (fit-named (F .fit) .0) r p
+    proper-instr W t a m ρ a c s η (F .fit .full) pρ ps pη (write y o e) (fit-named (F .fit) .0) r p
 proper-code W t m ρ s η pρ ps pη (step a (read x y o) c) F r p =
-    proper-instr W t m ρ a c s η (F .fit .full) pρ ps pη (read x y o) (fit-named (F .fit) .0) r p
+    proper-instr W t a m ρ a c s η (F .fit .full) pρ ps pη (read x y o) (fit-named (F .fit) .0) r p
 proper-code W t m ρ s η pρ ps pη (step a (while e b) c) F r p =
-    proper-instr W t m ρ a c s η (F .fit .full) pρ ps pη (while e b) (fit-named (F .fit) .0) r p
+    proper-instr W t a m ρ a c s η (F .fit .full) pρ ps pη (while e b) (fit-named (F .fit) .0) r p
 proper-code W t m ρ s η pρ ps pη (step a (if e b d) c) F r p =
-    proper-instr W t m ρ a c s η (F .fit .full) pρ ps pη (if e b d) (fit-named (F .fit) .0) r p
+    proper-instr W t a m ρ a c s η (F .fit .full) pρ ps pη (if e b d) (fit-named (F .fit) .0) r p
 proper-code W t m ρ s η pρ ps pη (step a (call q es) c) F r p =
-    proper-instr W t m ρ a c s η (F .fit .full) pρ ps pη (call q es) (fit-named (F .fit) .0) r p
+    proper-instr W t a m ρ a c s η (F .fit .full) pρ ps pη (call q es) (fit-named (F .fit) .0) r p
 proper-code W t m ρ s η pρ ps pη (step a (atomic b) c) F r p =
-    let u = chain-has (P.toEnd (W .source .procs) t (P.size b) (record { proc = m; env = ρ; code = b } ∷ []) η []) _ p in
+    let u = chain-has (P.toEnd (W .source .procs) t a (P.size b) (record { proc = m; env = ρ; code = b } ∷ []) η []) _ p in
     let g
-    = block-proper W t m (P.size b) b [] (u .0)
+    = block-proper W t a m (P.size b) b [] (u .0)
     (record { full = F .fit .full; named = fit-named (F .fit) .0; allowed = fit-allowed (F .fit) .0; env = pρ; memory = pη }) (u .1) in
     rw (← has-inj (u .2)) ((g .0, ps), g .1)
 proper-code W t m ρ s η pρ ps pη (step a (select x y) c) F r p = lacking p

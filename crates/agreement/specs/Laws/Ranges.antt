@@ -54,37 +54,37 @@ inside-append n (step a i b) c = ap₂ then refl (inside-append n b c) ∙ (λ j
 abbrev within : ℕ → Here
 within m = record { kind = concurrent; proc = m; inside = true }
 
-module _ (procs : List (Proc ℕ)) (t m n : ℕ) where
+module _ (procs : List (Proc ℕ)) (t j m n : ℕ) where
   -- a frame of it
   abbrev running : Env → Block ℕ → Stack ℕ
   running ρ c = record { proc = m; env = ρ; code = c } ∷ []
 
   -- what a block costs that runs to its end
   block-within : (f : ℕ) (ρ : Env) (c : Block ℕ) (η : Memory) (evs : List Event) (r : Atomic) → allowed (within m) c ≡ true
-      → toEnd procs t f (running ρ c) η evs ≡ has r → Within (P.inside procs t m n f (running ρ c) η) (inside n c)
+      → toEnd procs t j f (running ρ c) η evs ≡ has r → Within (P.inside procs t j m n f (running ρ c) η) (inside n c)
   block-within zero ρ end η evs r al q = within-only 0
   block-within zero ρ (step a i c) η evs r al q = lacking q
   block-within (suc f) ρ end η evs r al q = within-only 0
   block-within (suc f) ρ (step a i c) η evs r al q =
       let al₂ = both-passed (allowedI (within m) i) (allowed (within m) c) al in
-      let w = chain-has (Step.instr procs t m ρ a i c [] η) _ q in
+      let w = chain-has (Step.instr procs t j m ρ a i c [] η) _ q in
       go i (block-within f) (al₂ .0) (al₂ .1) (w .0) (w .1) (w .2)
     where
       Ih : Type 0
       Ih =
           (ρ : Env) (c : Block ℕ) (η : Memory) (evs : List Event) (r : Atomic) → allowed (within m) c ≡ true
-          → toEnd procs t f (running ρ c) η evs ≡ has r → Within (P.inside procs t m n f (running ρ c) η) (inside n c)
+          → toEnd procs t j f (running ρ c) η evs ≡ has r → Within (P.inside procs t j m n f (running ρ c) η) (inside n c)
 
       -- an instruction of one price, and then the rest
-      one : (i : Instr ℕ) (ρ′ : Env) (η′ : Memory) → insideI n i ≡ only (P.inner procs t m n i)
-          → Within (P.inside procs t m n f (running ρ′ c) η′) (inside n c)
-          → Within (P.inner procs t m n i + P.inside procs t m n f (running ρ′ c) η′) (inside n (step a i c))
+      one : (i : Instr ℕ) (ρ′ : Env) (η′ : Memory) → insideI n i ≡ only (P.inner procs t j m n i)
+          → Within (P.inside procs t j m n f (running ρ′ c) η′) (inside n c)
+          → Within (P.inner procs t j m n i + P.inside procs t j m n f (running ρ′ c) η′) (inside n (step a i c))
       one i ρ′ η′ e h = rw e (record { low = omega (arith, h .low); high = omega (arith, h .high) })
 
       go : (i : Instr ℕ) → Ih → allowedI (within m) i ≡ true → allowed (within m) c ≡ true → (v : Moved ℕ)
-          → Step.instr procs t m ρ a i c [] η ≡ has v → toEnd procs t f (v .stack) (v .memory) (evs ++ v .events) ≡ has r
+          → Step.instr procs t j m ρ a i c [] η ≡ has v → toEnd procs t j f (v .stack) (v .memory) (evs ++ v .events) ≡ has r
           → Within
-          (elim (Step.instr procs t m ρ a i c [] η) [ lacks q ↦ 0 | has r ↦ P.inner procs t m n i + P.inside procs t m n f (r .stack) (r .memory) ])
+          (elim (Step.instr procs t j m ρ a i c [] η) [ lacks q ↦ 0 | has r ↦ P.inner procs t j m n i + P.inside procs t j m n f (r .stack) (r .memory) ])
           (inside n (step a i c))
       go (assign x e) ih al al′ v p q =
           let b = chain-has (eval ρ e) _ p in
@@ -102,8 +102,8 @@ module _ (procs : List (Proc ℕ)) (t m n : ℕ) where
           rw (p, ← has-inj (u .2)) (branch (u .0) (w .0) (w .1) (rw (← has-inj (u .2)) at q))
         where
           branch : (k : Bool) → allowed (within m) b ≡ true → allowed (within m) d ≡ true
-              → toEnd procs t f (running ρ (pick k b d ⊕ c)) η (evs ++ []) ≡ has r
-              → Within (P.inner procs t m n (if e b d) + P.inside procs t m n f (running ρ (pick k b d ⊕ c)) η) (inside n (step a (if e b d) c))
+              → toEnd procs t j f (running ρ (pick k b d ⊕ c)) η (evs ++ []) ≡ has r
+              → Within (P.inner procs t j m n (if e b d) + P.inside procs t j m n f (running ρ (pick k b d ⊕ c)) η) (inside n (step a (if e b d) c))
           branch true v w q =
               let h = rw (inside-append n b c) at (ih ρ (b ⊕ c) η _ r (allowed-append (within m) b c v al′) q) in
               record { low = omega (arith, h .low); high = omega (arith, h .high) }
@@ -115,12 +115,13 @@ module _ (procs : List (Proc ℕ)) (t m n : ℕ) where
       go (atomic b) ih al al′ v p q = absurd (never al)
       go (select x y) ih al al′ v p q = absurd (never al)
 
-  -- ---- steps
+-- ---- steps
 
+module _ (procs : List (Proc ℕ)) (t m n : ℕ) where
   -- the price of a step that is taken lies between
   pub step-within : (ρ : Env) (a : ℕ) (i : Instr ℕ) (c : Block ℕ) (s : Stack ℕ) (η : Memory) {r : Moved ℕ}
       → allowedI (bodyIn concurrent m) i ≡ true → first-instr procs t m ρ a i c s η ≡ has r
-      → Within (P.instrPrice procs t m n ρ η i) (stepPrices n i)
+      → Within (P.instrPrice procs t a m n ρ η i) (stepPrices n i)
   step-within ρ a (assign x e) c s η al q = within-only _
   step-within ρ a (write y o e) c s η al q = within-only _
   step-within ρ a (read x y o) c s η al q = within-only _
@@ -128,8 +129,8 @@ module _ (procs : List (Proc ℕ)) (t m n : ℕ) where
   step-within ρ a (if e b d) c s η al q = within-only _
   step-within ρ a (call f es) c s η al q = within-only _
   step-within ρ a (atomic b) c s η al q =
-      let u = chain-has (toEnd procs t (size b) (record { proc = m; env = ρ; code = b } ∷ []) η []) _ q in
-      let h = block-within (size b) ρ b η [] (u .0) al (u .1) in
+      let u = chain-has (toEnd procs t a (size b) (record { proc = m; env = ρ; code = b } ∷ []) η []) _ q in
+      let h = block-within procs t a m n (size b) ρ b η [] (u .0) al (u .1) in
       record { low = omega (arith, h .low); high = omega (arith, h .high) }
   step-within ρ a (select x y) c s η al q = lacking q
 
