@@ -47,8 +47,8 @@ module _ {fb : ℕ} {s : Step} {ls cs o : List ℕ} {n : ℕ} where
   write-room e h = cell-word (h .works .holds) (fitting e h)
 
   -- an assignment
-  pub carries-assign : {thread x : ℕ} {v : Value} {j : ℕ} {ls′ : List ℕ} → s ≡ S.Assign x v j → Puts ls ls′ (fb + x) v
-      → Carries thread fb s ls cs o n ls′ cs o (To j n)
+  pub carries-assign : {thread label x : ℕ} {v : Value} {j : ℕ} {ls′ : List ℕ} → s ≡ S.Assign x v j → Puts ls ls′ (fb + x) v
+      → Carries thread label fb s ls cs o n ls′ cs o (To j n)
   carries-assign {x = x} {v} {j} e p = rw e (record {
     carries = λ h i l.
         let w : Works fb (h .bs) (h .es) ls cs o n (h .a) = h .works in
@@ -70,9 +70,9 @@ module _ {fb : ℕ} {s : Step} {ls cs o : List ℕ} {n : ℕ} where
   })
 
   -- a read
-  pub carries-read : {thread x l i : ℕ} {v : Value} {j : ℕ} {ls′ o′ : List ℕ} → s ≡ S.Read x l i v j → Puts ls ls′ (fb + x) v
-      → o′ ≡ withEvent o n (eventOf (record { thread = thread; writes = false; location = l; index = i; value = v }))
-      → Carries thread fb s ls cs o n ls′ cs o′ (To j (n + 1))
+  pub carries-read : {thread label x l i : ℕ} {v : Value} {j : ℕ} {ls′ o′ : List ℕ} → s ≡ S.Read x l i v j → Puts ls ls′ (fb + x) v
+      → o′ ≡ withEvent o n (eventOf (record { thread = thread; writes = false; location = l; index = i; value = v; label = label }))
+      → Carries thread label fb s ls cs o n ls′ cs o′ (To j (n + 1))
   carries-read {x = x} {v = v} e p q = rw e (record {
     carries = λ h i l.
         let w : Works fb (h .bs) (h .es) ls cs o n (h .a) = h .works in
@@ -94,9 +94,9 @@ module _ {fb : ℕ} {s : Step} {ls cs o : List ℕ} {n : ℕ} where
   })
 
   -- a write
-  pub carries-write : {thread l i k : ℕ} {v : Value} {j : ℕ} {cs′ o′ : List ℕ} → s ≡ S.Write l i k v j → Puts cs cs′ k v
-      → o′ ≡ withEvent o n (eventOf (record { thread = thread; writes = true; location = l; index = i; value = v }))
-      → Carries thread fb s ls cs o n ls cs′ o′ (To j (n + 1))
+  pub carries-write : {thread label l i k : ℕ} {v : Value} {j : ℕ} {cs′ o′ : List ℕ} → s ≡ S.Write l i k v j → Puts cs cs′ k v
+      → o′ ≡ withEvent o n (eventOf (record { thread = thread; writes = true; location = l; index = i; value = v; label = label }))
+      → Carries thread label fb s ls cs o n ls cs′ o′ (To j (n + 1))
   carries-write {l = l} {i} {v = v} e p q = rw e (record {
     carries = λ h b m.
         let w : Works fb (h .bs) (h .es) ls cs o n (h .a) = h .works in
@@ -117,25 +117,25 @@ module _ {fb : ℕ} {s : Step} {ls cs o : List ℕ} {n : ℕ} where
   })
 
 -- a step that blocks
-pub carries-blocked : {thread fb : ℕ} {s : Step} {ls cs o : List ℕ} {n : ℕ} {q : Reason} → s ≡ S.Blocked q → Carries thread fb s ls cs o n ls cs o (Blocked q)
+pub carries-blocked : {thread label fb : ℕ} {s : Step} {ls cs o : List ℕ} {n : ℕ} {q : Reason} → s ≡ S.Blocked q → Carries thread label fb s ls cs o n ls cs o (Blocked q)
 carries-blocked {q = q} e = rw e (record { carries = λ w i l. stops q refl refl; still = λ q e. (refl, refl, refl) })
 
 -- no other step is carried out
-other-blocks : (thread fb : ℕ) (s : Step) (ls cs o : List ℕ) (n : ℕ) → OneOf (0 ∷ 4 ∷ 5 ∷ 6 ∷ []) (tagOf the-type s)
-    → Carries thread fb s ls cs o n ls cs o (Blocked WrongKind)
-other-blocks thread fb S.Return ls cs o n h = record { carries = λ w i l. stops WrongKind refl refl; still = λ q e. (refl, refl, refl) }
-other-blocks thread fb (S.Assign x v j) ls cs o n h = absurd (miss (0 ∷ 4 ∷ 5 ∷ 6 ∷ []) 1 tt h)
-other-blocks thread fb (S.Read x l i v j) ls cs o n h = absurd (miss (0 ∷ 4 ∷ 5 ∷ 6 ∷ []) 2 tt h)
-other-blocks thread fb (S.Write l i k v j) ls cs o n h = absurd (miss (0 ∷ 4 ∷ 5 ∷ 6 ∷ []) 3 tt h)
-other-blocks thread fb (S.Test q j) ls cs o n h = record { carries = λ w i l. stops WrongKind refl refl; still = λ q e. (refl, refl, refl) }
-other-blocks thread fb (S.Call m j) ls cs o n h = record { carries = λ w i l. stops WrongKind refl refl; still = λ q e. (refl, refl, refl) }
-other-blocks thread fb (S.Select k u j) ls cs o n h = record { carries = λ w i l. stops WrongKind refl refl; still = λ q e. (refl, refl, refl) }
-other-blocks thread fb (S.Blocked q) ls cs o n h = absurd (miss (0 ∷ 4 ∷ 5 ∷ 6 ∷ []) 7 tt h)
+other-blocks : (thread label fb : ℕ) (s : Step) (ls cs o : List ℕ) (n : ℕ) → OneOf (0 ∷ 4 ∷ 5 ∷ 6 ∷ []) (tagOf the-type s)
+    → Carries thread label fb s ls cs o n ls cs o (Blocked WrongKind)
+other-blocks thread label fb S.Return ls cs o n h = record { carries = λ w i l. stops WrongKind refl refl; still = λ q e. (refl, refl, refl) }
+other-blocks thread label fb (S.Assign x v j) ls cs o n h = absurd (miss (0 ∷ 4 ∷ 5 ∷ 6 ∷ []) 1 tt h)
+other-blocks thread label fb (S.Read x l i v j) ls cs o n h = absurd (miss (0 ∷ 4 ∷ 5 ∷ 6 ∷ []) 2 tt h)
+other-blocks thread label fb (S.Write l i k v j) ls cs o n h = absurd (miss (0 ∷ 4 ∷ 5 ∷ 6 ∷ []) 3 tt h)
+other-blocks thread label fb (S.Test q j) ls cs o n h = record { carries = λ w i l. stops WrongKind refl refl; still = λ q e. (refl, refl, refl) }
+other-blocks thread label fb (S.Call m j) ls cs o n h = record { carries = λ w i l. stops WrongKind refl refl; still = λ q e. (refl, refl, refl) }
+other-blocks thread label fb (S.Select k u j) ls cs o n h = record { carries = λ w i l. stops WrongKind refl refl; still = λ q e. (refl, refl, refl) }
+other-blocks thread label fb (S.Blocked q) ls cs o n h = absurd (miss (0 ∷ 4 ∷ 5 ∷ 6 ∷ []) 7 tt h)
 
 -- so it blocks
-pub carries-other : {thread fb : ℕ} {s : Step} {ls cs o : List ℕ} {n : ℕ} → OneOf (0 ∷ 4 ∷ 5 ∷ 6 ∷ []) (tagOf the-type s)
-    → Carries thread fb s ls cs o n ls cs o (Blocked WrongKind)
-carries-other {thread} {fb} {s} {ls} {cs} {o} {n} h = other-blocks thread fb s ls cs o n h
+pub carries-other : {thread label fb : ℕ} {s : Step} {ls cs o : List ℕ} {n : ℕ} → OneOf (0 ∷ 4 ∷ 5 ∷ 6 ∷ []) (tagOf the-type s)
+    → Carries thread label fb s ls cs o n ls cs o (Blocked WrongKind)
+carries-other {thread} {label} {fb} {s} {ls} {cs} {o} {n} h = other-blocks thread label fb s ls cs o n h
 
 -- one law for each way
 pub ruleset carry-ways = (assign-room, read-room, write-room, carries-assign, carries-read, carries-write, carries-blocked, carries-other)

@@ -118,16 +118,16 @@ counted-end : {t : List ℕ} {i d j : ℕ} {b : Block ℕ} {c : Counted} → Blo
 counted-end {j = j} {b} h C = ap (λ (c : Counted). c .next) (C .gives (tag tt b) j (tag-at tt h))
 
 -- a step that ends where its instruction does
-ends : {fb i j : ℕ} {bs es ls : List ℕ} {n X : ℕ} {ls′ cs′ o′ : List ℕ} {r : Done} (thread : ℕ) (a : Atomic) (u : Step) → EndsAt u j
-    → Went fb i (endOf u) bs es ls n X ls′ cs′ o′ (carried thread u a) r → Went fb i j bs es ls n X ls′ cs′ o′ (carried thread u a) r
-ends thread a (S.Assign x v k) e w = rw e at w
-ends thread a (S.Read x l i v k) e w = rw e at w
-ends thread a (S.Write l i c v k) e w = rw e at w
-ends thread a S.Return e w = none w
-ends thread a (S.Test q k) e w = none w
-ends thread a (S.Call m k) e w = none w
-ends thread a (S.Select c u k) e w = none w
-ends thread a (S.Blocked q) e w = none w
+ends : {fb i j : ℕ} {bs es ls : List ℕ} {n X : ℕ} {ls′ cs′ o′ : List ℕ} {r : Done} (thread label : ℕ) (a : Atomic) (u : Step) → EndsAt u j
+    → Went fb i (endOf u) bs es ls n X ls′ cs′ o′ (carried thread label u a) r → Went fb i j bs es ls n X ls′ cs′ o′ (carried thread label u a) r
+ends thread label a (S.Assign x v k) e w = rw e at w
+ends thread label a (S.Read x l i v k) e w = rw e at w
+ends thread label a (S.Write l i c v k) e w = rw e at w
+ends thread label a S.Return e w = none w
+ends thread label a (S.Test q k) e w = none w
+ends thread label a (S.Call m k) e w = none w
+ends thread label a (S.Select c u k) e w = none w
+ends thread label a (S.Blocked q) e w = none w
 
 -- it ends behind where it begins
 past : {i j : ℕ} (u : Step) → EndsAt u j → i < j → Past i u
@@ -145,8 +145,8 @@ abbrev NoTest : Step → Type 0
 NoTest u = OneOf (0 ∷ 1 ∷ 2 ∷ 3 ∷ 5 ∷ 6 ∷ 7 ∷ []) (tagOf the-type u)
 
 -- are carried out
-simple : (t : List ℕ) {thread : ℕ} (i d : ℕ) {j : ℕ} (p : Program ℕ) (X m : ℕ) {s : Instr ℕ} {a : Atomic} (u : Step) → NoTest u
-    → Fitting t thread i d j p X m s a u → Simple thread j s a u
+simple : (t : List ℕ) {thread label : ℕ} (i d : ℕ) {j : ℕ} (p : Program ℕ) (X m : ℕ) {s : Instr ℕ} {a : Atomic} (u : Step) → NoTest u
+    → Fitting t thread label i d j p X m s a u → Simple thread label j s a u
 simple t i d p X m (S.Assign x v k) h f = f
 simple t i d p X m (S.Read x l z v k) h f = f
 simple t i d p X m (S.Write l z c v k) h f = f
@@ -162,9 +162,9 @@ told {k = k} e f = e ∙ ap (λ q. S.Test q k) f
 
 -- ---- an instruction
 
-module _ {t : List ℕ} {thread fb : ℕ} {bs : List ℕ} {i d : ℕ} {ls cs o : List ℕ} {n : ℕ} where
+module _ {t : List ℕ} {thread label fb : ℕ} {bs : List ℕ} {i d : ℕ} {ls cs o : List ℕ} {n : ℕ} where
   -- it can be decided
-  pub instr-poised : DoingI t thread fb bs i d ls cs o n → Poised t ls fb i
+  pub instr-poised : DoingI t thread label fb bs i d ls cs o n → Poised t ls fb i
   instr-poised h = record {
     env = h .a .env;
     framed = h .works .framed;
@@ -178,28 +178,28 @@ module _ {t : List ℕ} {thread fb : ℕ} {bs : List ℕ} {i d : ℕ} {ls cs o :
   }
 
   -- in its memory
-  lies : (h : DoingI t thread fb bs i d ls cs o n) → Lies bs cs (h .a .memory)
+  lies : (h : DoingI t thread label fb bs i d ls cs o n) → Lies bs cs (h .a .memory)
   lies h = record { bases = h .works .bases; holds = h .works .holds }
 
-  pub instr-kept : DoingI t thread fb bs i d ls cs o n → Kept bs cs
+  pub instr-kept : DoingI t thread label fb bs i d ls cs o n → Kept bs cs
   instr-kept h = record { memory = h .a .memory; lies = lies h }
 
   module _ {ls₁ : List ℕ} {u : Step} (E : DecidesAll t ls ls₁ fb i (Lies bs cs) u) where
     -- the step that was decided is the instruction
-    fit : (h : DoingI t thread fb bs i d ls cs o n) → Fitting t thread i d (h .j) (h .p) (length (h .a .env)) (h .m) (h .instr) (h .a) u
+    fit : (h : DoingI t thread label fb bs i d ls cs o n) → Fitting t thread label i d (h .j) (h .p) (length (h .a .env)) (h .m) (h .instr) (h .a) u
     unfolding instr-poised
     fit h =
         let k = inner-act (h .m) (h .instr) (h .allowed) in
-        subst (Fitting t thread i d (h .j) (h .p) (length (h .a .env)) (h .m) (h .instr) (h .a))
+        subst (Fitting t thread label i d (h .j) (h .p) (length (h .a .env)) (h .m) (h .instr) (h .a))
         (sym (E .decides .step (instr-poised h) (h .a .memory) (lies h)))
-        (fitting thread (h .a) (h .p) (h .m) (h .instr) (k .0) (k .1) (h .here) (h .named) (h .allowed))
+        (fitting thread label (h .a) (h .p) (h .m) (h .instr) (k .0) (k .1) (h .here) (h .named) (h .allowed))
 
     -- it is carried out
-    as-simple : NoTest u → (h : DoingI t thread fb bs i d ls cs o n) → Simple thread (h .j) (h .instr) (h .a) u
+    as-simple : NoTest u → (h : DoingI t thread label fb bs i d ls cs o n) → Simple thread label (h .j) (h .instr) (h .a) u
     as-simple k h = simple t i d (h .p) (length (h .a .env)) (h .m) u k (fit h)
 
     -- the words of its frame are the same
-    same-words : (h : DoingI t thread fb bs i d ls cs o n) → Beside ls ls₁ (fb + frameWords) (fb + frameWords)
+    same-words : (h : DoingI t thread label fb bs i d ls cs o n) → Beside ls ls₁ (fb + frameWords) (fb + frameWords)
     unfolding instr-poised
     same-words h =
         let k = inner-act (h .m) (h .instr) (h .allowed) in
@@ -208,7 +208,7 @@ module _ {t : List ℕ} {thread fb : ℕ} {bs : List ℕ} {i d : ℕ} {ls cs o :
         rw zero at B
 
     -- all is at work as before
-    works-on : (h : DoingI t thread fb bs i d ls cs o n) → Works fb bs (h .es) ls₁ cs o n (h .a)
+    works-on : (h : DoingI t thread label fb bs i d ls cs o n) → Works fb bs (h .es) ls₁ cs o n (h .a)
     works-on h = record {
       framed = framed-below (same-words h) (omega (arith, h .works .small)) (h .works .framed);
       room = omega (arith, h .works .room, same-words h .long);
@@ -219,11 +219,11 @@ module _ {t : List ℕ} {thread fb : ℕ} {bs : List ℕ} {i d : ℕ} {ls cs o :
     }
 
     -- and of other words only those of the frame
-    frame-only : (h : DoingI t thread fb bs i d ls cs o n) → Beside ls ls₁ fb (fb + frameWords)
+    frame-only : (h : DoingI t thread label fb bs i d ls cs o n) → Beside ls ls₁ fb (fb + frameWords)
     frame-only h = beside-wide (same-words h) (omega arith) (omega arith)
 
     -- it can be carried out
-    pub instr-carrying : NoTest u → DoingI t thread fb bs i d ls cs o n → Carrying fb u ls₁ cs o n
+    pub instr-carrying : NoTest u → DoingI t thread label fb bs i d ls cs o n → Carrying fb u ls₁ cs o n
     instr-carrying k h = record {
       a = h .a;
       bs = bs;
@@ -234,25 +234,25 @@ module _ {t : List ℕ} {thread fb : ℕ} {bs : List ℕ} {i d : ℕ} {ls cs o :
     }
 
     -- it was carried out
-    pub does-carried : {ls′ cs′ o′ : List ℕ} {r : Done} → NoTest u → Carries thread fb u ls₁ cs o n ls′ cs′ o′ r
-        → DoesI t thread fb bs i d ls cs o n ls′ cs′ o′ r
+    pub does-carried : {ls′ cs′ o′ : List ℕ} {r : Done} → NoTest u → Carries thread label fb u ls₁ cs o n ls′ cs′ o′ r
+        → DoesI t thread label fb bs i d ls cs o n ls′ cs′ o′ r
     unfolding instr-carrying
     does-carried {ls′} {cs′} {o′} {r} k C = record {
       does = λ h.
-          let s : Simple thread (h .j) (h .instr) (h .a) u = as-simple k h in
-          let w = ends thread (h .a) u (s .ends) (C .carries (instr-carrying k h) i (past u (s .ends) (instr-inside (h .here) .0))) in
+          let s : Simple thread label (h .j) (h .instr) (h .a) u = as-simple k h in
+          let w = ends thread label (h .a) u (s .ends) (C .carries (instr-carrying k h) i (past u (s .ends) (instr-inside (h .here) .0))) in
           rw (s .same) (wider (frame-only h) (omega arith) w);
     }
 
     -- ---- a test
 
     -- the blocks of its if
-    branching : {q : Bool} {k : ℕ} → u ≡ S.Test q k → (h : DoingI t thread fb bs i d ls cs o n)
-        → Branching t thread i d (h .j) (h .p) (length (h .a .env)) (h .m) (h .instr) (h .a) q k
-    branching e h = subst (Fitting t thread i d (h .j) (h .p) (length (h .a .env)) (h .m) (h .instr) (h .a)) e (fit h)
+    branching : {q : Bool} {k : ℕ} → u ≡ S.Test q k → (h : DoingI t thread label fb bs i d ls cs o n)
+        → Branching t thread label i d (h .j) (h .p) (length (h .a .env)) (h .m) (h .instr) (h .a) q k
+    branching e h = subst (Fitting t thread label i d (h .j) (h .p) (length (h .a .env)) (h .m) (h .instr) (h .a)) e (fit h)
 
     -- its first block is to be done
-    pub doing-then : {q : Bool} {k : ℕ} → u ≡ S.Test q k → q ≡ true → DoingI t thread fb bs i d ls cs o n → Doing t thread fb bs k d ls₁ cs o n
+    pub doing-then : {q : Bool} {k : ℕ} → u ≡ S.Test q k → q ≡ true → DoingI t thread label fb bs i d ls cs o n → Doing t thread label fb bs k d ls₁ cs o n
     doing-then e f h =
         let b = branching (told e f) h in
         record {
@@ -271,13 +271,13 @@ module _ {t : List ℕ} {thread fb : ℕ} {bs : List ℕ} {i d : ℕ} {ls cs o :
 
     -- the second follows it
     pub then-after : {q : Bool} {k e m : ℕ} {ls′ cs′ o′ : List ℕ} {r : Done} → u ≡ S.Test q k → q ≡ true
-        → Does t thread fb bs k d ls₁ cs o n ls′ cs′ o′ r → r ≡ To e m → DoingI t thread fb bs i d ls cs o n → BlockIn t e d
+        → Does t thread label fb bs k d ls₁ cs o n ls′ cs′ o′ r → r ≡ To e m → DoingI t thread label fb bs i d ls cs o n → BlockIn t e d
     unfolding doing-then
     then-after e f D r h = rw (came r (D .does (doing-then e f h)) .ends) (plain-in (branching (told e f) h .second))
 
     -- the first block blocks
     pub does-then-blocked : {q : Bool} {k : ℕ} {ls′ cs′ o′ : List ℕ} {r : Done} → u ≡ S.Test q k → q ≡ true
-        → Does t thread fb bs k d ls₁ cs o n ls′ cs′ o′ r → Stopped r → DoesI t thread fb bs i d ls cs o n ls′ cs′ o′ r
+        → Does t thread label fb bs k d ls₁ cs o n ls′ cs′ o′ r → Stopped r → DoesI t thread label fb bs i d ls cs o n ls′ cs′ o′ r
     unfolding doing-then
     does-then-blocked {r = r} e f D z = record {
       does = λ h.
@@ -287,8 +287,8 @@ module _ {t : List ℕ} {thread fb : ℕ} {bs : List ℕ} {i d : ℕ} {ls cs o :
 
     -- the first block is done, and the second passed over
     pub does-then : {q : Bool} {k e m : ℕ} {ls′ cs′ o′ : List ℕ} {r : Done} {c : Counted} → u ≡ S.Test q k → q ≡ true
-        → Does t thread fb bs k d ls₁ cs o n ls′ cs′ o′ r
-        → r ≡ To e m → CountsBlock t e d c → DoesI t thread fb bs i d ls cs o n ls′ cs′ o′ (To (c .next) m)
+        → Does t thread label fb bs k d ls₁ cs o n ls′ cs′ o′ r
+        → r ≡ To e m → CountsBlock t e d c → DoesI t thread label fb bs i d ls cs o n ls′ cs′ o′ (To (c .next) m)
     unfolding doing-then
     does-then {k = k} {e} {m} {c = c} g f D r C = record {
       does = λ h.
@@ -304,12 +304,12 @@ module _ {t : List ℕ} {thread fb : ℕ} {bs : List ℕ} {i d : ℕ} {ls cs o :
     }
 
     -- the first block is to be passed over
-    pub else-before : {q : Bool} {k : ℕ} → u ≡ S.Test q k → q ≡ false → DoingI t thread fb bs i d ls cs o n → BlockIn t k d
+    pub else-before : {q : Bool} {k : ℕ} → u ≡ S.Test q k → q ≡ false → DoingI t thread label fb bs i d ls cs o n → BlockIn t k d
     else-before e f h = plain-in (branching (told e f) h .first)
 
     -- the second is to be done
-    pub doing-else : {q : Bool} {k : ℕ} {c : Counted} → u ≡ S.Test q k → q ≡ false → CountsBlock t k d c → DoingI t thread fb bs i d ls cs o n
-        → Doing t thread fb bs (c .next) d ls₁ cs o n
+    pub doing-else : {q : Bool} {k : ℕ} {c : Counted} → u ≡ S.Test q k → q ≡ false → CountsBlock t k d c → DoingI t thread label fb bs i d ls cs o n
+        → Doing t thread label fb bs (c .next) d ls₁ cs o n
     doing-else e f C h =
         let b = branching (told e f) h in
         record {
@@ -328,7 +328,7 @@ module _ {t : List ℕ} {thread fb : ℕ} {bs : List ℕ} {i d : ℕ} {ls cs o :
 
     -- the second is done
     pub does-else : {q : Bool} {k : ℕ} {c : Counted} {ls′ cs′ o′ : List ℕ} {r : Done} → u ≡ S.Test q k → q ≡ false → CountsBlock t k d c
-        → Does t thread fb bs (c .next) d ls₁ cs o n ls′ cs′ o′ r → DoesI t thread fb bs i d ls cs o n ls′ cs′ o′ r
+        → Does t thread label fb bs (c .next) d ls₁ cs o n ls′ cs′ o′ r → DoesI t thread label fb bs i d ls cs o n ls′ cs′ o′ r
     unfolding doing-else
     does-else {c = c} e f C D = record {
       does = λ h.

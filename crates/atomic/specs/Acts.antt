@@ -14,8 +14,8 @@ use Rattle.semantics.specs.Threads.{Atomic}
 abbrev pub within : ℕ → Here
 within m = record { kind = concurrent; proc = m; inside = true }
 
--- by thread t, from these locals, memory and events
-module _ (t : ℕ) where
+-- by thread t, in the block of a label, from these locals, memory and events
+module _ (t label : ℕ) where
   abbrev mutual
     -- an instruction
     pub actI : Instr ℕ → Atomic → Try Atomic
@@ -31,7 +31,7 @@ module _ (t : ℕ) where
         has (record {
           env = a .env;
           memory = stored (a .memory) l i v;
-          events = a .events ++ (record { thread = t; way = writing; place = l; index = i; value = v } ∷ []);
+          events = a .events ++ (record { thread = t; way = writing; place = l; index = i; value = v; label = label } ∷ []);
         })
     actI (read x y o) a =
         eval (a .env) o ⟫ number ⟫ λ z.
@@ -41,7 +41,7 @@ module _ (t : ℕ) where
         has (record {
           env = bound (a .env) x v;
           memory = a .memory;
-          events = a .events ++ (record { thread = t; way = reading; place = l; index = i; value = v } ∷ []);
+          events = a .events ++ (record { thread = t; way = reading; place = l; index = i; value = v; label = label } ∷ []);
         })
     actI (if e b d) a = eval (a .env) e ⟫ truth ⟫ λ q. elim q [ true ↦ act b a | false ↦ act d a ]
     actI (while e b) a = lacks WrongKind

@@ -48,23 +48,23 @@ pub data Went (fb i j : ℕ) (bs es ls : List ℕ) (n X : ℕ) (ls′ cs′ o′
 -- ---- a step that was decided
 
 -- it is carried out
-abbrev pub carried : ℕ → Step → Atomic → Try Atomic
-carried t (S.Assign x v j) a = has (record { env = bound (a .env) x v; memory = a .memory; events = a .events })
-carried t (S.Read x l i v j) a = has (record {
+abbrev pub carried : ℕ → ℕ → Step → Atomic → Try Atomic
+carried t label (S.Assign x v j) a = has (record { env = bound (a .env) x v; memory = a .memory; events = a .events })
+carried t label (S.Read x l i v j) a = has (record {
   env = bound (a .env) x v;
   memory = a .memory;
-  events = a .events ++ (record { thread = t; way = reading; place = l; index = i; value = v } ∷ []);
+  events = a .events ++ (record { thread = t; way = reading; place = l; index = i; value = v; label = label } ∷ []);
 })
-carried t (S.Write l i k v j) a = has (record {
+carried t label (S.Write l i k v j) a = has (record {
   env = a .env;
   memory = stored (a .memory) l i v;
-  events = a .events ++ (record { thread = t; way = writing; place = l; index = i; value = v } ∷ []);
+  events = a .events ++ (record { thread = t; way = writing; place = l; index = i; value = v; label = label } ∷ []);
 })
-carried t S.Return a = lacks WrongKind
-carried t (S.Test q j) a = lacks WrongKind
-carried t (S.Call m j) a = lacks WrongKind
-carried t (S.Select k u j) a = lacks WrongKind
-carried t (S.Blocked q) a = lacks q
+carried t label S.Return a = lacks WrongKind
+carried t label (S.Test q j) a = lacks WrongKind
+carried t label (S.Call m j) a = lacks WrongKind
+carried t label (S.Select k u j) a = lacks WrongKind
+carried t label (S.Blocked q) a = lacks q
 
 -- its local or its cell is there
 abbrev pub StepFits : Atomic → Step → Type 0
@@ -109,9 +109,9 @@ pub record Carrying (fb : ℕ) (s : Step) (ls cs o : List ℕ) (n : ℕ) : Type 
   pub few : n + 1 < 2 ^ 64
 
 -- it was
-pub record Carries (thread fb : ℕ) (s : Step) (ls cs o : List ℕ) (n : ℕ) (ls′ cs′ o′ : List ℕ) (r : Done) : Type 0 where
+pub record Carries (thread label fb : ℕ) (s : Step) (ls cs o : List ℕ) (n : ℕ) (ls′ cs′ o′ : List ℕ) (r : Done) : Type 0 where
   pub carries : (h : Carrying fb s ls cs o n) (i : ℕ) → Past i s
-      → Went fb i (endOf s) (h .bs) (h .es) ls n (length (h .a .env)) ls′ cs′ o′ (carried thread s (h .a)) r
+      → Went fb i (endOf s) (h .bs) (h .es) ls n (length (h .a .env)) ls′ cs′ o′ (carried thread label s (h .a)) r
   pub still : (q : Reason) → r ≡ Blocked q → (ls′ ≡ ls) × (cs′ ≡ cs) × (o′ ≡ o)
 
 -- ---- a block
@@ -120,7 +120,7 @@ pub record Carries (thread fb : ℕ) (s : Step) (ls cs o : List ℕ) (n : ℕ) (
 pub record Copies (ls : List ℕ) (fb n : ℕ) (ws : List ℕ) : Type 0 where
   pub each : (k : ℕ) → k < n → getD ws k 0 ≡ getD ls (fb + k) 0
 
-module _ (t : List ℕ) (thread fb : ℕ) (bs : List ℕ) where
+module _ (t : List ℕ) (thread label fb : ℕ) (bs : List ℕ) where
   -- an instruction stands at i
   pub record DoingI (i d : ℕ) (ls cs o : List ℕ) (n : ℕ) : Type 0 where
     pub a : Atomic
@@ -151,11 +151,11 @@ module _ (t : List ℕ) (thread fb : ℕ) (bs : List ℕ) where
 
   -- the instruction is done
   pub record DoesI (i d : ℕ) (ls cs o : List ℕ) (n : ℕ) (ls′ cs′ o′ : List ℕ) (r : Done) : Type 0 where
-    pub does : (h : DoingI i d ls cs o n) → Went fb i (h .j) bs (h .es) ls n (length (h .a .env)) ls′ cs′ o′ (actI thread (h .instr) (h .a)) r
+    pub does : (h : DoingI i d ls cs o n) → Went fb i (h .j) bs (h .es) ls n (length (h .a .env)) ls′ cs′ o′ (actI thread label (h .instr) (h .a)) r
 
   -- the block is done
   pub record Does (i d : ℕ) (ls cs o : List ℕ) (n : ℕ) (ls′ cs′ o′ : List ℕ) (r : Done) : Type 0 where
-    pub does : (h : Doing i d ls cs o n) → Went fb i (h .j) bs (h .es) ls n (length (h .a .env)) ls′ cs′ o′ (act thread (h .block) (h .a)) r
+    pub does : (h : Doing i d ls cs o n) → Went fb i (h .j) bs (h .es) ls n (length (h .a .env)) ls′ cs′ o′ (act thread label (h .block) (h .a)) r
 
   -- the block is done as a whole: where it blocks, all is as before
   pub record DoesWhole (i d : ℕ) (ls cs o : List ℕ) (n : ℕ) (ls′ cs′ o′ : List ℕ) (r : Done) : Type 0 where

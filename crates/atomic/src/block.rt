@@ -25,10 +25,11 @@ pub enum Done {
     Blocked(Reason),
 }
 
-// Carries out an assignment, a read or a write that was decided.
+// Carries out an assignment, a read or a write that was decided, of a step with this label.
 pub fn carry_out(
     step: Step,
     thread: u8,
+    label: usize,
     base: usize,
     words: &mut [u64],
     cells: &mut [u64],
@@ -36,7 +37,7 @@ pub fn carry_out(
     count: usize,
 ) -> Done
     requires { ⌜ Carrying base step (now words) (now cells) (now events) count ⌝ }
-    ensures { λ r. ⌜ Carries thread base step (now (words .entry)) (now (cells .entry)) (now (events .entry)) count
+    ensures { λ r. ⌜ Carries thread label base step (now (words .entry)) (now (cells .entry)) (now (events .entry)) count
         (now (words .exit)) (now (cells .exit)) (now (events .exit)) r ⌝ }
 {
     match step {
@@ -64,6 +65,7 @@ pub fn carry_out(
                     location,
                     index,
                     value,
+                    label,
                 },
             );
             Done::To {
@@ -88,6 +90,7 @@ pub fn carry_out(
                     location,
                     index,
                     value,
+                    label,
                 },
             );
             Done::To {
@@ -107,6 +110,7 @@ fn do_block(
     at: usize,
     depth: u8,
     thread: u8,
+    label: usize,
     base: usize,
     starts: &[u32; STARTS],
     words: &mut [u64],
@@ -114,8 +118,8 @@ fn do_block(
     events: &mut [u8],
     count: usize,
 ) -> Done
-    requires { ⌜ Doing (now t) thread base (now starts) at depth (now words) (now cells) (now events) count ⌝ }
-    ensures { λ r. ⌜ Does (now (t .entry)) thread base (now (starts .entry)) at depth
+    requires { ⌜ Doing (now t) thread label base (now starts) at depth (now words) (now cells) (now events) count ⌝ }
+    ensures { λ r. ⌜ Does (now (t .entry)) thread label base (now (starts .entry)) at depth
         (now (words .entry)) (now (cells .entry)) (now (events .entry)) count
         (now (words .exit)) (now (cells .exit)) (now (events .exit)) r ⌝ }
 {
@@ -127,6 +131,7 @@ fn do_block(
             i,
             depth - 1,
             thread,
+            label,
             base,
             starts,
             words,
@@ -152,6 +157,7 @@ fn do_instr(
     at: usize,
     depth: u8,
     thread: u8,
+    label: usize,
     base: usize,
     starts: &[u32; STARTS],
     words: &mut [u64],
@@ -159,8 +165,8 @@ fn do_instr(
     events: &mut [u8],
     count: usize,
 ) -> Done
-    requires { ⌜ DoingI (now t) thread base (now starts) at depth (now words) (now cells) (now events) count ⌝ }
-    ensures { λ r. ⌜ DoesI (now (t .entry)) thread base (now (starts .entry)) at depth
+    requires { ⌜ DoingI (now t) thread label base (now starts) at depth (now words) (now cells) (now events) count ⌝ }
+    ensures { λ r. ⌜ DoesI (now (t .entry)) thread label base (now (starts .entry)) at depth
         (now (words .entry)) (now (cells .entry)) (now (events .entry)) count
         (now (words .exit)) (now (cells .exit)) (now (events .exit)) r ⌝ }
 {
@@ -172,6 +178,7 @@ fn do_instr(
                 next,
                 depth,
                 thread,
+                label,
                 base,
                 starts,
                 words,
@@ -197,6 +204,7 @@ fn do_instr(
             no,
             depth,
             thread,
+            label,
             base,
             starts,
             words,
@@ -205,7 +213,7 @@ fn do_instr(
             count,
         );
     }
-    carry_out(step, thread, base, words, cells, events, count)
+    carry_out(step, thread, label, base, words, cells, events, count)
 }
 
 // The words of a frame on which a block is tried, and of one above it.
@@ -228,6 +236,7 @@ fn do_all(
     t: &[u8],
     at: usize,
     thread: u8,
+    label: usize,
     base: usize,
     starts: &[u32; STARTS],
     words: &mut [u64],
@@ -235,8 +244,8 @@ fn do_all(
     events: &mut [u8],
     count: usize,
 ) -> Done
-    requires { ⌜ Doing (now t) thread base (now starts) at maxNesting (now words) (now cells) (now events) count ⌝ }
-    ensures { λ r. ⌜ Does (now (t .entry)) thread base (now (starts .entry)) at maxNesting
+    requires { ⌜ Doing (now t) thread label base (now starts) at maxNesting (now words) (now cells) (now events) count ⌝ }
+    ensures { λ r. ⌜ Does (now (t .entry)) thread label base (now (starts .entry)) at maxNesting
         (now (words .entry)) (now (cells .entry)) (now (events .entry)) count
         (now (words .exit)) (now (cells .exit)) (now (events .exit)) r ⌝ }
 {
@@ -245,6 +254,7 @@ fn do_all(
         at,
         NESTING,
         thread,
+        label,
         base,
         starts,
         words,
@@ -255,11 +265,12 @@ fn do_all(
 }
 
 // A whole atomic block. "The state stays as before the step, and no event of that step is written or counted" where it blocks: it is
-// tried first on copies of its frame's words and of the cells, with no room for events.
+// tried first on copies of its frame's words and of the cells, with no room for events. Events inside have the block's label.
 pub fn do_atomic(
     t: &[u8],
     at: usize,
     thread: u8,
+    label: usize,
     base: usize,
     starts: &[u32; STARTS],
     words: &mut [u64],
@@ -267,8 +278,8 @@ pub fn do_atomic(
     events: &mut [u8],
     count: usize,
 ) -> Done
-    requires { ⌜ Doing (now t) thread base (now starts) at maxNesting (now words) (now cells) (now events) count ⌝ }
-    ensures { λ r. ⌜ DoesWhole (now (t .entry)) thread base (now (starts .entry)) at maxNesting
+    requires { ⌜ Doing (now t) thread label base (now starts) at maxNesting (now words) (now cells) (now events) count ⌝ }
+    ensures { λ r. ⌜ DoesWhole (now (t .entry)) thread label base (now (starts .entry)) at maxNesting
         (now (words .entry)) (now (cells .entry)) (now (events .entry)) count
         (now (words .exit)) (now (cells .exit)) (now (events .exit)) r ⌝ }
 {
@@ -280,6 +291,7 @@ pub fn do_atomic(
         t,
         at,
         thread,
+        label,
         0,
         starts,
         &mut copy,
@@ -290,5 +302,16 @@ pub fn do_atomic(
     if let Done::Blocked(_) = tried {
         return tried;
     }
-    do_all(t, at, thread, base, starts, words, cells, events, count)
+    do_all(
+        t,
+        at,
+        thread,
+        label,
+        base,
+        starts,
+        words,
+        cells,
+        events,
+        count,
+    )
 }

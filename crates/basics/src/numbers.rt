@@ -73,8 +73,8 @@ pub const FORM_MARK: u8 = 0x50;
 // "5 bytes a cell".
 pub const CELL: usize = 5;
 
-// "An event is 11 bytes".
-pub const EVENT: usize = 11;
+// An event: "The event record becomes 13 bytes".
+pub const EVENT: usize = 13;
 
 // The marks of an expression that code asks for or writes: a whole number, a location, false, true, a local, equal, and, not.
 pub const WHOLE: u8 = 0x01;

@@ -60,7 +60,7 @@ const PRICES: u8 = 8;
 const GREETING: u8 = 90;
 
 // One more whenever a request, or a line that answers one, changes its form. `zaru/engine.py` and `second/src/batch.rs` have it too.
-const VERSION: u64 = 4;
+const VERSION: u64 = 5;
 
 // What is asked for, beside the table and the schedule.
 struct Request {

@@ -134,12 +134,13 @@ module _ {t map bounds ss : List ℕ} {thread : ℕ} {labels depths ls cs o : Li
 
   -- the frame of number k takes a turn
   turn-at : (h : Stepping t map bounds ss thread labels depths ls cs o n) (u : Uppermost h) (k : ℕ) → k ≡ threadFrames * thread + length (u .below)
-      → Turning t thread (frameWords * k) ss (getD map (4 * getD labels k 0) 0) ls cs o n
+      → Turning t thread (getD labels k 0) (frameWords * k) ss (getD map (4 * getD labels k 0) 0) ls cs o n
   turn-at h u k e = record {
     p = h .loaded .program;
     m = u .frame .proc;
     c = u .frame .code;
     stands = rw e (u .label .stands);
+    here = rw e (u .here .label);
     a = handOf h u;
     es = h .lent;
     works = record {
@@ -157,7 +158,7 @@ module _ {t map bounds ss : List ℕ} {thread : ℕ} {labels depths ls cs o : Li
 
   -- the uppermost one does
   pub step-turning : Stepping t map bounds ss thread labels depths ls cs o n → (getD depths thread 0 ≡ 0 → ⊥)
-      → Turning t thread (frameWords * topOf thread depths) ss (getD map (4 * getD labels (topOf thread depths) 0) 0) ls cs o n
+      → Turning t thread (getD labels (topOf thread depths) 0) (frameWords * topOf thread depths) ss (getD map (4 * getD labels (topOf thread depths) 0) 0) ls cs o n
   step-turning h z = turn-at h (uppermost h z) (topOf thread depths) (uppermost h z .top)
 
 -- ---- what each turn is worth
@@ -353,12 +354,12 @@ module _ {t map bounds ss : List ℕ} {thread : ℕ} {labels depths ls cs o : Li
       none h (f ∷ s) e = absurd (omega (arith, h .present .threads .each thread (f ∷ s) e .depth, z))
 
   module _ {ls′ cs′ o′ : List ℕ} {turn : Turn} (z : getD depths thread 0 ≡ 0 → ⊥)
-      (T : Turns t thread (frameWords * topOf thread depths) ss (getD map (4 * getD labels (topOf thread depths) 0) 0) ls cs o n
+      (T : Turns t thread (getD labels (topOf thread depths) 0) (frameWords * topOf thread depths) ss (getD map (4 * getD labels (topOf thread depths) 0) 0) ls cs o n
       ls′ cs′ o′ turn) where
     -- the turn of the uppermost frame
     turned : (h : Stepping t map bounds ss thread labels depths ls cs o n) (u : Uppermost h)
-        → Turns t thread (frameWords * top h u) ss (getD map (4 * getD labels (top h u) 0) 0) ls cs o n ls′ cs′ o′ turn
-    turned h u = subst (λ k. Turns t thread (frameWords * k) ss (getD map (4 * getD labels k 0) 0) ls cs o n ls′ cs′ o′ turn) (u .top) T
+        → Turns t thread (getD labels (top h u) 0) (frameWords * top h u) ss (getD map (4 * getD labels (top h u) 0) 0) ls cs o n ls′ cs′ o′ turn
+    turned h u = subst (λ k. Turns t thread (getD labels k 0) (frameWords * k) ss (getD map (4 * getD labels k 0) 0) ls cs o n ls′ cs′ o′ turn) (u .top) T
 
     -- what it answers
     answers : (h : Stepping t map bounds ss thread labels depths ls cs o n) (u : Uppermost h)

@@ -100,38 +100,38 @@ call-count t i n returns j h e = missing e
 abbrev Plainly : Step → Type 0
 Plainly u = OneOf (1 ∷ 2 ∷ 3 ∷ 6 ∷ 7 ∷ []) (tagOf the-type u)
 
-module _ {t : List ℕ} {thread fb : ℕ} {bs : List ℕ} {i : ℕ} {ls cs o : List ℕ} {n : ℕ} where
+module _ {t : List ℕ} {thread label fb : ℕ} {bs : List ℕ} {i : ℕ} {ls cs o : List ℕ} {n : ℕ} where
   -- such a step that was carried out
-  record Carried (h : Turning t thread fb bs i ls cs o n) (tag : ℕ) (instr : Instr ℕ) (rest : Block ℕ) (u : Step) (b : Atomic) : Type 0 where
+  record Carried (h : Turning t thread label fb bs i ls cs o n) (tag : ℕ) (instr : Instr ℕ) (rest : Block ℕ) (u : Step) (b : Atomic) : Type 0 where
     pub new : List Event
     pub log : b .events ≡ h .a .events ++ new
-    pub code : (s : Stack ℕ) → D.carried (labelled (h .p) .procs) thread (h .m) (h .a .env) tag instr rest s (h .a .memory) u
+    pub code : (s : Stack ℕ) → D.carried (labelled (h .p) .procs) thread label (h .m) (h .a .env) tag instr rest s (h .a .memory) u
         ≡ has (record { stack = record { proc = h .m; env = b .env; code = rest } ∷ s; memory = b .memory; events = new })
     pub begins : h .c ≡ step tag instr rest
-    pub label : first (endsOf (h .p) (h .m)) rest ≡ Map.next (endsOf (h .p) (h .m)) (step tag instr rest)
+    pub leads : first (endsOf (h .p) (h .m)) rest ≡ Map.next (endsOf (h .p) (h .m)) (step tag instr rest)
 
-  carried-is : (h : Turning t thread fb bs i ls cs o n) (tag : ℕ) (instr : Instr ℕ) (rest : Block ℕ) (u : Step) {b : Atomic}
-      → Means h tag instr rest u → carried thread u (h .a) ≡ has b → Carried h tag instr rest u b
+  carried-is : (h : Turning t thread label fb bs i ls cs o n) (tag : ℕ) (instr : Instr ℕ) (rest : Block ℕ) (u : Step) {b : Atomic}
+      → Means h tag instr rest u → carried thread label u (h .a) ≡ has b → Carried h tag instr rest u b
   carried-is h tag instr rest (S.Assign x v j) m e = rw (← has-inj e) (record {
     new = [];
     log = sym (append-nil (h .a .events));
     code = λ s. refl;
     begins = m .0;
-    label = m .1;
+    leads = m .1;
   })
   carried-is h tag instr rest (S.Read x l k v j) m e = rw (← has-inj e) (record {
     new = _;
     log = refl;
     code = λ s. refl;
     begins = m .0;
-    label = m .1;
+    leads = m .1;
   })
   carried-is h tag instr rest (S.Write l k d v j) m e = rw (← has-inj e) (record {
     new = _;
     log = refl;
     code = λ s. refl;
     begins = m .0;
-    label = m .1;
+    leads = m .1;
   })
   carried-is h tag instr rest (S.Test q j) m e = lacking e
   carried-is h tag instr rest (S.Call q j) m e = lacking e
@@ -140,9 +140,9 @@ module _ {t : List ℕ} {thread fb : ℕ} {bs : List ℕ} {i : ℕ} {ls cs o : L
   carried-is h tag instr rest (S.Blocked why) m e = lacking e
 
   -- and one that was not
-  carried-none : (h : Turning t thread fb bs i ls cs o n) (tag : ℕ) (instr : Instr ℕ) (rest : Block ℕ) (u : Step) → Plainly u
-      → {why : Reason} → carried thread u (h .a) ≡ lacks why → (s : Stack ℕ)
-      → D.carried (labelled (h .p) .procs) thread (h .m) (h .a .env) tag instr rest s (h .a .memory) u ≡ lacks why
+  carried-none : (h : Turning t thread label fb bs i ls cs o n) (tag : ℕ) (instr : Instr ℕ) (rest : Block ℕ) (u : Step) → Plainly u
+      → {why : Reason} → carried thread label u (h .a) ≡ lacks why → (s : Stack ℕ)
+      → D.carried (labelled (h .p) .procs) thread label (h .m) (h .a .env) tag instr rest s (h .a .memory) u ≡ lacks why
   carried-none h tag instr rest (S.Assign x v j) k e s = lacking (sym e)
   carried-none h tag instr rest (S.Read x l z v j) k e s = lacking (sym e)
   carried-none h tag instr rest (S.Write l z d v j) k e s = lacking (sym e)
@@ -154,7 +154,7 @@ module _ {t : List ℕ} {thread fb : ℕ} {bs : List ℕ} {i : ℕ} {ls cs o : L
 
   module _ (y : getD t i 0 ≡ 0x26 → ⊥) where
     -- it can be decided
-    pub turn-poised : Turning t thread fb bs i ls cs o n → Poised t ls fb i
+    pub turn-poised : Turning t thread label fb bs i ls cs o n → Poised t ls fb i
     turn-poised h =
         let q = asked h y in
         record {
@@ -168,44 +168,44 @@ module _ {t : List ℕ} {thread fb : ℕ} {bs : List ℕ} {i : ℕ} {ls cs o : L
         }
 
     -- in its memory
-    turn-lies : (h : Turning t thread fb bs i ls cs o n) → Lies bs cs (h .a .memory)
+    turn-lies : (h : Turning t thread label fb bs i ls cs o n) → Lies bs cs (h .a .memory)
     turn-lies h = record { bases = h .works .bases; holds = h .works .holds }
 
-    pub turn-kept : Turning t thread fb bs i ls cs o n → Kept bs cs
+    pub turn-kept : Turning t thread label fb bs i ls cs o n → Kept bs cs
     turn-kept h = record { memory = h .a .memory; lies = turn-lies h }
 
     -- what a step does with the code
-    abbrev acted : Turning t thread fb bs i ls cs o n → Stack ℕ → Step → Try (Moved ℕ)
+    abbrev acted : Turning t thread label fb bs i ls cs o n → Stack ℕ → Step → Try (Moved ℕ)
     acted h s =
-        D.carried (labelled (h .p) .procs) thread (h .m) (h .a .env) (asked h y .tag) (asked h y .instr) (asked h y .rest) s (h .a .memory)
+        D.carried (labelled (h .p) .procs) thread label (h .m) (h .a .env) (asked h y .tag) (asked h y .instr) (asked h y .rest) s (h .a .memory)
 
     module _ {ls₁ : List ℕ} {u : Step} (E : DecidesAll t ls ls₁ fb i (Lies bs cs) u) where
       -- what the step is
-      this : (h : Turning t thread fb bs i ls cs o n) → u ≡ decided (h .a .env) (h .a .memory) (asked h y .act) (asked h y .j)
+      this : (h : Turning t thread label fb bs i ls cs o n) → u ≡ decided (h .a .env) (h .a .memory) (asked h y .act) (asked h y .j)
       unfolding turn-poised
       this h = E .decides .step (turn-poised h) (h .a .memory) (turn-lies h)
 
       -- what it means
-      meaning : (h : Turning t thread fb bs i ls cs o n) → Means h (asked h y .tag) (asked h y .instr) (asked h y .rest) u
+      meaning : (h : Turning t thread label fb bs i ls cs o n) → Means h (asked h y .tag) (asked h y .instr) (asked h y .rest) u
       meaning h = subst (Means h (asked h y .tag) (asked h y .instr) (asked h y .rest)) (sym (this h)) (asked h y .means)
 
       -- what is so
-      right : (h : Turning t thread fb bs i ls cs o n) → Right (h .a .env) (h .a .memory) (asked h y .act) (asked h y .j) u
+      right : (h : Turning t thread label fb bs i ls cs o n) → Right (h .a .env) (h .a .memory) (asked h y .act) (asked h y .j) u
       right h =
           subst (Right (h .a .env) (h .a .memory) (asked h y .act) (asked h y .j)) (sym (this h))
           (decided-right (h .a .env) (h .a .memory) (asked h y .act) (asked h y .j))
 
       -- what the code does
-      doing : (h : Turning t thread fb bs i ls cs o n) (s : Stack ℕ) → codeOf (h .p) thread (h .m) (h .c) (h .a) s ≡ acted h s u
+      doing : (h : Turning t thread label fb bs i ls cs o n) (s : Stack ℕ) → codeOf (h .p) thread (h .m) (h .c) (h .a) s ≡ acted h s u
       doing h s = asked h y .code s ∙ ap (acted h s) (sym (this h))
 
       -- only words of the frame above are others
-      above : (h : Turning t thread fb bs i ls cs o n) → Beside ls ls₁ (fb + frameWords) (fb + frameWords + frameWords)
+      above : (h : Turning t thread label fb bs i ls cs o n) → Beside ls ls₁ (fb + frameWords) (fb + frameWords + frameWords)
       unfolding turn-poised
       above h = beside-wide (E .passes .beside (turn-poised h)) (omega arith) (omega (arith, asked h y .few))
 
       -- all is at work as before
-      working : (h : Turning t thread fb bs i ls cs o n) → Works fb bs (h .es) ls₁ cs o n (h .a)
+      working : (h : Turning t thread label fb bs i ls cs o n) → Works fb bs (h .es) ls₁ cs o n (h .a)
       working h = record {
         framed = framed-below (above h) (omega (arith, h .works .small)) (h .works .framed);
         room = omega (arith, h .works .room, above h .long);
@@ -216,7 +216,7 @@ module _ {t : List ℕ} {thread fb : ℕ} {bs : List ℕ} {i : ℕ} {ls cs o : L
       }
 
       -- a return
-      pub turns-return : u ≡ S.Return → Turns t thread fb bs i ls cs o n ls₁ cs o T.Return
+      pub turns-return : u ≡ S.Return → Turns t thread label fb bs i ls cs o n ls₁ cs o T.Return
       turns-return e = record {
         beside = λ h. beside-wide (above h) (omega arith) (omega arith);
         answers = λ h. record {
@@ -226,7 +226,7 @@ module _ {t : List ℕ} {thread fb : ℕ} {bs : List ℕ} {i : ℕ} {ls cs o : L
       }
 
       -- a test
-      pub turns-test : {q : Bool} {k : ℕ} → u ≡ S.Test q k → Turns t thread fb bs i ls cs o n ls₁ cs o (T.Test q)
+      pub turns-test : {q : Bool} {k : ℕ} → u ≡ S.Test q k → Turns t thread label fb bs i ls cs o n ls₁ cs o (T.Test q)
       turns-test {q} e = record {
         beside = λ h. beside-wide (above h) (omega arith) (omega arith);
         answers = λ h.
@@ -244,27 +244,27 @@ module _ {t : List ℕ} {thread fb : ℕ} {bs : List ℕ} {i : ℕ} {ls cs o : L
       }
 
       -- a call: its count of arguments stands there
-      call-here : {q k : ℕ} → u ≡ S.Call q k → (h : Turning t thread fb bs i ls cs o n)
+      call-here : {q k : ℕ} → u ≡ S.Call q k → (h : Turning t thread label fb bs i ls cs o n)
           → (i + 4 ≤ length t) × (getD t (i + 3) 0 ≡ length (argsOf (asked h y .act)))
       call-here e h =
           let r = subst (Right (h .a .env) (h .a .memory) (asked h y .act) (asked h y .j)) e (right h) in
           call-count t i (length (h .a .env)) (asked h y .act) (asked h y .j) (asked h y .here) (r .1)
 
-      pub call-byte : {q k : ℕ} → u ≡ S.Call q k → Turning t thread fb bs i ls cs o n → i + 3 < length t
+      pub call-byte : {q k : ℕ} → u ≡ S.Call q k → Turning t thread label fb bs i ls cs o n → i + 3 < length t
       call-byte e h = omega (arith, call-here e h)
 
       -- there is room for its locals
-      pub call-room : {q k b : ℕ} → u ≡ S.Call q k → b ≡ getD t (i + 3) 0 → Turning t thread fb bs i ls cs o n
+      pub call-room : {q k b : ℕ} → u ≡ S.Call q k → b ≡ getD t (i + 3) 0 → Turning t thread label fb bs i ls cs o n
           → fb + frameWords + b ≤ fb + frameWords + frameWords
       call-room e f h = omega (arith, call-here e h, asked h y .few)
 
       -- and a frame above
-      pub call-above : {q k : ℕ} → u ≡ S.Call q k → Turning t thread fb bs i ls cs o n → fb + frameWords + frameWords ≤ length ls₁
+      pub call-above : {q k : ℕ} → u ≡ S.Call q k → Turning t thread label fb bs i ls cs o n → fb + frameWords + frameWords ≤ length ls₁
       call-above e h = omega (arith, h .works .room, above h .long)
 
       -- those that are no arguments are not set
       pub turns-call : {q k b : ℕ} {ls₂ : List ℕ} → u ≡ S.Call q k → b ≡ getD t (i + 3) 0
-          → Clears ls₁ ls₂ (fb + frameWords + b) (fb + frameWords + frameWords) → Turns t thread fb bs i ls cs o n ls₂ cs o (T.Call q)
+          → Clears ls₁ ls₂ (fb + frameWords + b) (fb + frameWords + frameWords) → Turns t thread label fb bs i ls cs o n ls₂ cs o (T.Call q)
       unfolding turn-poised
       turns-call {q} {k} {b} {ls₂} e f C = record {
         beside = λ h. beside-wide (beside-again (above h) (cleared h)) (omega arith) (omega arith);
@@ -298,17 +298,17 @@ module _ {t : List ℕ} {thread fb : ℕ} {bs : List ℕ} {i : ℕ} {ls cs o : L
             };
       }
         where
-          cleared : Turning t thread fb bs i ls cs o n → Beside ls₁ ls₂ (fb + frameWords) (fb + frameWords + frameWords)
+          cleared : Turning t thread label fb bs i ls cs o n → Beside ls₁ ls₂ (fb + frameWords) (fb + frameWords + frameWords)
           cleared h = beside-wide (C .beside) (omega arith) (omega arith)
 
-          count : (h : Turning t thread fb bs i ls cs o n) (vs : List Value) → evals (h .a .env) (argsOf (asked h y .act)) ≡ has vs
+          count : (h : Turning t thread label fb bs i ls cs o n) (vs : List Value) → evals (h .a .env) (argsOf (asked h y .act)) ≡ has vs
               → Clears ls₁ ls₂ (fb + frameWords + length vs) (fb + frameWords + frameWords)
           count h vs g =
               let same : b ≡ length vs = f ∙ call-here e h .1 ∙ sym (evals-length (h .a .env) (argsOf (asked h y .act)) g) in
               rw same at C
 
       -- a step that can be carried out
-      pub turn-carrying : Turning t thread fb bs i ls cs o n → Carrying fb u ls₁ cs o n
+      pub turn-carrying : Turning t thread label fb bs i ls cs o n → Carrying fb u ls₁ cs o n
       turn-carrying h = record {
         a = h .a;
         bs = bs;
@@ -318,17 +318,17 @@ module _ {t : List ℕ} {thread fb : ℕ} {bs : List ℕ} {i : ℕ} {ls cs o : L
         few = omega (arith, h .few, turn-inside h);
       }
 
-      module _ {ls′ cs′ o′ : List ℕ} {r : Done} (C : Carries thread fb u ls₁ cs o n ls′ cs′ o′ r) where
+      module _ {ls′ cs′ o′ : List ℕ} {r : Done} (C : Carries thread label fb u ls₁ cs o n ls′ cs′ o′ r) where
         -- how it went
-        went : (h : Turning t thread fb bs i ls cs o n)
-            → W.Went fb (endOf u - 1) (endOf u) bs (h .es) ls₁ n (length (h .a .env)) ls′ cs′ o′ (carried thread u (h .a)) r
+        went : (h : Turning t thread label fb bs i ls cs o n)
+            → W.Went fb (endOf u - 1) (endOf u) bs (h .es) ls₁ n (length (h .a .env)) ls′ cs′ o′ (carried thread label u (h .a)) r
         unfolding turn-carrying
         went h =
             C .carries (turn-carrying h) (endOf u - 1)
             (step-past (h .a .env) (h .a .memory) (asked h y .act) (asked h y .j) u (omega (arith, asked h y .past)) (right h))
 
         -- it was carried out
-        pub turns-carried : {j k : ℕ} → r ≡ To j k → Turns t thread fb bs i ls cs o n ls′ cs′ o′ (T.Next k)
+        pub turns-carried : {j k : ℕ} → r ≡ To j k → Turns t thread label fb bs i ls cs o n ls′ cs′ o′ (T.Next k)
         turns-carried q = record {
           beside = λ h. beside-again (beside-wide (above h) (omega arith) (omega arith))
               (beside-wide (came q (went h) .worked .beside) (omega arith) (omega arith));
@@ -340,7 +340,7 @@ module _ {t : List ℕ} {thread fb : ℕ} {bs : List ℕ} {i : ℕ} {ls cs o : L
                 new = v .new;
                 rest = asked h y .rest;
                 code = λ s. doing h s ∙ v .code s;
-                label = v .label ∙ ap (Map.next (endsOf (h .p) (h .m))) (sym (v .begins));
+                label = v .leads ∙ ap (Map.next (endsOf (h .p) (h .m))) (sym (v .begins));
                 tag = asked h y .tag;
                 instr = asked h y .instr;
                 begins = v .begins;
@@ -352,7 +352,7 @@ module _ {t : List ℕ} {thread fb : ℕ} {bs : List ℕ} {i : ℕ} {ls cs o : L
         }
 
         -- it blocks
-        pub turns-blocked : {why : Reason} → Plainly u → r ≡ Blocked why → Turns t thread fb bs i ls cs o n ls′ cs′ o′ (T.Blocked why)
+        pub turns-blocked : {why : Reason} → Plainly u → r ≡ Blocked why → Turns t thread label fb bs i ls cs o n ls′ cs′ o′ (T.Blocked why)
         turns-blocked k q = record {
           beside = λ h. rw (C .still _ q .0) (beside-wide (above h) (omega arith) (omega arith));
           answers = λ h. record {

@@ -13,7 +13,7 @@ use Rattle.value.specs.Laws.Maybes.{is-inj, missing}
 use Rattle.value.specs.Laws.Tests.{by-test, never, both-passed}
 use Rattle.format.specs.Syntax.{local, Instr, assign, write, read, while, if, call, atomic}
 use Rattle.format.specs.Syntax.{select, Block, end, step, Proc, Program, Plain, concurrent}
-use Rattle.format.specs.Labels.{labelled}
+use Rattle.format.specs.Labels.{labelled, first, endsOf}
 use Rattle.format.specs.Rules.{allowedI, namedI, takes, maxLocals}
 use Rattle.format.specs.Rules as Rules
 use Rattle.format.specs.Laws.Stands as S′
@@ -37,7 +37,7 @@ use Rattle.concurrent.proofs.TurningAtomic.{turn-inside}
 
 -- the first instruction of code, if it is decided
 code-instr : (p : Program Plain) (thread m a : ℕ) (i : Instr ℕ) (c : Block ℕ) (x : Atomic) (s : Stack ℕ) {k : Act} → actOf i ≡ is k
-    → codeOf p thread m (step a i c) x s ≡ F.instr (labelled p .procs) thread m (x .env) a i c s (x .memory)
+    → codeOf p thread m (step a i c) x s ≡ F.instr (labelled p .procs) thread a m (x .env) a i c s (x .memory)
 code-instr p thread m a (assign x e) c y s q = refl
 code-instr p thread m a (write y o e) c z s q = refl
 code-instr p thread m a (read x y o) c z s q = refl
@@ -88,9 +88,9 @@ act-past t i n (call r es) k {j} q h = let w = subst (λ k. ActAt t i n k j) (sy
 act-past t i n (atomic b) k q h = missing q
 act-past t i n (select x y) k q h = missing q
 
-module _ {t : List ℕ} {thread fb : ℕ} {bs : List ℕ} {i : ℕ} {ls cs o : List ℕ} {n : ℕ} where
+module _ {t : List ℕ} {thread label fb : ℕ} {bs : List ℕ} {i : ℕ} {ls cs o : List ℕ} {n : ℕ} where
   -- what a step of this code means: a return at its end, or a step of its first instruction
-  abbrev pub Means : (h : Turning t thread fb bs i ls cs o n) → ℕ → Instr ℕ → Block ℕ → Step → Type 0
+  abbrev pub Means : (h : Turning t thread label fb bs i ls cs o n) → ℕ → Instr ℕ → Block ℕ → Step → Type 0
   Means h a s c S.Return = h .c ≡ end
   Means h a s c (S.Assign x v j) = (h .c ≡ step a s c) × Leads (h .p) (h .m) (h .a .env) a s c (S.Assign x v j)
   Means h a s c (S.Read x l k v j) = (h .c ≡ step a s c) × Leads (h .p) (h .m) (h .a .env) a s c (S.Read x l k v j)
@@ -101,7 +101,7 @@ module _ {t : List ℕ} {thread fb : ℕ} {bs : List ℕ} {i : ℕ} {ls cs o : L
   Means h a s c (S.Blocked why) = Unit {0}
 
   -- what is asked there
-  pub record Asked (h : Turning t thread fb bs i ls cs o n) : Type 0 where
+  pub record Asked (h : Turning t thread label fb bs i ls cs o n) : Type 0 where
     pub act : Act
     pub j : ℕ
     pub here : ActAt t i (length (h .a .env)) act j
@@ -112,11 +112,11 @@ module _ {t : List ℕ} {thread fb : ℕ} {bs : List ℕ} {i : ℕ} {ls cs o : L
     pub rest : Block ℕ
     pub args : argsOf act ≡ argsIn instr
     pub code : (s : Stack ℕ) → codeOf (h .p) thread (h .m) (h .c) (h .a) s
-        ≡ D.carried (labelled (h .p) .procs) thread (h .m) (h .a .env) tag instr rest s (h .a .memory) (decided (h .a .env) (h .a .memory) act j)
+        ≡ D.carried (labelled (h .p) .procs) thread label (h .m) (h .a .env) tag instr rest s (h .a .memory) (decided (h .a .env) (h .a .memory) act j)
     pub means : Means h tag instr rest (decided (h .a .env) (h .a .memory) act j)
 
   -- at the byte 00, a return
-  asked-end : (h : Turning t thread fb bs i ls cs o n) → getD t i 0 ≡ 0 → Asked h
+  asked-end : (h : Turning t thread label fb bs i ls cs o n) → getD t i 0 ≡ 0 → Asked h
   asked-end h e =
       let none : h .c ≡ end = at-end (h .stands) e in
       record {
@@ -134,7 +134,7 @@ module _ {t : List ℕ} {thread fb : ℕ} {bs : List ℕ} {i : ℕ} {ls cs o : L
       }
 
   -- any step of the first instruction
-  means-first : (h : Turning t thread fb bs i ls cs o n) (a : ℕ) (s : Instr ℕ) (c : Block ℕ) (u : Step) → h .c ≡ step a s c
+  means-first : (h : Turning t thread label fb bs i ls cs o n) (a : ℕ) (s : Instr ℕ) (c : Block ℕ) (u : Step) → h .c ≡ step a s c
       → Leads (h .p) (h .m) (h .a .env) a s c u → Means h a s c u
   means-first h a s c S.Return e l = absurd l
   means-first h a s c (S.Assign x v j) e l = (e, l)
@@ -146,9 +146,10 @@ module _ {t : List ℕ} {thread fb : ℕ} {bs : List ℕ} {i : ℕ} {ls cs o : L
   means-first h a s c (S.Blocked why) e l = tt
 
   -- at any other, an instruction
-  asked-instr : (h : Turning t thread fb bs i ls cs o n) → (getD t i 0 ≡ 0 → ⊥) → (getD t i 0 ≡ 0x26 → ⊥) → Asked h
+  asked-instr : (h : Turning t thread label fb bs i ls cs o n) → (getD t i 0 ≡ 0 → ⊥) → (getD t i 0 ≡ 0x26 → ⊥) → Asked h
   asked-instr h z y =
       let w : Running t (h .p) (h .m) i (h .c) = at-instr (h .stands) z in
+      let tag : label ≡ w .tag = h .here ∙ ap (first (endsOf (h .p) (h .m))) (w .code) in
       let X : ℕ = length (h .a .env) in
       let full : X ≡ w .proc .locals = h .full (w .proc) (w .found) in
       let k = plain-act (h .m) (w .instr) (w .here) y (w .allowed) in
@@ -168,12 +169,14 @@ module _ {t : List ℕ} {thread fb : ℕ} {bs : List ℕ} {i : ℕ} {ls cs o : L
         code = λ s.
             ap (λ c. codeOf (h .p) thread (h .m) c (h .a) s) (w .code)
             ∙ code-instr (h .p) thread (h .m) (w .tag) (w .instr) (w .rest) (h .a) s (k .1)
-            ∙ does (labelled (h .p) .procs) thread (h .m) (h .a .env) (w .tag) (w .rest) s (h .a .memory) (w .instr) (actEnd i (w .instr))
-            (k .0) (k .1);
+            ∙ does (labelled (h .p) .procs) thread (w .tag) (h .m) (h .a .env) (w .tag) (w .rest) s (h .a .memory) (w .instr) (actEnd i (w .instr))
+            (k .0) (k .1)
+            ∙ ap (λ l. D.carried (labelled (h .p) .procs) thread l (h .m) (h .a .env) (w .tag) (w .instr) (w .rest) s (h .a .memory)
+            (decided (h .a .env) (h .a .memory) (k .0) (actEnd i (w .instr)))) (sym tag);
         means = means-first h (w .tag) (w .instr) (w .rest) (decided (h .a .env) (h .a .memory) (k .0) (actEnd i (w .instr))) (w .code)
             (leads (h .p) (h .m) (h .a .env) (h .a .memory) (w .tag) (w .rest) (w .instr) (k .0) (actEnd i (w .instr)) X (k .1) named (w .calls));
       }
 
   -- one or the other
-  pub asked : (h : Turning t thread fb bs i ls cs o n) → (getD t i 0 ≡ 0x26 → ⊥) → Asked h
+  pub asked : (h : Turning t thread label fb bs i ls cs o n) → (getD t i 0 ≡ 0x26 → ⊥) → Asked h
   asked h y = by-test (eqb (getD t i 0) 0) (λ e. asked-end h (eqb-true (getD t i 0) 0 e)) (λ e. asked-instr h (eqb-false (getD t i 0) 0 e) y)

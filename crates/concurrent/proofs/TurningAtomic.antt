@@ -10,7 +10,7 @@ use Rattle.value.specs.Try.{Try, has, _⟫_}
 use Rattle.value.specs.declared.Reason.{Reason}
 use Rattle.value.specs.Laws.Tries.{has-inj, chain-has}
 use Rattle.format.specs.Syntax.{atomic, Block, step, concurrent}
-use Rattle.format.specs.Labels.{labelled, endsOf}
+use Rattle.format.specs.Labels.{labelled, first, endsOf}
 use Rattle.labels.specs.LabelMap as Map
 use Rattle.format.specs.Rules.{allowed, allowedI, named, namedI}
 use Rattle.format.specs.Laws.Grammar.{BlockAt, AtomicAt, atomic-here, block-inside}
@@ -39,13 +39,13 @@ leaves m c s r = has (record { stack = record { proc = m; env = r .env; code = c
 deeper : {t : List ℕ} {i : ℕ} {b : Block ℕ} {j : ℕ} → BlockAt t i (maxNesting - 1) b j → BlockAt t i maxNesting b j
 deeper h = record { stands = h .stands; fits = (omega (arith, h .fits .0), h .fits .1) }
 
-module _ {t : List ℕ} {thread fb : ℕ} {bs : List ℕ} {i : ℕ} {ls cs o : List ℕ} {n : ℕ} where
+module _ {t : List ℕ} {thread label fb : ℕ} {bs : List ℕ} {i : ℕ} {ls cs o : List ℕ} {n : ℕ} where
   -- there is a byte
-  pub turn-inside : Turning t thread fb bs i ls cs o n → i < length t
+  pub turn-inside : Turning t thread label fb bs i ls cs o n → i < length t
   turn-inside h = omega (arith, block-inside (h .stands .here))
 
   -- the atomic block that stands there
-  record Block′ (h : Turning t thread fb bs i ls cs o n) : Type 0 where
+  record Block′ (h : Turning t thread label fb bs i ls cs o n) : Type 0 where
     pub tag : ℕ
     pub block : Block ℕ
     pub rest : Block ℕ
@@ -55,7 +55,7 @@ module _ {t : List ℕ} {thread fb : ℕ} {bs : List ℕ} {i : ℕ} {ls cs o : L
     pub named : named (labelled (h .p)) (length (h .a .env)) block ≡ true
     pub allowed : allowed (within (h .m)) block ≡ true
 
-  atomic-block : (h : Turning t thread fb bs i ls cs o n) → getD t i 0 ≡ 0x26 → Block′ h
+  atomic-block : (h : Turning t thread label fb bs i ls cs o n) → getD t i 0 ≡ 0x26 → Block′ h
   atomic-block h e =
       let w : Running t (h .p) (h .m) i (h .c) = at-instr (h .stands) (λ z. omega arith) in
       let v : AtomicAt t i (maxNesting - 1) (w .instr) (w .next) = atomic-here (w .here) e in
@@ -75,7 +75,7 @@ module _ {t : List ℕ} {thread fb : ℕ} {bs : List ℕ} {i : ℕ} {ls cs o : L
       names b w k = rw (h .full (w .proc) (w .found)) k
 
   -- it can be done
-  pub doing-atomic : getD t i 0 ≡ 0x26 → Turning t thread fb bs i ls cs o n → Doing t thread fb bs (i + 1) maxNesting ls cs o n
+  pub doing-atomic : getD t i 0 ≡ 0x26 → Turning t thread label fb bs i ls cs o n → Doing t thread label fb bs (i + 1) maxNesting ls cs o n
   doing-atomic e h =
       let b = atomic-block h e in
       record {
@@ -92,27 +92,29 @@ module _ {t : List ℕ} {thread fb : ℕ} {bs : List ℕ} {i : ℕ} {ls cs o : L
         few = omega (arith, h .few, block-inside (b .here));
       }
 
-  module _ (h : Turning t thread fb bs i ls cs o n) (e : getD t i 0 ≡ 0x26) where
+  module _ (h : Turning t thread label fb bs i ls cs o n) (e : getD t i 0 ≡ 0x26) where
     -- what the code does is what the block does
     block-code : (s : Stack ℕ) → codeOf (h .p) thread (h .m) (h .c) (h .a) s
-        ≡ (act thread (atomic-block h e .block) (bare (h .a)) ⟫ leaves (h .m) (atomic-block h e .rest) s)
+        ≡ (act thread label (atomic-block h e .block) (bare (h .a)) ⟫ leaves (h .m) (atomic-block h e .rest) s)
     block-code s =
         let b = atomic-block h e in
+        let tag : label ≡ b .tag = h .here ∙ ap (first (endsOf (h .p) (h .m))) (b .code) in
         ap (λ c. codeOf (h .p) thread (h .m) c (h .a) s) (b .code)
         ∙ ap (_⟫ leaves (h .m) (b .rest) s)
-        (acts (labelled (h .p) .procs) thread (h .m) (size (b .block)) (b .block) (omega arith) (b .allowed) (h .a .env) (h .a .memory) [])
+        (acts (labelled (h .p) .procs) thread (b .tag) (h .m) (size (b .block)) (b .block) (omega arith) (b .allowed) (h .a .env) (h .a .memory) []
+        ∙ ap (λ l. act thread l (b .block) (bare (h .a))) (sym tag))
 
-  module _ {ls′ cs′ o′ : List ℕ} {r : Done} (e : getD t i 0 ≡ 0x26) (D : DoesWhole t thread fb bs (i + 1) maxNesting ls cs o n ls′ cs′ o′ r) where
+  module _ {ls′ cs′ o′ : List ℕ} {r : Done} (e : getD t i 0 ≡ 0x26) (D : DoesWhole t thread label fb bs (i + 1) maxNesting ls cs o n ls′ cs′ o′ r) where
     -- it blocks
-    pub turns-stopped : {why : Reason} → r ≡ Blocked why → Turns t thread fb bs i ls cs o n ls′ cs′ o′ (T.Blocked why)
+    pub turns-stopped : {why : Reason} → r ≡ Blocked why → Turns t thread label fb bs i ls cs o n ls′ cs′ o′ (T.Blocked why)
     unfolding doing-atomic
     turns-stopped q = record {
       beside = λ h. rw (D .still (doing-atomic e h) _ q .0) beside-same;
       answers = λ h.
           let b = atomic-block h e in
           let w = D .still (doing-atomic e h) _ q in
-          let none = chain-none (act thread (b .block) (bare (h .a))) _
-          (sym (same-later thread (b .block) (h .a)) ∙ stopped q (D .does .does (doing-atomic e h)))
+          let none = chain-none (act thread label (b .block) (bare (h .a))) _
+          (sym (same-later thread label (b .block) (h .a)) ∙ stopped q (D .does .does (doing-atomic e h)))
           in
           record {
             code = λ s. block-code h e s ∙ ap (_⟫ leaves (h .m) (b .rest) s) none;
@@ -121,14 +123,14 @@ module _ {t : List ℕ} {thread fb : ℕ} {bs : List ℕ} {i : ℕ} {ls cs o : L
     }
 
     -- it is done
-    pub turns-done : {j k : ℕ} → r ≡ To j k → Turns t thread fb bs i ls cs o n ls′ cs′ o′ (T.Next k)
+    pub turns-done : {j k : ℕ} → r ≡ To j k → Turns t thread label fb bs i ls cs o n ls′ cs′ o′ (T.Next k)
     unfolding doing-atomic
     turns-done {j} {k} q = record {
       beside = λ h. beside-wide (came q (D .does .does (doing-atomic e h)) .worked .beside) (omega arith) (omega arith);
       answers = λ h.
           let b = atomic-block h e in
           let w = came q (D .does .does (doing-atomic e h)) in
-          let v = chain-has (act thread (b .block) (bare (h .a))) _ (sym (same-later thread (b .block) (h .a)) ∙ w .is) in
+          let v = chain-has (act thread label (b .block) (bare (h .a))) _ (sym (same-later thread label (b .block) (h .a)) ∙ w .is) in
           let same : later (h .a .events) (v .0) ≡ w .a = has-inj (v .2) in
           record {
             b = later (h .a .events) (v .0);

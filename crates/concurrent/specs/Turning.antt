@@ -28,12 +28,13 @@ use Rattle.atomic.specs.Doing.{Works}
 use Rattle.atomic.specs.Laws.Standing.{Standing}
 use Rattle.concurrent.specs.Laws.Leading.{labelAfter, Called}
 
--- code c of procedure m stands at i, with locals, memory and events as `a` says
-pub record Turning (t : List ℕ) (thread fb : ℕ) (bs : List ℕ) (i : ℕ) (ls cs o : List ℕ) (n : ℕ) : Type 0 where
+-- code c of procedure m stands at i and has this label, with locals, memory and events as `a` says
+pub record Turning (t : List ℕ) (thread label fb : ℕ) (bs : List ℕ) (i : ℕ) (ls cs o : List ℕ) (n : ℕ) : Type 0 where
   pub p : Program Plain
   pub m : ℕ
   pub c : Block ℕ
   pub stands : Standing t p m i c
+  pub here : label ≡ first (endsOf p m) c
   pub a : Atomic
   pub es : List ℕ
   pub works : Works fb bs es ls cs o n a
@@ -105,6 +106,6 @@ module _ (t : List ℕ) (p : Program Plain) (thread m : ℕ) (c : Block ℕ) (a 
   Answers (T.Blocked why) = Stays why
 
 -- the step was made, and words of no other frame but the one above are others
-pub record Turns (t : List ℕ) (thread fb : ℕ) (bs : List ℕ) (i : ℕ) (ls cs o : List ℕ) (n : ℕ) (ls′ cs′ o′ : List ℕ) (r : Turn) : Type 0 where
-  pub beside : Turning t thread fb bs i ls cs o n → Beside ls ls′ fb (fb + frameWords + frameWords)
-  pub answers : (h : Turning t thread fb bs i ls cs o n) → Answers t (h .p) thread (h .m) (h .c) (h .a) fb bs (h .es) n ls′ cs′ o′ r
+pub record Turns (t : List ℕ) (thread label fb : ℕ) (bs : List ℕ) (i : ℕ) (ls cs o : List ℕ) (n : ℕ) (ls′ cs′ o′ : List ℕ) (r : Turn) : Type 0 where
+  pub beside : Turning t thread label fb bs i ls cs o n → Beside ls ls′ fb (fb + frameWords + frameWords)
+  pub answers : (h : Turning t thread label fb bs i ls cs o n) → Answers t (h .p) thread (h .m) (h .c) (h .a) fb bs (h .es) n ls′ cs′ o′ r

@@ -39,12 +39,13 @@ enum Turn {
     Blocked(Reason),
 }
 
-// One step of the code at `at`, over the locals of the frame at `base`: "one assign, read, write, test, call, return or whole atomic
-// block". The arguments of a call are the first locals of the frame above, whose other locals are not set.
+// One step of the code at `at`, which has this label, over the locals of the frame at `base`: "one assign, read, write, test, call, return or
+// whole atomic block". The arguments of a call are the first locals of the frame above, whose other locals are not set.
 fn take_turn(
     t: &[u8],
     at: usize,
     thread: u8,
+    label: usize,
     base: usize,
     starts: &[u32; STARTS],
     words: &mut [u64; THREAD_WORDS],
@@ -52,12 +53,23 @@ fn take_turn(
     events: &mut [u8],
     count: usize,
 ) -> Turn
-    requires { ⌜ Turning (now t) thread base (now starts) at (now words) (now cells) (now events) count ⌝ }
-    ensures { λ r. ⌜ Turns (now (t .entry)) thread base (now (starts .entry)) at (now (words .entry)) (now (cells .entry)) (now (events .entry)) count
+    requires { ⌜ Turning (now t) thread label base (now starts) at (now words) (now cells) (now events) count ⌝ }
+    ensures { λ r. ⌜ Turns (now (t .entry)) thread label base (now (starts .entry)) at (now (words .entry)) (now (cells .entry)) (now (events .entry)) count
         (now (words .exit)) (now (cells .exit)) (now (events .exit)) r ⌝ }
 {
     if t[at] == ATOMIC {
-        return match do_atomic(t, at + 1, thread, base, starts, words, cells, events, count) {
+        return match do_atomic(
+            t,
+            at + 1,
+            thread,
+            label,
+            base,
+            starts,
+            words,
+            cells,
+            events,
+            count,
+        ) {
             Done::To { next: _, events: n } => Turn::Next(n),
             Done::Blocked(reason) => Turn::Blocked(reason),
         };
@@ -71,7 +83,7 @@ fn take_turn(
             locals::clear(words, above + table::byte(t, at + 3), above + FRAME);
             Turn::Call(procedure)
         }
-        _ => match carry_out(step, thread, base, words, cells, events, count) {
+        _ => match carry_out(step, thread, label, base, words, cells, events, count) {
             Done::To { next: _, events: n } => Turn::Next(n),
             Done::Blocked(reason) => Turn::Blocked(reason),
         },
@@ -161,11 +173,13 @@ pub fn step(
         return Stepped::Blocked(Reason::FinishedThread);
     }
     let top = THREAD_FRAMES * i + depths[i] - 1;
-    let at = map[NODE * labels[top]];
+    let label = labels[top];
+    let at = map[NODE * label];
     let turn = take_turn(
         t,
         at,
         thread,
+        label,
         FRAME * top,
         starts,
         words,

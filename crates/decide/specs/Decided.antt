@@ -133,21 +133,21 @@ argsIn (if e b c) = []
 argsIn (atomic b) = []
 argsIn (select a b) = []
 
--- what it leaves, of instruction i with tag a, first in procedure m with locals ρ, before c and above the frames s: report RR-2017-03, figure 1
-module _ {A : Type 0} (procs : List (Proc A)) (t m : ℕ) (ρ : Env) (a : A) (i : Instr A) (c : Block A) (s : Stack A) (η : Memory) where
+-- what it leaves, of thread t at a label, of instruction i with tag a, first in procedure m with locals ρ, before c and above the frames s: report RR-2017-03, figure 1
+module _ {A : Type 0} (procs : List (Proc A)) (t label m : ℕ) (ρ : Env) (a : A) (i : Instr A) (c : Block A) (s : Stack A) (η : Memory) where
   abbrev pub carried : Step → Try (Moved A)
   carried (Assign x v j) = has (quiet (record { proc = m; env = bound ρ x v; code = c } ∷ s) η)
   carried (Read x l k v j) =
       has (record {
         stack = record { proc = m; env = bound ρ x v; code = c } ∷ s;
         memory = η;
-        events = record { thread = t; way = reading; place = l; index = k; value = v } ∷ [];
+        events = record { thread = t; way = reading; place = l; index = k; value = v; label = label } ∷ [];
       })
   carried (Write l k n v j) =
       has (record {
         stack = record { proc = m; env = ρ; code = c } ∷ s;
         memory = stored η l k v;
-        events = record { thread = t; way = writing; place = l; index = k; value = v } ∷ [];
+        events = record { thread = t; way = writing; place = l; index = k; value = v; label = label } ∷ [];
       })
   carried (Test q j) = has (quiet (record { proc = m; env = ρ; code = branch q a i c } ∷ s) η)
   carried (Call n j) =

@@ -19,7 +19,7 @@ wayOf false = reading
 
 -- the event that the code's struct is
 abbrev pub eventOf : E.Event → Event
-eventOf e = record { thread = e .thread; way = wayOf (e .writes); place = e .location; index = e .index; value = e .value }
+eventOf e = record { thread = e .thread; way = wayOf (e .writes); place = e .location; index = e .index; value = e .value; label = e .label }
 
 -- a buffer with event number n; as it was, where that does not fit whole
 unfoldable pub withEvent : List ℕ → ℕ → Event → List ℕ

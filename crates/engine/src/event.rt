@@ -1,5 +1,6 @@
 // Events in a lent buffer: "Events that fit whole are written, later ones only counted".
 use basics::bytes;
+use basics::numbers::CELL;
 use basics::numbers::EVENT;
 use value::Value;
 ghost use mathlib.Core.Path.{_≡_};
@@ -10,13 +11,14 @@ ghost use Rattle.value.specs.Values.{bytes};
 ghost use Rattle.semantics.specs.Buffers.{wayByte};
 ghost use Rattle.engine.specs.Events.{wayOf, eventOf, withEvent};
 
-// The thread that reads or writes, the cell, and the value.
+// The thread that reads or writes, the cell, the value, and the label of the step: in the sequential machine the number of the procedure.
 pub struct Event {
     pub thread: u8,
     pub writes: bool,
     pub location: usize,
     pub index: usize,
     pub value: Value,
+    pub label: usize,
 }
 
 // The two low bytes of a number, the lowest first.
@@ -36,7 +38,7 @@ fn way(writes: bool) -> u8
     if writes { 1 } else { 0 }
 }
 
-// "thread, 0 read or 1 write, location (2), index (2), value (5)": event number `count`, if it fits whole.
+// "thread, 0 read or 1 write, location (2), index (2), value (5)", label (2): event number `count`, if it fits whole.
 pub fn write_event(out: &mut [u8], count: usize, e: Event)
     ensures { λ _. ⌜ now (out .exit) ≡ withEvent (now (out .entry)) count (eventOf e) ⌝ }
 {
@@ -48,5 +50,6 @@ pub fn write_event(out: &mut [u8], count: usize, e: Event)
         write_two(out, at + 2, e.location);
         write_two(out, at + 4, e.index);
         bytes::write_value(out, at + 6, value);
+        write_two(out, at + 6 + CELL, e.label);
     }
 }

@@ -5,6 +5,7 @@ use mathlib.Core.Path.{_≡_, refl, sym, ap, ap₂, subst, _∙_}
 use mathlib.Core.List.{List, [], _∷_, _++_}
 use lib.ListN.{length, getD, set, length-append}
 use lib.Seq.{sets}
+use Rattle.basics.specs.Laws.Places.{sets-append}
 use Rattle.format.specs.Syntax.{Instr, assign, write, read, while, if, call, atomic, select, Block, end, step, Plain, concurrent}
 use Rattle.format.specs.Encode.{expr, instr, block}
 use Rattle.format.specs.Labels.{count, countI, label, first}
@@ -18,11 +19,6 @@ use Rattle.labels.specs.declared.count.Counted.{Counted}
 use Rattle.labels.proofs.Counting.{instr-in, block-in, body-in, then-in, else-in, then-counts}
 
 -- ---- numbers put one after the other
-
--- some, and then others
-sets-append : (l : List ℕ) (i : ℕ) (a b : List ℕ) → sets l i (a ++ b) ≡ sets (sets l i a) (i + length a) b
-sets-append l i [] b = ap (λ (n : ℕ). sets l n b) (omega arith)
-sets-append l i (x ∷ a) b = sets-append (set l i x) (suc i) a b ∙ ap (λ (n : ℕ). sets (sets l i (x ∷ a)) n b) (omega arith)
 
 -- the numbers of a label
 pub put-four : {n n′ : List ℕ} {l a b c d : ℕ} → n′ ≡ set (set (set (set n (4 * l) a) (4 * l + 1) b) (4 * l + 2) c) (4 * l + 3) d

@@ -118,6 +118,7 @@ accepted-starting {js′ = js′} {ss} a e F S = record {
   zero = zeros localWords;
   long = length-replicate {A = ℕ} localWords 0;
   backs = length-replicate {A = ℕ} stackFrames 0;
+  zeroth = zeros stackFrames 0;
   cells = holds-fresh (a .program .sizes) (a .sound .cells);
   full = length-replicate {A = ℕ} cellWords (2 ^ 32);
 }

@@ -23,14 +23,13 @@ use Rattle.format.specs.Encode.{recordSize}
 use Rattle.decide.specs.declared.step.Step.{Step}
 use Rattle.decide.specs.declared.step.Step.the-variants.{Return, Assign, Read, Write, Test, Call, Select, Blocked}
 use Rattle.sequential.specs.declared.machine.State.{State}
-use Rattle.semantics.specs.Memory.{Memory, stored}
-use Rattle.semantics.specs.Memory as M
+use Rattle.semantics.specs.Memory.{Memory, stored, Event}
 use Rattle.semantics.specs.Step.{entered}
 use Rattle.semantics.specs.Copy as C
 use Rattle.engine.specs.Work.{Puts, Clears, frameWords, Framed}
 use Rattle.engine.specs.Events.{withEvent}
 use Rattle.jumps.specs.Jumps.{positions, Settles, Branches}
-use Rattle.sequential.specs.Frames.{FrameAt, Stacked, more}
+use Rattle.sequential.specs.Frames.{wordOf, placeIn, procedureIn, FrameAt, Stacked, more}
 use Rattle.sequential.specs.Sequential.{Due, eventIn, Recorded, Enters, movedTo, selectedTo, Moves, CarriesOut}
 use Rattle.engine.specs.Laws.Work.{beside-put, framed-below, framed-entered}
 use Rattle.engine.specs.Laws.Holding.{holds-put}
@@ -42,7 +41,7 @@ use Rattle.sequential.proofs.Framing.{frame-small, stacked-back, code-c
 use Rattle.sequential.proofs.Nexts.{restacked, recoded, rebound, eventAt, eventsWith, next-return, next-assign}
 use Rattle.sequential.proofs.Nexts.{next-read, next-write, next-while, next-if, next-call, next-select}
 use Rattle.sequential.proofs.DueSteps.{Doing, returning, assigning, reading, writing, looping, choosing, calling, selecting}
-use Rattle.sequential.proofs.DueSteps.{tower, deep, done, to, went-on, goes-on, recodes, rebinds}
+use Rattle.sequential.proofs.DueSteps.{tower, deep, within, done, to, went-on, goes-on, recodes, rebinds}
 use Rattle.sequential.proofs.DueSteps.{top-rest, top-moves, code-after, code-body, code-then, cell-is, select-cell}
 use Rattle.sequential.proofs.DueSteps.{call-enterable, assign-after, read-after, write-after, test-after, call-after}
 use Rattle.sequential.proofs.DueSteps.{select-after, assign-room, read-room, write-room, select-room, select-counts}
@@ -102,7 +101,7 @@ module _ {t : List ℕ} {records : ℕ} {js : List ℕ} {h : ℕ} {ls bs cs es :
           }
 
   -- the end of a body: the frame below goes on where its caller wrote
-  pub did-return : {k : ℕ} {s′ : State} → x ≡ Return → k ≡ getD bs (s .depth - 1) 0 → s′ ≡ movedTo s k (s .depth - 1) (s .events)
+  pub did-return : {k : ℕ} {s′ : State} → x ≡ Return → k ≡ placeIn (getD bs (s .depth - 1) 0) → s′ ≡ movedTo s k (s .depth - 1) (s .events)
       → CarriesOut t records js h ls bs cs es s x ls bs cs es s′
   did-return {k} e f z = rw z (record { moves = λ d. go d (done d e); most = omega arith })
     where
@@ -130,7 +129,7 @@ module _ {t : List ℕ} {records : ℕ} {js : List ℕ} {h : ℕ} {ls bs cs es :
 
   -- "x := y[o]"
   pub did-read : {y l i n k a : ℕ} {v : Value} {ls′ es′ : List ℕ} {s′ : State} → x ≡ Read y l i v n → Puts ls ls′ (frameWords * (s .depth - 1) + y) v
-      → Recorded h es (s .events) (eventIn s false l i v) es′ a → Settles t js n k → s′ ≡ movedTo s k (s .depth) a
+      → Recorded h es (s .events) (eventIn bs s false l i v) es′ a → Settles t js n k → s′ ≡ movedTo s k (s .depth) a
       → CarriesOut t records js h ls bs cs es s x ls′ bs cs es′ s′
   did-read {y} {l} {i} {n} {k} {a} {v} {ls′} {es′} e w E g f = rw f (record { moves = λ d. go d (done d e); most = E .most })
     where
@@ -145,7 +144,7 @@ module _ {t : List ℕ} {records : ℕ} {js : List ℕ} {h : ℕ} {ls bs cs es :
               memory = d .config .memory;
               todo = d .config .todo;
               last = d .config .last;
-              events = eventsWith h (d .config) (eventAt (d .config) false l i v);
+              events = eventsWith h (d .config) (eventAt (d .config) (d .frame .proc) false l i v);
             };
             goes = next-read h (d .loaded .program .procs) (d .config) (d .stack) q u u′ u″;
             present = record {
@@ -159,13 +158,13 @@ module _ {t : List ℕ} {records : ℕ} {js : List ℕ} {h : ℕ} {ls bs cs es :
               todo = d .present .todo;
               taken = d .present .taken;
               last = d .present .last;
-              events = rw (d .present .last) (E .logged (d .lent) (d .config .events) (d .present .events));
+              events = rw (d .present .last, ← within d) (E .logged (d .lent) (d .config .events) (d .present .events));
             };
           }
 
   -- "y[o] := e"
   pub did-write : {l i j n k a : ℕ} {v : Value} {cs′ es′ : List ℕ} {s′ : State} → x ≡ Write l i j v n → Puts cs cs′ j v
-      → Recorded h es (s .events) (eventIn s true l i v) es′ a → Settles t js n k → s′ ≡ movedTo s k (s .depth) a
+      → Recorded h es (s .events) (eventIn bs s true l i v) es′ a → Settles t js n k → s′ ≡ movedTo s k (s .depth) a
       → CarriesOut t records js h ls bs cs es s x ls bs cs′ es′ s′
   did-write {l} {i} {j} {n} {k} {a} {v} {cs′} {es′} e w E g z = rw z (record { moves = λ d. go d (done d e); most = E .most })
     where
@@ -177,7 +176,7 @@ module _ {t : List ℕ} {records : ℕ} {js : List ℕ} {h : ℕ} {ls bs cs es :
           memory = stored (d .config .memory) l i v;
           todo = d .config .todo;
           last = d .config .last;
-          events = eventsWith h (d .config) (eventAt (d .config) true l i v);
+          events = eventsWith h (d .config) (eventAt (d .config) (d .frame .proc) true l i v);
         };
         goes = next-write h (d .loaded .program .procs) (d .config) (d .stack) q u₀ u₁ u₂ u₃;
         present = record {
@@ -191,7 +190,7 @@ module _ {t : List ℕ} {records : ℕ} {js : List ℕ} {h : ℕ} {ls bs cs es :
           todo = d .present .todo;
           taken = d .present .taken;
           last = d .present .last;
-          events = rw (d .present .last) (E .logged (d .lent) (d .config .events) (d .present .events));
+          events = rw (d .present .last, ← within d) (E .logged (d .lent) (d .config .events) (d .present .events));
         };
       }
 
@@ -262,18 +261,21 @@ module _ {t : List ℕ} {records : ℕ} {js : List ℕ} {h : ℕ} {ls bs cs es :
             framed = framed-entered vs passed (omega (arith, right .params)) (omega (arith, right .locals, d .few, deep d, d .present .long)) cleared;
             code = settled-body (callee .1) (N .start ∙ H .start);
           } in
-          let back : getD bs′ (suc (length (d .below))) 0 ≡ k =
-          rw (N .back, ← deep d) (getD-set-same bs (s .depth) k 0 (omega (arith, d .few, d .present .backs)))
+          let word : getD bs′ (suc (length (d .below))) 0 ≡ wordOf k m =
+          rw (N .back, ← deep d) (getD-set-same bs (s .depth) (wordOf k m) 0 (omega (arith, d .few, d .present .backs)))
           in
-          let below : Stacked ps ls′ bs′ (getD bs′ (suc (length (d .below))) 0) (recoded (d .frame) (b ⊕ r) ∷ d .below) =
-          rw (back, N .back) (stacked-back k (omega (arith, deep d)) caller)
+          let back : placeIn (wordOf k m) ≡ k = omega (arith, g .below) in
+          let quotient : procedureIn (wordOf k m) ≡ m = omega (arith, g .below) in
+          let number : procedureIn (getD bs′ (suc (length (d .below))) 0) ≡ m = rw word quotient in
+          let below : Stacked ps ls′ bs′ (placeIn (getD bs′ (suc (length (d .below))) 0)) (recoded (d .frame) (b ⊕ r) ∷ d .below) =
+          rw (word, back, N .back) (stacked-back (wordOf k m) (omega (arith, deep d)) caller)
           in
           record {
             config = restacked (d .config) (entered m q vs ∷ recoded (d .frame) (b ⊕ r) ∷ d .below);
             goes = next-call h ps (d .config) (d .stack) w u (callee .1) (never-runs (d .loaded .sound .calls) m called (tower d));
             present = record {
               depth = omega (arith, deep d);
-              frames = more frame called below;
+              frames = more frame called number below;
               long = N .clears .beside .long ∙ d .present .long;
               backs = rw (N .back, length-set) (d .present .backs);
               memory = d .present .memory;
@@ -321,10 +323,12 @@ pub ruleset carry-ways = (
 
 -- ---- events
 
-module _ {h : ℕ} {es : List ℕ} {n : ℕ} {e : M.Event} where
+module _ {h : ℕ} {es : List ℕ} {n : ℕ} {e : Event} where
   -- of a location below h
-  pub event-kept : {es′ : List ℕ} → e .place < h → es′ ≡ withEvent es n e → Recorded h es n e es′ (n + 1)
-  event-kept l q = record { logged = λ lent evs L. rw (lt-ltb (e .place) h l) (logged-more e L q); most = omega arith }
+  pub event-kept : {j : ℕ} {es′ : List ℕ} → e .place < h → j ≡ e .label
+      → es′ ≡ withEvent es n (record { thread = e .thread; way = e .way; place = e .place; index = e .index; value = e .value; label = j })
+      → Recorded h es n e es′ (n + 1)
+  event-kept l f q = record { logged = λ lent evs L. rw (lt-ltb (e .place) h l) (logged-more e L (rw f at q)); most = omega arith }
 
   -- of another
   pub event-passed : h ≤ e .place → Recorded h es n e es n
@@ -335,10 +339,10 @@ pub ruleset event-ways = (event-kept, event-passed)
 
 -- ---- a procedure begins
 
-pub did-enter : {t : List ℕ} {records d m k a b v w : ℕ} {ls bs ls′ : List ℕ} → a ≡ getD t (records + recordSize * m) 0
+pub did-enter : {t : List ℕ} {records d m k a b u v w : ℕ} {ls bs ls′ : List ℕ} → u ≡ wordOf k m → a ≡ getD t (records + recordSize * m) 0
     → b ≡ getD t (records + recordSize * m + 1) 0 → Clears ls ls′ (frameWords * d + a) (frameWords * d + b) → v ≡ w → w ≡ numberAt 4 t (records + recordSize * m + 2)
-    → Enters t records d m k ls bs ls′ (set bs d k) v
-did-enter {d = d} {ls = ls} {ls′ = ls′} e f C g h = record { back = refl; clears = rw (← e, ← f) C; start = g ∙ h }
+    → Enters t records d m k ls bs ls′ (set bs d u) v
+did-enter {d = d} {bs = bs} r e f C g h = record { back = ap (set bs d) r; clears = rw (← e, ← f) C; start = g ∙ h }
 
 -- the one way
 pub ruleset enter-ways = (did-enter)

@@ -16,7 +16,7 @@ use Rattle.value.specs.declared.Reason.{Reason}
 use Rattle.value.specs.declared.Reason.the-variants.{IndexOutside}
 use lib.IntN.{ℤ, pos, negsuc}
 use Rattle.value.specs.Laws.Tests.{by-test}
-use Rattle.value.specs.Laws.Lists.{Each, each-at}
+use Rattle.value.specs.Laws.Lists.{Each, each-at, at-below}
 use Rattle.format.specs.Syntax.{Expr, local, Instr, assign, write, read, while, if, call, atomic}
 use Rattle.format.specs.Syntax.{select, Block, end, step, _⊕_, Proc, Program, Plain, sequential}
 use Rattle.format.specs.Encode.{expr, instr}
@@ -35,7 +35,7 @@ use Rattle.semantics.specs.Copy as C
 use Rattle.decide.specs.Decided.{Act, actOf, actEnd, decided, orBlocked, numberOf}
 use Rattle.engine.specs.Work.{Puts, Beside, frameWords, Framed, IsCell}
 use Rattle.jumps.specs.Jumps.{Settled, Settles}
-use Rattle.sequential.specs.Frames.{FrameAt, Called, Stacked, more}
+use Rattle.sequential.specs.Frames.{placeIn, procedureIn, FrameAt, Called, Stacked, more}
 use Rattle.sequential.specs.Sequential.{Present, Decision, leaves, acts, selects, Due, Enterable}
 use Rattle.engine.specs.Laws.Work.{beside-same, beside-put, framed-put}
 use Rattle.engine.specs.Laws.Holding.{cell-word, no-cell}
@@ -164,17 +164,22 @@ module _ {p : Program Plain} {lent ts ls bs cs es : List ℕ} {s : State} {c : C
 -- the top of a stack
 pub top-frame : {ps : List (Proc Plain)} {ls bs : List ℕ} {k : ℕ} {f : Frame Plain} {s : Stack Plain} → Stacked ps ls bs k (f ∷ s)
     → FrameAt ps ls (length s) k f
-top-frame (more F c S) = F
+top-frame (more F c w S) = F
 
 -- is called by the frame below
 top-called : {ps : List (Proc Plain)} {ls bs : List ℕ} {k : ℕ} {f : Frame Plain} {s : Stack Plain} → Stacked ps ls bs k (f ∷ s)
     → Called ps (f .proc) s
-top-called (more F c S) = c
+top-called (more F c w S) = c
 
 -- the rest of it
 pub top-rest : {ps : List (Proc Plain)} {ls bs : List ℕ} {k : ℕ} {f : Frame Plain} {s : Stack Plain} → Stacked ps ls bs k (f ∷ s)
-    → Stacked ps ls bs (getD bs (length s) 0) s
-top-rest (more F c S) = S
+    → Stacked ps ls bs (placeIn (getD bs (length s) 0)) s
+top-rest (more F c w S) = S
+
+-- the number of its procedure
+top-number : {ps : List (Proc Plain)} {ls bs : List ℕ} {k : ℕ} {f : Frame Plain} {s : Stack Plain} → Stacked ps ls bs k (f ∷ s)
+    → procedureIn (getD bs (length s) 0) ≡ f .proc
+top-number (more F c w S) = w
 
 -- the top goes on elsewhere, with words stored above the other frames
 pub top-moves : {p : Program Plain} {ls ls′ bs : List ℕ} {a b k k′ : ℕ} {f : Frame Plain} {s : Stack Plain} → Sound sequential p
@@ -183,7 +188,7 @@ pub top-moves : {p : Program Plain} {ls ls′ bs : List ℕ} {a b k k′ : ℕ} 
     → Stacked (p .procs) ls′ bs k′ (record { proc = f .proc; env = ρ; code = x } ∷ s)
 top-moves {p} sound S B h ρ x e framed code =
     let F = top-frame S in
-    more (record { proc = F .proc; found = F .found; long = e ∙ F .long; framed = framed; code = code }) (top-called S)
+    more (record { proc = F .proc; found = F .found; long = e ∙ F .long; framed = framed; code = code }) (top-called S) (top-number S)
     (stacked-below (p .procs) (sound .locals) B h (top-rest S))
 
 -- behind an instruction
@@ -217,6 +222,10 @@ module _ {t : List ℕ} {records : ℕ} {js ls bs cs es : List ℕ} {s : State} 
   -- how many are below
   pub deep : s .depth ≡ suc (length (d .below))
   deep = deep-of (d .present) (d .stack)
+
+  -- the number of the procedure it is in
+  pub within : procedureIn (getD bs (s .depth - 1) 0) ≡ d .frame .proc
+  within = let less : s .depth - 1 ≡ length (d .below) = omega (arith, deep) in rw less (top-number tower)
 
   -- what is done
   pub done : {y : Step} → x ≡ y → Doing P c (d .frame) (s .at) y
@@ -318,6 +327,7 @@ module _ {t : List ℕ} {records : ℕ} {js ls bs cs es : List ℕ} {s : State} 
             params = omega (arith, H .params, H .locals, right .params);
             locals = omega (arith, H .locals, right .locals);
             few = d .few;
+            number = omega (arith, at-below (d .loaded .program .procs) m (callee .1), d .loaded .sound .procs .high);
           }
 
   after-inside : (d : Due t records js ls bs cs es s x) (y : Step) → Doing (d .loaded .program) (d .config) (d .frame) (s .at) y → After t y

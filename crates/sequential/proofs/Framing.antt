@@ -38,20 +38,21 @@ module _ (ps : List (Proc Plain)) (small : Each (LocalsRight frameWords) ps) whe
   pub stacked-below : {ls ls′ bs : List ℕ} {a b k : ℕ} {s : Stack Plain} → Beside ls ls′ a b → frameWords * length s ≤ a → Stacked ps ls bs k s
       → Stacked ps ls′ bs k s
   stacked-below B h none = none
-  stacked-below B h (more {f = f} {s = s} F c S) =
+  stacked-below B h (more {f = f} {s = s} F c w S) =
       let few = frame-small F in
       more {f = f} {s = s}
       (record { proc = F .proc; found = F .found; long = F .long; framed = framed-below B (omega arith) (F .framed); code = F .code })
       c
+      w
       (stacked-below B (omega arith) S)
 
--- a position above a stack was stored
+-- a word above a stack was stored
 pub stacked-back : {ps : List (Proc Plain)} {ls bs : List ℕ} {i k : ℕ} (v : ℕ) {s : Stack Plain} → length s ≤ i → Stacked ps ls bs k s
     → Stacked ps ls (set bs i v) k s
 stacked-back v h none = none
-stacked-back {bs = bs} {i} v h (more {s = s} F c S) =
+stacked-back {bs = bs} {i} v h (more {s = s} F c w S) =
     let same : getD (set bs i v) (length s) 0 ≡ getD bs (length s) 0 = getD-set-other bs i (length s) v 0 (λ e. omega arith) in
-    more {s = s} F c (rw same (stacked-back v (omega arith) S))
+    more {s = s} F c (rw same w) (rw same (stacked-back v (omega arith) S))
 
 -- ---- rule 7
 
@@ -96,7 +97,7 @@ module _ {ps : List (Proc Plain)} {ls bs : List ℕ} where
   -- a procedure of the stack reaches what the top calls
   reaches-top : (m n : ℕ) {k : ℕ} {s : Stack Plain} → Called ps n s → Stacked ps ls bs k s → member m (procsOf s) ≡ true → Reaches ps m n
   reaches-top m n l none e = absurd (never e)
-  reaches-top m n l (more {f = f} {s = s} F c S) e =
+  reaches-top m n l (more {f = f} {s = s} F c w S) e =
       either-passed (eqb (f .proc) m) (member m (procsOf s)) e
       (λ p. direct (rw (eqb-true (f .proc) m p) at l))
       (λ p. reach-on (reaches-top m (f .proc) c S p) l)
@@ -109,12 +110,12 @@ module _ {ps : List (Proc Plain)} {ls bs : List ℕ} where
     -- no procedure is on the stack twice
     distinct : {k : ℕ} {s : Stack Plain} → Stacked ps ls bs k s → Distinct (procsOf s)
     distinct none = tt
-    distinct (more {f = f} F c S) = (apart (f .proc) c S, distinct S)
+    distinct (more {f = f} F c w S) = (apart (f .proc) c S, distinct S)
 
     -- and all are procedures
     procs-below : {k : ℕ} {s : Stack Plain} → Stacked ps ls bs k s → Each (λ m. m < length ps) (procsOf s)
     procs-below none = tt
-    procs-below (more {f = f} F c S) = (at-below ps (f .proc) (F .found), procs-below S)
+    procs-below (more {f = f} F c w S) = (at-below ps (f .proc) (F .found), procs-below S)
 
     -- "P not 1..512": the stack has no more frames than the program has procedures
     pub stacked-few : {k : ℕ} {s : Stack Plain} → Stacked ps ls bs k s → length s ≤ length ps

@@ -30,10 +30,10 @@ recoded f b = record { proc = f .proc; env = f .env; code = b }
 abbrev pub rebound : Frame Plain → ℕ → Value → Block Plain → Frame Plain
 rebound f x v b = record { proc = f .proc; env = bound (f .env) x v; code = b }
 
--- the event of a cell
-abbrev pub eventAt : C.Config → Bool → ℕ → ℕ → Value → Event
-eventAt c true l i v = record { thread = c .last; way = writing; place = l; index = i; value = v }
-eventAt c false l i v = record { thread = c .last; way = reading; place = l; index = i; value = v }
+-- the event of a cell, in procedure m
+abbrev pub eventAt : C.Config → ℕ → Bool → ℕ → ℕ → Value → Event
+eventAt c m true l i v = record { thread = c .last; way = writing; place = l; index = i; value = v; label = m }
+eventAt c m false l i v = record { thread = c .last; way = reading; place = l; index = i; value = v; label = m }
 
 -- the events after it
 abbrev pub eventsWith : ℕ → C.Config → Event → List Event
@@ -62,7 +62,7 @@ module _ (h : ℕ) (procs : List (Proc Plain)) (c : C.Config) where
           memory = c .memory;
           todo = c .todo;
           last = c .last;
-          events = eventsWith h c (eventAt c false l i v);
+          events = eventsWith h c (eventAt c (f .proc) false l i v);
         })
     next-read q u w z = rw (e, q, u, w, z)
 
@@ -74,7 +74,7 @@ module _ (h : ℕ) (procs : List (Proc Plain)) (c : C.Config) where
           memory = stored (c .memory) l i v;
           todo = c .todo;
           last = c .last;
-          events = eventsWith h c (eventAt c true l i v);
+          events = eventsWith h c (eventAt c (f .proc) true l i v);
         })
     next-write q r u w z = rw (e, q, r, u, w, z)
 

@@ -43,12 +43,12 @@ module _ (h : ℕ) (procs : List (Proc Plain)) where
   code-spent : (b : Block Plain) (f : Frame Plain) (s : Stack Plain) (η : Memory) (ts : List ℕ) (t : ℕ) (evs : List Event)
       → C.atBudget (C.code h procs b (f .proc) (f .env) s η ts t evs) ≡ spent
   code-spent end f s η ts t evs = refl
-  code-spent (step a (assign x e) b) f s η ts t evs = moved-spent ts t evs (F.instr procs t (f .proc) (f .env) tt (assign x e) b s η)
-  code-spent (step a (write y o e) b) f s η ts t evs = moved-spent ts t evs (F.instr procs t (f .proc) (f .env) tt (write y o e) b s η)
-  code-spent (step a (read x y o) b) f s η ts t evs = moved-spent ts t evs (F.instr procs t (f .proc) (f .env) tt (read x y o) b s η)
-  code-spent (step a (while e w) b) f s η ts t evs = moved-spent ts t evs (F.instr procs t (f .proc) (f .env) tt (while e w) b s η)
-  code-spent (step a (if e y n) b) f s η ts t evs = moved-spent ts t evs (F.instr procs t (f .proc) (f .env) tt (if e y n) b s η)
-  code-spent (step a (call m es) b) f s η ts t evs = moved-spent ts t evs (F.instr procs t (f .proc) (f .env) tt (call m es) b s η)
+  code-spent (step a (assign x e) b) f s η ts t evs = moved-spent ts t evs (F.instr procs t (f .proc) (f .proc) (f .env) tt (assign x e) b s η)
+  code-spent (step a (write y o e) b) f s η ts t evs = moved-spent ts t evs (F.instr procs t (f .proc) (f .proc) (f .env) tt (write y o e) b s η)
+  code-spent (step a (read x y o) b) f s η ts t evs = moved-spent ts t evs (F.instr procs t (f .proc) (f .proc) (f .env) tt (read x y o) b s η)
+  code-spent (step a (while e w) b) f s η ts t evs = moved-spent ts t evs (F.instr procs t (f .proc) (f .proc) (f .env) tt (while e w) b s η)
+  code-spent (step a (if e y n) b) f s η ts t evs = moved-spent ts t evs (F.instr procs t (f .proc) (f .proc) (f .env) tt (if e y n) b s η)
+  code-spent (step a (call m es) b) f s η ts t evs = moved-spent ts t evs (F.instr procs t (f .proc) (f .proc) (f .env) tt (call m es) b s η)
   code-spent (step a (atomic w) b) f s η ts t evs = refl
   code-spent (step a (select x y) b) f s η [] t evs = refl
   code-spent (step a (select x y) b) f s η (u ∷ ts) t evs =
@@ -80,7 +80,7 @@ module _ (h : ℕ) (procs : List (Proc Plain)) where
 -- what asks something is a step of figure 1
 one-acts : (h : ℕ) (procs : List (Proc Plain)) (m : ℕ) (ρ : Env) (i : Instr Plain) (b : Block Plain) (s : Stack Plain) (η : Memory)
     (ts : List ℕ) (t : ℕ) (evs : List Event) {a : Act} → actOf i ≡ is a
-    → C.one h procs m ρ i b s η ts t evs ≡ C.moved h ts t evs (F.instr procs t m ρ tt i b s η)
+    → C.one h procs m ρ i b s η ts t evs ≡ C.moved h ts t evs (F.instr procs t m m ρ tt i b s η)
 one-acts h procs m ρ (assign x e) b s η ts t evs q = refl
 one-acts h procs m ρ (write y o e) b s η ts t evs q = refl
 one-acts h procs m ρ (read x y o) b s η ts t evs q = refl
@@ -100,9 +100,9 @@ pub next-blocked : (h : ℕ) {p : Program Plain} {c : C.Config} {f : Frame Plain
 next-blocked h e (leaves q w) z = return-goes (sym w ∙ z)
 next-blocked h {p} {c} {f} {s} {k} {y = y} e (acts i d r a o q w u) z =
     let b : Block Plain = d ⊕ r in
-    let none : F.instr (p .procs) (c .last) (f .proc) (f .env) tt i b s (c .memory) ≡ lacks y =
-    does (p .procs) (c .last) (f .proc) (f .env) tt b s (c .memory) i (actEnd k i) a w
-    ∙ ap (carried (p .procs) (c .last) (f .proc) (f .env) tt i b s (c .memory)) (sym u ∙ z)
+    let none : F.instr (p .procs) (c .last) (f .proc) (f .proc) (f .env) tt i b s (c .memory) ≡ lacks y =
+    does (p .procs) (c .last) (f .proc) (f .proc) (f .env) tt b s (c .memory) i (actEnd k i) a w
+    ∙ ap (carried (p .procs) (c .last) (f .proc) (f .proc) (f .env) tt i b s (c .memory)) (sym u ∙ z)
     in
     rw (e, q)
     (one-acts h (p .procs) (f .proc) (f .env) i b s (c .memory) (c .todo) (c .last) (c .events) w

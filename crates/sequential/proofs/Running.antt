@@ -32,7 +32,7 @@ use Rattle.jumps.specs.Jumps.{positions, Settled, last, first}
 use Rattle.sequential.specs.Sequential.{mostFrames, Present, Due, CarriesOut, Facing, Faced}
 use Rattle.sequential.specs.Sequential.{Faces, UsedUp, ranWith, Starting, runOf, Runs}
 use Rattle.engine.specs.Work.{frameWords}
-use Rattle.sequential.specs.Frames.{FrameAt, none, more}
+use Rattle.sequential.specs.Frames.{procedureIn, FrameAt, none, more}
 use Rattle.semantics.specs.Laws.Cells.{shape-fresh}
 use Rattle.engine.specs.Laws.Work.{beside-same, framed-none, framed-entered}
 use Rattle.engine.specs.Laws.Logging.{logged-none, logged-long}
@@ -159,9 +159,10 @@ module _ {t : List ℕ} {records : ℕ} {js ss ls bs cs : List ℕ} (q : Startin
             (omega (arith, few .locals, q .long)) (record { beside = beside-same; zero = λ k l m. q .zero k });
         code = settled-body (first .1) (e ∙ ap (numberAt 4 t) (sym here) ∙ H .start);
       } in
+      let number : procedureIn (getD bs 0 0) ≡ 0 = rw (q .zeroth) in
       record {
         depth = ap length (sym one);
-        frames = rw one (more frame tt none);
+        frames = rw one (more frame tt number none);
         long = q .long;
         backs = q .backs;
         memory = q .cells;

@@ -1,5 +1,5 @@
 -- The sequential machine at work: what its code keeps, which step is due, and what a step leaves.
-use Prim.Native.Nat.{ℕ, _+_, _*_, _^_, _≤_, _<_}
+use Prim.Native.Nat.{ℕ, _+_, _*_, _-_, _^_, _≤_, _<_}
 use mathlib.Core.Path.{_≡_}
 use mathlib.Core.List.{List, [], _∷_, _++_, map}
 use mathlib.Core.Bool.{Bool, true, false}
@@ -32,7 +32,7 @@ use Rattle.engine.specs.Work.{Clears, frameWords, localWords, cellWords, Framed
 use Rattle.engine.specs.Events.{Logged, wayOf}
 use Rattle.decide.specs.Decided.{Act, actOf, actEnd, decided, chosen}
 use Rattle.jumps.specs.Jumps.{positions, Jumps}
-use Rattle.sequential.specs.Frames.{Stacked}
+use Rattle.sequential.specs.Frames.{wordOf, procedureIn, Stacked}
 use Rattle.semantics.specs.Laws.Cells.{shape}
 use Rattle.basics.specs.Sizes.{stackFrames}
 
@@ -51,7 +51,7 @@ pub record Loaded (t : List ℕ) (records : ℕ) (js ss : List ℕ) : Type 0 whe
   pub jumps : Jumps (program .procs) js
   pub starts : Bases (program .sizes) ss
 
--- the words of the locals, the positions of the callers, the words of the cells, the lent buffer of events and the state s are a
+-- the words of the locals, the words of the frames, the words of the cells, the lent buffer of events and the state s are a
 -- configuration, where ts is the schedule and `lent` the buffer as it was lent
 pub record Present (p : Program Plain) (lent ts ls bs cs es : List ℕ) (s : State) (c : C.Config) : Type 0 where
   pub depth : s .depth ≡ length (c .stack)
@@ -102,9 +102,10 @@ pub record Due (t : List ℕ) (records : ℕ) (js ls bs cs es : List ℕ) (s : S
 
 -- ---- what it leaves
 
--- what is read or written in the state s
-abbrev pub eventIn : State → Bool → ℕ → ℕ → Value → Event
-eventIn s writes l i v = record { thread = s .thread; way = wayOf writes; place = l; index = i; value = v }
+-- what is read or written in the state s, where bs are the words of the frames
+abbrev pub eventIn : List ℕ → State → Bool → ℕ → ℕ → Value → Event
+eventIn bs s writes l i v =
+    record { thread = s .thread; way = wayOf writes; place = l; index = i; value = v; label = procedureIn (getD bs (s .depth - 1) 0) }
 
 -- "records only locations below h": an event was written as number n, or not
 pub record Recorded (h : ℕ) (es : List ℕ) (n : ℕ) (e : Event) (es′ : List ℕ) (n′ : ℕ) : Type 0 where
@@ -117,10 +118,11 @@ pub record Enterable (t : List ℕ) (records d m : ℕ) : Type 0 where
   pub params : getD t (records + recordSize * m) 0 ≤ getD t (records + recordSize * m + 1) 0
   pub locals : getD t (records + recordSize * m + 1) 0 ≤ frameWords
   pub few : d ≤ mostFrames
+  pub number : m < mostFrames
 
 -- procedure m began above d frames, the topmost of which goes on at k; its body begins at v
 pub record Enters (t : List ℕ) (records d m k : ℕ) (ls bs ls′ bs′ : List ℕ) (v : ℕ) : Type 0 where
-  pub back : bs′ ≡ set bs d k
+  pub back : bs′ ≡ set bs d (wordOf k m)
   pub clears : Clears ls ls′ (frameWords * d + getD t (records + recordSize * m) 0) (frameWords * d + getD t (records + recordSize * m + 1) 0)
   pub start : v ≡ numberAt 4 t (records + recordSize * m + 2)
 
@@ -183,13 +185,14 @@ pub record UsedUp (t ts : List ℕ) (s : State) (r : Bool) : Type 0 where
 abbrev pub ranWith : ℕ → ℕ → ℕ → State → Ran
 ranWith how reason steps s = record { end = how; reason = reason; steps = steps; taken = s .taken; events = s .events }
 
--- the words of the locals and of the cells, and the positions of the callers, before the first step
+-- the words of the locals, of the cells and of the frames, before the first step
 pub record Starting (t : List ℕ) (records : ℕ) (js ss ls bs cs : List ℕ) : Type 0 where
   pub loaded : Loaded t records js ss
   pub inside : records + recordSize ≤ length t
   pub zero : (k : ℕ) → getD ls k 0 ≡ 0
   pub long : length ls ≡ localWords
   pub backs : length bs ≡ stackFrames
+  pub zeroth : getD bs 0 0 ≡ 0
   pub cells : Holds (fresh (loaded .program .sizes)) cs
   pub full : length cs ≡ cellWords
 

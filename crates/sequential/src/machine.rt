@@ -33,6 +33,7 @@ use semantics::RunAnswer;
 use value::Value;
 ghost use mathlib.Core.Path.{_≡_};
 ghost use Prim.Native.Nat.{_+_, _^_, _≤_, _<_};
+ghost use Rattle.sequential.specs.Frames.{wordOf, placeIn, procedureIn};
 ghost use lib.IntN.{pos};
 ghost use lib.ListN.{length};
 ghost use Rattle.value.specs.declared.Value.the-variants.{Whole};
@@ -73,18 +74,45 @@ fn number(entry: u8) -> Value
     Value::Whole(entry as i32)
 }
 
-// "records only locations below h". Answers how many events there are.
+// A frame has a word: where the frame below goes on, and times this the number of the frame's procedure.
+const PLACES: u32 = LONGEST as u32;
+
+// The word of a frame.
+fn frame_word(next: usize, m: usize) -> u32
+    requires { ⌜ (next < positions) × (m < mostFrames) ⌝ }
+    ensures { λ r. ⌜ r ≡ wordOf next m ⌝ }
+{
+    next as u32 + PLACES * m as u32
+}
+
+// Where the frame below goes on.
+fn place_in(word: u32) -> usize
+    ensures { λ r. ⌜ r ≡ placeIn word ⌝ }
+{
+    wide(word % PLACES)
+}
+
+// The number of the frame's procedure.
+fn procedure_in(word: u32) -> usize
+    ensures { λ r. ⌜ r ≡ procedureIn word ⌝ }
+{
+    wide(word / PLACES)
+}
+
+// "records only locations below h", with "the number of the procedure it is in". Answers how many events there are.
 fn record_event(
     events: &mut [u8],
     h: usize,
+    back: &[u32; FRAMES],
     state: State,
     writes: bool,
     location: usize,
     index: usize,
     value: Value,
 ) -> usize
-    requires { ⌜ state .events + 1 < 2 ^ 64 ⌝ }
-    ensures { λ r. ⌜ Recorded h (now (events .entry)) (state .events) (eventIn state writes location index value) (now (events .exit)) r ⌝ }
+    requires { ⌜ (state .events + 1 < 2 ^ 64) × (1 ≤ state .depth) × (state .depth ≤ mostFrames) ⌝ }
+    ensures { λ r. ⌜ Recorded h (now (events .entry)) (state .events) (eventIn (now (back .entry)) state writes location index value)
+        (now (events .exit)) r ⌝ }
 {
     let count = state.events;
     if location < h {
@@ -94,6 +122,7 @@ fn record_event(
             location,
             index,
             value,
+            label: procedure_in(back[state.depth - 1]),
         };
         event::write_event(events, count, e);
         return count + 1;
@@ -128,8 +157,8 @@ fn selected(state: State, at: usize, thread: u8) -> State
     }
 }
 
-// Procedure `m` begins above `depth` frames; its arguments are in its frame already, and the frame below is to go on at `next`.
-// Answers where its body begins.
+// Procedure `m` begins above `depth` frames; its arguments are in its frame already, and the frame below is to go on at `next`, as the
+// frame's word says. Answers where its body begins.
 fn enter(
     t: &[u8],
     records: usize,
@@ -145,7 +174,7 @@ fn enter(
 {
     let record = records + RECORD * m;
     let base = FRAME * depth;
-    back[depth] = next as u32;
+    back[depth] = frame_word(next, m);
     locals::clear(
         words,
         base + table::byte(t, record),
@@ -176,7 +205,7 @@ fn carry_out(
     match step {
         Step::Return => {
             let depth = state.depth - 1;
-            moved(state, wide(back[depth]), depth, state.events)
+            moved(state, place_in(back[depth]), depth, state.events)
         }
         Step::Assign { x, value, next } => {
             locals::put(words, FRAME * (state.depth - 1), x, value);
@@ -191,7 +220,7 @@ fn carry_out(
             next,
         } => {
             locals::put(words, FRAME * (state.depth - 1), x, value);
-            let count = record_event(events, h, state, false, location, index, value);
+            let count = record_event(events, h, back, state, false, location, index, value);
             moved(state, ways::settle(t, jumps, next), state.depth, count)
         }
         Step::Write {
@@ -202,7 +231,7 @@ fn carry_out(
             next,
         } => {
             memory::put(cells, cell, value);
-            let count = record_event(events, h, state, true, location, index, value);
+            let count = record_event(events, h, back, state, true, location, index, value);
             moved(state, ways::settle(t, jumps, next), state.depth, count)
         }
         Step::Test { truth, next } => {

@@ -9,12 +9,8 @@ use lib.ListN.{length, getD, set, take, drop, length-append, length-set, length-
 use lib.Seq.{sets, slice, slice-cons, drop-nil}
 use Rattle.value.specs.Values.{bytes}
 use Rattle.basics.specs.Sizes.{tooLong}
+use Rattle.basics.specs.Laws.Places.{sets-append}
 use Rattle.writer.specs.Laws.Put.{Put, Onto}
-
--- one part after the other
-sets-append : (l : List ℕ) (i : ℕ) (a b : List ℕ) → sets l i (a ++ b) ≡ sets (sets l i a) (i + length a) b
-sets-append l i [] b = ap (λ (n : ℕ). sets l n b) (omega arith)
-sets-append l i (x ∷ a) b = sets-append _ (suc i) a b ∙ ap (λ (n : ℕ). sets (sets l i (x ∷ a)) n b) (omega arith)
 
 -- ---- one byte
 

@@ -44,21 +44,21 @@ sizeI-some (call m es) = omega arith
 sizeI-some (atomic b) = omega arith
 sizeI-some (select x y) = omega arith
 
-module _ (t : ℕ) where
+module _ (t label : ℕ) where
   -- one block after another
-  pub act-join : (b c : Block ℕ) (a : Atomic) → act t (b ⊕ c) a ≡ (act t b a ⟫ act t c)
+  pub act-join : (b c : Block ℕ) (a : Atomic) → act t label (b ⊕ c) a ≡ (act t label b a ⟫ act t label c)
   act-join end c a = refl
   act-join (step l i b) c a =
-      chain-same (actI t i a) (act t (b ⊕ c)) (λ r. act t b r ⟫ act t c) (act-join b c) ∙ sym (chain-assoc (actI t i a) (act t b) (act t c))
+      chain-same (actI t label i a) (act t label (b ⊕ c)) (λ r. act t label b r ⟫ act t label c) (act-join b c) ∙ sym (chain-assoc (actI t label i a) (act t label b) (act t label c))
 
 -- what is left of a block
 abbrev from : Env → Memory → List Event → Atomic
 from ρ η evs = record { env = ρ; memory = η; events = evs }
 
-module _ (procs : List (Proc ℕ)) (t m : ℕ) where
+module _ (procs : List (Proc ℕ)) (t label m : ℕ) where
   -- a block goes step by step to where it goes in one go
   pub acts : (n : ℕ) (c : Block ℕ) → size c ≤ n → allowed (within m) c ≡ true → (ρ : Env) (η : Memory) (evs : List Event)
-      → toEnd procs t n (record { proc = m; env = ρ; code = c } ∷ []) η evs ≡ act t c (from ρ η evs)
+      → toEnd procs t label n (record { proc = m; env = ρ; code = c } ∷ []) η evs ≡ act t label c (from ρ η evs)
   acts zero end h k ρ η evs = refl
   acts zero (step l i c) h k ρ η evs = absurd (omega (arith, sizeI-some i))
   acts (suc n) end h k ρ η evs = refl
@@ -80,9 +80,9 @@ module _ (procs : List (Proc ℕ)) (t m : ℕ) where
       let two = both-passed (allowed (within m) b) (allowed (within m) d) (ok .0) in
       chain-both (eval ρ e ⟫ truth) _ _ _ _ (λ q. rw (append-nil evs) (elim q [
         | true ↦
-            acts n (b ⊕ c) (omega (arith, size-join b c)) (allowed-append (within m) b c (two .0) (ok .1)) ρ η evs ∙ act-join t b c (from ρ η evs)
+            acts n (b ⊕ c) (omega (arith, size-join b c)) (allowed-append (within m) b c (two .0) (ok .1)) ρ η evs ∙ act-join t label b c (from ρ η evs)
         | false ↦
-            acts n (d ⊕ c) (omega (arith, size-join d c)) (allowed-append (within m) d c (two .1) (ok .1)) ρ η evs ∙ act-join t d c (from ρ η evs)
+            acts n (d ⊕ c) (omega (arith, size-join d c)) (allowed-append (within m) d c (two .1) (ok .1)) ρ η evs ∙ act-join t label d c (from ρ η evs)
       ]))
   acts (suc n) (step l (while e b) c) h k ρ η evs = absurd (never k)
   acts (suc n) (step l (call q es) c) h k ρ η evs = absurd (never k)
@@ -95,7 +95,7 @@ module _ (procs : List (Proc ℕ)) (t m : ℕ) where
 abbrev pub later : List Event → Atomic → Atomic
 later evs a = record { env = a .env; memory = a .memory; events = evs ++ a .events }
 
-module _ (t : ℕ) (evs : List Event) where
+module _ (t label : ℕ) (evs : List Event) where
   -- the chains of an instruction
   abbrev Later : Try Atomic → Try Atomic
   Later m = m ⟫ λ r. has (later evs r)
@@ -107,7 +107,7 @@ module _ (t : ℕ) (evs : List Event) where
 
   mutual
     -- an instruction adds its own
-    laterI : (i : Instr ℕ) (a : Atomic) → actI t i (later evs a) ≡ Later (actI t i a)
+    laterI : (i : Instr ℕ) (a : Atomic) → actI t label i (later evs a) ≡ Later (actI t label i a)
     laterI (assign x e) a = link (eval (a .env) e) _ _ (λ v. refl)
     laterI (write y o e) a =
         link (eval (a .env) e) _ _ λ v.
@@ -129,10 +129,10 @@ module _ (t : ℕ) (evs : List Event) where
     laterI (select x y) a = refl
 
     -- a block does
-    pub act-later : (b : Block ℕ) (a : Atomic) → act t b (later evs a) ≡ Later (act t b a)
+    pub act-later : (b : Block ℕ) (a : Atomic) → act t label b (later evs a) ≡ Later (act t label b a)
     act-later end a = refl
     act-later (step l i b) a =
-        ap (λ m. m ⟫ act t b) (laterI i a)
-        ∙ chain-assoc (actI t i a) _ _
-        ∙ chain-same (actI t i a) _ _ (act-later b)
-        ∙ sym (chain-assoc (actI t i a) (act t b) _)
+        ap (λ m. m ⟫ act t label b) (laterI i a)
+        ∙ chain-assoc (actI t label i a) _ _
+        ∙ chain-same (actI t label i a) _ _ (act-later b)
+        ∙ sym (chain-assoc (actI t label i a) (act t label b) _)

@@ -48,13 +48,13 @@ EndsAt (S.Select c u k) j = Unit {0}
 EndsAt (S.Blocked r) j = Unit {0}
 
 -- a step that is carried out is the instruction
-pub record Simple (thread j : ℕ) (s : Instr ℕ) (a : Atomic) (u : Step) : Type 0 where
+pub record Simple (thread label j : ℕ) (s : Instr ℕ) (a : Atomic) (u : Step) : Type 0 where
   pub fits : StepFits a u
-  pub same : actI thread s a ≡ carried thread u a
+  pub same : actI thread label s a ≡ carried thread label u a
   pub ends : EndsAt u j
 
 -- a test that comes out as q and ends at k is that of an if, whose blocks follow
-pub record Branching (t : List ℕ) (thread i d j : ℕ) (p : Program ℕ) (X m : ℕ) (s : Instr ℕ) (a : Atomic) (q : Bool) (k : ℕ) : Type 0 where
+pub record Branching (t : List ℕ) (thread label i d j : ℕ) (p : Program ℕ) (X m : ℕ) (s : Instr ℕ) (a : Atomic) (q : Bool) (k : ℕ) : Type 0 where
   pub past : i < k
   pub yes : Block ℕ
   pub no : Block ℕ
@@ -63,19 +63,19 @@ pub record Branching (t : List ℕ) (thread i d j : ℕ) (p : Program ℕ) (X m 
   pub second : BlockAt t l d no j
   pub named : (named p X yes ≡ true) × (named p X no ≡ true)
   pub allowed : (allowed (within m) yes ≡ true) × (allowed (within m) no ≡ true)
-  pub same : actI thread s a ≡ elim q [ true ↦ act thread yes a | false ↦ act thread no a ]
+  pub same : actI thread label s a ≡ elim q [ true ↦ act thread label yes a | false ↦ act thread label no a ]
 
-module _ (t : List ℕ) (thread i d j : ℕ) (p : Program ℕ) (X m : ℕ) (s : Instr ℕ) (a : Atomic) where
+module _ (t : List ℕ) (thread label i d j : ℕ) (p : Program ℕ) (X m : ℕ) (s : Instr ℕ) (a : Atomic) where
   -- each step is one or the other
   abbrev pub Fitting : Step → Type 0
-  Fitting (S.Test q k) = Branching t thread i d j p X m s a q k
-  Fitting (S.Assign x v k) = Simple thread j s a (S.Assign x v k)
-  Fitting (S.Read x l i v k) = Simple thread j s a (S.Read x l i v k)
-  Fitting (S.Write l i c v k) = Simple thread j s a (S.Write l i c v k)
-  Fitting S.Return = Simple thread j s a S.Return
-  Fitting (S.Call n k) = Simple thread j s a (S.Call n k)
-  Fitting (S.Select c u k) = Simple thread j s a (S.Select c u k)
-  Fitting (S.Blocked r) = Simple thread j s a (S.Blocked r)
+  Fitting (S.Test q k) = Branching t thread label i d j p X m s a q k
+  Fitting (S.Assign x v k) = Simple thread label j s a (S.Assign x v k)
+  Fitting (S.Read x l i v k) = Simple thread label j s a (S.Read x l i v k)
+  Fitting (S.Write l i c v k) = Simple thread label j s a (S.Write l i c v k)
+  Fitting S.Return = Simple thread label j s a S.Return
+  Fitting (S.Call n k) = Simple thread label j s a (S.Call n k)
+  Fitting (S.Select c u k) = Simple thread label j s a (S.Select c u k)
+  Fitting (S.Blocked r) = Simple thread label j s a (S.Blocked r)
 
 -- the blocks of an if
 if-blocks : {t : List ℕ} {i d j : ℕ} {e : Expr} {b c : Block ℕ} → InstrAt t i d (if e b c) j
@@ -88,12 +88,12 @@ if-blocks {t} {i} {d} {j} {e} {b} {c} h =
     let from : w .k ≡ i + 1 + length (expr e) = w .test .stands .ends ∙ ap (λ x. i + 1 + length (expr x)) test in
     (w .l, rw (from, yes) at (w .first), rw no at (w .second))
 
-module _ {t : List ℕ} (thread : ℕ) {i d j : ℕ} (a : Atomic) (p : Program ℕ) (m : ℕ) where
+module _ {t : List ℕ} (thread label : ℕ) {i d j : ℕ} (a : Atomic) (p : Program ℕ) (m : ℕ) where
   -- of an instruction that may stand there, whose names mean something, the step that is decided
   pub fitting : (s : Instr ℕ) (k : Act) → actOf s ≡ is k → InstrAt t i d s j → namedI p (length (a .env)) s ≡ true → allowedI (within m) s ≡ true
-      → Fitting t thread i d j p (length (a .env)) m s a (decided (a .env) (a .memory) k (actEnd i s))
+      → Fitting t thread label i d j p (length (a .env)) m s a (decided (a .env) (a .memory) k (actEnd i s))
   fitting (assign x e) k f h n w =
-      let P : Step → Type 0 = Fitting t thread i d j p (length (a .env)) m (assign x e) a in
+      let P : Step → Type 0 = Fitting t thread label i d j p (length (a .env)) m (assign x e) a in
       subst (λ k. P (decided (a .env) (a .memory) k (actEnd {A = ℕ} i (assign x e)))) (is-inj f)
       (through P (eval (a .env) e) _
       (λ no q. record { fits = tt; same = rw q; ends = tt })
@@ -103,7 +103,7 @@ module _ {t : List ℕ} (thread : ℕ) {i d j : ℕ} (a : Atomic) (p : Program �
         ends = sym (h .stands .ends);
       }))
   fitting (write y o e) k f h n w =
-      let P : Step → Type 0 = Fitting t thread i d j p (length (a .env)) m (write y o e) a in
+      let P : Step → Type 0 = Fitting t thread label i d j p (length (a .env)) m (write y o e) a in
       subst (λ k. P (decided (a .env) (a .memory) k (actEnd {A = ℕ} i (write y o e)))) (is-inj f)
       (through P (eval (a .env) e) _ (λ no q. record { fits = tt; same = rw q; ends = tt }) (λ v q.
       through P (eval (a .env) o ⟫ number) _ (λ no r. record { fits = tt; same = rw (q, r); ends = tt }) (λ g r.
@@ -112,7 +112,7 @@ module _ {t : List ℕ} (thread : ℕ) {i d j : ℕ} (a : Atomic) (p : Program �
       through P (cell (a .memory) l x) _ (λ no w. record { fits = tt; same = rw (q, r, u, v′, w); ends = tt }) (λ z w.
       record { fits = record { number = refl; size = cell-size (a .memory) l x w }; same = rw (q, r, u, v′, w); ends = sym (h .stands .ends) }))))))
   fitting (read x y o) k f h n w =
-      let P : Step → Type 0 = Fitting t thread i d j p (length (a .env)) m (read x y o) a in
+      let P : Step → Type 0 = Fitting t thread label i d j p (length (a .env)) m (read x y o) a in
       subst (λ k. P (decided (a .env) (a .memory) k (actEnd {A = ℕ} i (read x y o)))) (is-inj f)
       (through P (eval (a .env) o ⟫ number) _ (λ no r. record { fits = tt; same = rw r; ends = tt }) (λ g r.
       through P (eval (a .env) (local y) ⟫ place) _ (λ no u. record { fits = tt; same = rw (r, u); ends = tt }) (λ l u.
@@ -124,7 +124,7 @@ module _ {t : List ℕ} (thread : ℕ) {i d j : ℕ} (a : Atomic) (p : Program �
         ends = sym (h .stands .ends);
       })))))
   fitting (if e b c) k f h n w =
-      let P : Step → Type 0 = Fitting t thread i d j p (length (a .env)) m (if e b c) a in
+      let P : Step → Type 0 = Fitting t thread label i d j p (length (a .env)) m (if e b c) a in
       let blocks = if-blocks h in
       let names =
       both-passed (named p (length (a .env)) b) (named p (length (a .env)) c)

@@ -2,11 +2,11 @@
 use Prim.Native.Nat.{ℕ, zero, suc, _+_, _*_, _^_, _≤_, _<_}
 use native.Mathlib.Omega.{arith}
 use native.Mathlib.Numerals.{add-one}
-use mathlib.Core.Path.{_≡_, refl, ap}
-use mathlib.Core.List.{List, _∷_}
+use mathlib.Core.Path.{_≡_, refl, ap, _∙_}
+use mathlib.Core.List.{List, [], _∷_, _++_}
 use mathlib.Core.Bool.{true, false}
-use lib.ListN.{length, getD, take, drop, List·getD-eq-default, drop-of-length-le}
-use lib.Seq.{drop-cons}
+use lib.ListN.{length, getD, set, take, drop, List·getD-eq-default, drop-of-length-le}
+use lib.Seq.{sets, drop-cons}
 use lib.Signed.{mag}
 use lib.Dec.{ltb}
 use borrow.Author.Tests.{ltb-true, ltb-false, lt-ltb}
@@ -17,6 +17,13 @@ use Rattle.value.specs.Laws.Bytes.{word-fits, unword-word}
 use Rattle.value.specs.declared.Value.{Value}
 use Rattle.value.specs.declared.Value.the-variants.{Whole, Location, Truth}
 use Rattle.basics.specs.Places.{numberAt, cellKind, cellNumber, valueOf}
+
+-- ---- things put at a place
+
+-- some, and then others
+pub sets-append : (l : List ℕ) (i : ℕ) (a b : List ℕ) → sets l i (a ++ b) ≡ sets (sets l i a) (i + length a) b
+sets-append l i [] b = ap (λ (n : ℕ). sets l n b) (omega arith)
+sets-append l i (x ∷ a) b = sets-append (set l i x) (suc i) a b ∙ ap (λ (n : ℕ). sets (sets l i (x ∷ a)) n b) (omega arith)
 
 -- ---- numbers at a place
 

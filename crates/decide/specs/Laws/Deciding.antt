@@ -57,16 +57,16 @@ module _ {B : Type 0} (k : Step → Try B) (e : (r : Reason) → k (Blocked r) �
       → (m ⟫ g) ≡ k (orBlocked (m ⟫ f))
   link m g f h = chain-same m g (λ x. k (orBlocked (f x))) h ∙ through m f
 
-module _ {A : Type 0} (procs : List (Proc A)) (t m : ℕ) (ρ : Env) (a : A) (c : Block A) (s : Stack A) (η : Memory) where
+module _ {A : Type 0} (procs : List (Proc A)) (t label m : ℕ) (ρ : Env) (a : A) (c : Block A) (s : Stack A) (η : Memory) where
   -- what an instruction does is what the decided step of k leaves
   abbrev pub Does : Instr A → ℕ → Act → Type 0
-  Does i j k = F.instr procs t m ρ a i c s η ≡ carried procs t m ρ a i c s η (decided ρ η k j)
+  Does i j k = F.instr procs t label m ρ a i c s η ≡ carried procs t label m ρ a i c s η (decided ρ η k j)
 
   -- AN INSTRUCTION DOES WHAT ITS DECIDED STEP MEANS: report RR-2017-03, figure 1.
   pub does : (i : Instr A) (j : ℕ) (k : Act) → actOf i ≡ is k → Does i j k
-  does (assign x e) j k q = subst (Does (assign x e) j) (is-inj q) (link (carried procs t m ρ a (assign x e) c s η) (λ r. refl) (eval ρ e) _ _ (λ v. refl))
+  does (assign x e) j k q = subst (Does (assign x e) j) (is-inj q) (link (carried procs t label m ρ a (assign x e) c s η) (λ r. refl) (eval ρ e) _ _ (λ v. refl))
   does (write y o e) j k q =
-      let K : Step → Try (Moved A) = carried procs t m ρ a (write y o e) c s η in
+      let K : Step → Try (Moved A) = carried procs t label m ρ a (write y o e) c s η in
       subst (Does (write y o e) j) (is-inj q)
       (link K (λ r. refl) (eval ρ e) _ _ λ v.
       link K (λ r. refl) (eval ρ o ⟫ number) _ _ λ z.
@@ -74,21 +74,21 @@ module _ {A : Type 0} (procs : List (Proc A)) (t m : ℕ) (ρ : Env) (a : A) (c 
       link K (λ r. refl) (index z) _ _ λ i.
       link K (λ r. refl) (cell η l i) _ _ λ u. refl)
   does (read x y o) j k q =
-      let K : Step → Try (Moved A) = carried procs t m ρ a (read x y o) c s η in
+      let K : Step → Try (Moved A) = carried procs t label m ρ a (read x y o) c s η in
       subst (Does (read x y o) j) (is-inj q)
       (link K (λ r. refl) (eval ρ o ⟫ number) _ _ λ z.
       link K (λ r. refl) (eval ρ (local y) ⟫ place) _ _ λ l.
       link K (λ r. refl) (index z) _ _ λ i.
       link K (λ r. refl) (cell η l i) _ _ λ v. refl)
   does (while e b) j k q =
-      subst (Does (while e b) j) (is-inj q) (link (carried procs t m ρ a (while e b) c s η) (λ r. refl) (eval ρ e ⟫ truth) _ _ (λ v. refl))
+      subst (Does (while e b) j) (is-inj q) (link (carried procs t label m ρ a (while e b) c s η) (λ r. refl) (eval ρ e ⟫ truth) _ _ (λ v. refl))
   does (if e b d) j k q =
-      subst (Does (if e b d) j) (is-inj q) (link (carried procs t m ρ a (if e b d) c s η) (λ r. refl) (eval ρ e ⟫ truth) _ _ (λ v. refl))
+      subst (Does (if e b d) j) (is-inj q) (link (carried procs t label m ρ a (if e b d) c s η) (λ r. refl) (eval ρ e ⟫ truth) _ _ (λ v. refl))
   does (call n es) j k q = subst (Does (call n es) j) (is-inj q) (calling (evals ρ es) refl)
     where
       calling : (x : Try (List Value)) → evals ρ es ≡ x → Does (call n es) j (calls n es)
       calling (lacks r) w = rw w
-      calling (has vs) w = sym (ap (λ x. carried procs t m ρ a (call n es) c s η (orBlocked (x ⟫ λ vs. has (Call n j)))) w)
+      calling (has vs) w = sym (ap (λ x. carried procs t label m ρ a (call n es) c s η (orBlocked (x ⟫ λ vs. has (Call n j)))) w)
   does (atomic b) j k q = missing q
   does (select x y) j k q = missing q
 

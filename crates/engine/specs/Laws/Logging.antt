@@ -8,8 +8,10 @@ use lib.ListN.{length, take, set, length-append, length-set}
 use lib.Seq.{sets, length-sets, take-all, take-append-le, take-nil}
 use lib.Dec.{ltb}
 use borrow.Author.Tests.{ltb-true, ltb-false, lt-ltb, le-ltb, le-leb}
-use Rattle.value.specs.Values.{bytes, cellSize}
+use Rattle.value.specs.Values.{bytes, cellBytes, cellSize}
+use Rattle.value.specs.Laws.Bytes.{length-cell}
 use Rattle.basics.specs.Places.{withValue}
+use Rattle.basics.specs.Laws.Places.{sets-append}
 use Rattle.value.specs.Laws.Tests.{by-test}
 use Rattle.value.specs.Laws.Lists.{length-over}
 use Rattle.format.specs.Encode.{each}
@@ -59,18 +61,20 @@ pub two-stored : (o : List ℕ) (i a b : ℕ) → set (set o i a) (i + 1) b ≡ 
 two-stored o i a b = rw add-one
 
 -- an event that fits
-pub event-stored : (o : List ℕ) (n : ℕ) (e : Event) {w : ℕ} {p q r : List ℕ} → n < length o / eventSize → w ≡ wayByte (e .way)
+pub event-stored : (o : List ℕ) (n : ℕ) (e : Event) {w : ℕ} {p q r x : List ℕ} → n < length o / eventSize → w ≡ wayByte (e .way)
     → p ≡ sets (set (set o (n * eventSize) (e .thread)) (n * eventSize + 1) w) (n * eventSize + 2) (bytes 2 (e .place)) → q ≡ sets p (n * eventSize + 4) (bytes 2 (e .index))
-    → r ≡ withValue q (n * eventSize + 6) (e .value) → r ≡ withEvent o n e
+    → r ≡ withValue q (n * eventSize + 6) (e .value) → x ≡ sets r (n * eventSize + 6 + cellSize) (bytes 2 (e .label)) → x ≡ withEvent o n e
 unfolding withEvent
-event-stored o n e {w} {p} {q} {r} h we pe qe re =
+event-stored o n e {w} {p} {q} {r} {x} h we pe qe re xe =
     let i : ℕ = n * eventSize in
     let two : i + 2 ≡ suc (suc i) = omega arith in
     let four : i + 4 ≡ suc (suc (suc (suc i))) = omega arith in
     let six : i + 6 ≡ suc (suc (suc (suc (suc (suc i))))) = omega arith in
     let long : length q ≡ length o = ap length qe ∙ rw (length-sets, pe, length-sets, length-set, length-set) in
-    re
-    ∙ rw (le-leb (i + 6 + cellSize) (length q) (omega arith), lt-ltb n (length o / eventSize) h, qe, pe, we, six, four, two, add-one i)
+    let value : r ≡ sets q (i + 6) (cellBytes (e .value)) = re ∙ rw (le-leb (i + 6 + cellSize) (length q) (omega arith)) in
+    let last : i + 6 + cellSize ≡ i + 6 + length (cellBytes (e .value)) = omega (arith, length-cell (e .value)) in
+    xe
+    ∙ rw (value, last, ← sets-append q (i + 6) (cellBytes (e .value)) (bytes 2 (e .label)), lt-ltb n (length o / eventSize) h, qe, pe, we, six, four, two, add-one i)
 
 -- one that does not
 pub event-past : (o : List ℕ) (n : ℕ) (e : Event) → length o / eventSize ≤ n → o ≡ withEvent o n e

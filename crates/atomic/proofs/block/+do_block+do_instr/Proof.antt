@@ -5,7 +5,7 @@ use native.Mathlib.Omega.{arith}
 use mathlib.Core.Path.{_≡_, _∙_}
 use lib.ListN.{length}
 use Rattle.atomic.proofs.Inside.{doing-then, then-after, doing-else, does-else, instr-ways}
-use Rattle.atomic.proofs.InsideBlock.{Going, going-deep, block-ways}
+use Rattle.atomic.proofs.InsideBlock.{Going, going-deep, going-one, block-ways}
 use borrow.Fn.Kinds.{In}
 use borrow.Fn.PlainCycle.{Measures, is, falls, and}
 use Rattle.atomic.proofs.block.do_block.Reads as do-block
@@ -41,12 +41,12 @@ do-instr-below t =
     and 5 do-instr-kinds.ps (falls 5 do-instr-kinds.ps _<_ μ-do-instr t) do-instr.Pre
 
 abbrev do-block-Inv-loop : do-block-lts.InvT-loop
-do-block-Inv-loop t at depth thread base starts words₀ cells₀ events₀ count i₀ n₀ words cells events i n =
-    Going t thread base starts depth at words₀ cells₀ events₀ count i words cells events n × (length words ≡ length words₀)
+do-block-Inv-loop t at depth thread label base starts words₀ cells₀ events₀ count i₀ n₀ words cells events i n =
+    Going t thread label base starts depth at words₀ cells₀ events₀ count i words cells events n × (length words ≡ length words₀)
     × (length cells ≡ length cells₀) × (length events ≡ length events₀)
 
 abbrev do-block-μ-loop : do-block-lts.MeasureT-loop
-do-block-μ-loop t at depth thread base starts words₀ cells₀ events₀ count i₀ n₀ words cells events i n = length t - i
+do-block-μ-loop t at depth thread label base starts words₀ cells₀ events₀ count i₀ n₀ words cells events i n = length t - i
 
 abbrev do-block-calls : ℕ → do-block-lts.Claims
 do-block-calls t = (do-instr-below t, do-instr.Post)
@@ -71,7 +71,7 @@ pub +do-block+do-instr-spec : {M : Type 1} → statement M
     (λ c. search (block-ways, needs))
     (λ c κs.
     let start = c .before .before .before .before .before in
-    (omega (arith, going-deep (start .loop .inv .0), start .before .before .before .before .before .pre .0), search (block-ways, needs)))
+    (omega (arith, going-deep (start .loop .inv .0), start .before .before .before .before .before .pre .0), going-one (start .loop .inv .0) (search needs)))
     (λ c. search needs)
     (λ c. search needs)
     (λ c. search needs)
@@ -83,9 +83,9 @@ pub +do-block+do-instr-spec : {M : Type 1} → statement M
     let done = c .before .before .before .before .before .before .before .before .before in
     let start = done .before .before .before .before .before .before in (
       search (block-ways, needs),
-      done .do-instr .kept .1 .1 .1 .1 .1 .1 .0 ∙ start .loop .inv .1,
-      done .do-instr .kept .1 .1 .1 .1 .1 .1 .1 .0 ∙ start .loop .inv .2,
-      done .do-instr .kept .1 .1 .1 .1 .1 .1 .1 .1 .0 ∙ start .loop .inv .3,
+      done .do-instr .kept .1 .1 .1 .1 .1 .1 .1 .0 ∙ start .loop .inv .1,
+      done .do-instr .kept .1 .1 .1 .1 .1 .1 .1 .1 .0 ∙ start .loop .inv .2,
+      done .do-instr .kept .1 .1 .1 .1 .1 .1 .1 .1 .1 .0 ∙ start .loop .inv .3,
     ))
     (λ c. search (block-ways, needs))
     (λ c. search needs)

@@ -27,17 +27,30 @@ write-event-spec =
     omega arith)
     (λ c. search needs)
     (λ c κs. search needs)
-    (λ c.
-    let last = c .before .before in
-    let second = last .before .before .before .before in
+    (λ c. search needs)
+    (λ c. search needs)
+    (λ c κs.
+    let value = c .before .before .before in
+    let second = value .before .before .before .before in
     let first = second .before .before .before .before in
-    last .write-value .kept .0 ∙ second .write-two2 .kept .0 ∙ first .write-two .kept .0 ∙ simp length-set)
+    let a = first .before .before .before .before .before .args in
+    let long : length (value .write-value .last .0) ≡ length (a .out .now) =
+    value .write-value .kept .0 ∙ second .write-two2 .kept .0 ∙ first .write-two .kept .0 ∙ simp length-set
+    in
+    omega arith)
     (λ c.
     let last = c .before .before in
-    let second = last .before .before .before .before in
+    let value = last .before .before .before .before in
+    let second = value .before .before .before .before in
+    let first = second .before .before .before .before in
+    last .write-two3 .kept .0 ∙ value .write-value .kept .0 ∙ second .write-two2 .kept .0 ∙ first .write-two .kept .0 ∙ simp length-set)
+    (λ c.
+    let last = c .before .before in
+    let value = last .before .before .before .before in
+    let second = value .before .before .before .before in
     let first = second .before .before .before .before in
     let test = first .before .before .before in
     let a = test .before .before .args in
     event-stored (a .out .now) (a .count) (eventOf (a .e)) (test .if1 .taken) (first .before .before .way .ensures)
-    (first .write-two .ensures) (second .write-two2 .ensures) (last .write-value .ensures .1))
+    (first .write-two .ensures) (second .write-two2 .ensures) (value .write-value .ensures .1) (last .write-two3 .ensures))
     (λ c. let a = c .before .before .args in event-past (a .out .now) (a .count) (eventOf (a .e)) (c .if1 .left)))
