@@ -45,7 +45,7 @@ static struct {
     const uint8_t *table, *schedule;
     size_t table_length, schedule_length, h, cells_length, events_length, out_length;
     uint64_t budget;
-    uint8_t cells[45056], events[45056], out[70000];
+    uint8_t cells[45056], events[4096 * ZARU_EVENT], out[70000];
     uint64_t answer[ZARU_BENCH_NUMBERS];
 } job;
 

@@ -86,7 +86,7 @@ static size_t translations(void)
 static void runs(size_t length)
 {
     uint64_t answer[ZARU_RUN_NUMBERS];
-    uint8_t cells[40960], events[64];
+    uint8_t cells[40960], events[4 * ZARU_EVENT + 12];
     memset(cells, 0xEE, sizeof cells);
     memset(events, 0xEE, sizeof events);
     zaru_run_concurrent(B, sizeof B, LOST, sizeof LOST, cells, 5, events, sizeof events, answer, ZARU_RUN_NUMBERS);
@@ -99,8 +99,10 @@ static void runs(size_t length)
     expect("a number", cells[0], 1);
     expect("the cell's end value: one share is lost", cells[1], 1);
     untouched("behind B's cell", cells, 5, sizeof cells);
-    untouched("behind the events", events, 44, sizeof events);
-    uint8_t other[64];
+    untouched("behind the events", events, 4 * ZARU_EVENT, sizeof events);
+    expect("the read's label", events[11] + 256u * events[12], 2);
+    expect("the last write's label", events[4 * ZARU_EVENT - 2] + 256u * events[4 * ZARU_EVENT - 1], 3);
+    uint8_t other[sizeof events];
     memset(other, 0xEE, sizeof other);
     zaru_run_sequential(copy, length, LOST, sizeof LOST, ZARU_BUDGET, 1, cells, sizeof cells, other, sizeof other, answer,
                         ZARU_RUN_NUMBERS);
@@ -109,7 +111,7 @@ static void runs(size_t length)
     expect("the copy's steps", answer[2], 198);
     expect("the copy's shared events", answer[4], 4);
     expect("the copy's cell", cells[1], 1);
-    expect("equal events", (uint64_t)memcmp(events, other, sizeof events), 0);
+    expect("equal events, with their labels", (uint64_t)memcmp(events, other, sizeof events), 0);
     zaru_run_concurrent(B, sizeof B, AGAIN, sizeof AGAIN, cells, 5, events, sizeof events, answer, ZARU_RUN_NUMBERS);
     expect("blocked", answer[1], ZARU_BLOCKED);
     expect("steps before it", answer[2], 4);
@@ -118,6 +120,11 @@ static void runs(size_t length)
                         ZARU_RUN_NUMBERS);
     expect("the copy is blocked", answer[1], ZARU_BLOCKED);
     expect("the copy's reason", answer[5], ZARU_REASON_FINISHED_THREAD);
+    /* whole events only */
+    memset(events, 0xEE, sizeof events);
+    zaru_run_concurrent(B, sizeof B, LOST, sizeof LOST, cells, 5, events, 2 * ZARU_EVENT - 1, answer, ZARU_RUN_NUMBERS);
+    expect("all events are counted", answer[4], 4);
+    untouched("behind the one that fits", events, ZARU_EVENT, sizeof events);
     uint8_t late[] = {0, 2};
     zaru_run_concurrent(B, sizeof B, late, 2, cells, 5, events, sizeof events, answer, ZARU_RUN_NUMBERS);
     expect("an entry that names no thread", answer[0], 11);

@@ -58,7 +58,12 @@ void zaru_read_sequential(const uint8_t *table, size_t table_length, uint64_t *a
 void zaru_translate(const uint8_t *table, size_t table_length, uint8_t *out, size_t out_length, uint64_t *answer,
                     size_t answer_length);
 
-/* answer: number, end, steps, unused entries, events (those not written included), reason. An event has 11 bytes, a cell 5. */
+/* The bytes of a cell and of an event. An event is thread (1 byte), 0 read or 1 write (1), location (2), index (2), value (5: as a cell),
+ * label of the step (2), numbers low byte first; the sequential run has the number of the procedure it is in as the label. */
+#define ZARU_CELL 5
+#define ZARU_EVENT 13
+
+/* answer: number, end, steps, unused entries, events (those not written included), reason. Events that fit whole are written. */
 void zaru_run_concurrent(const uint8_t *table, size_t table_length, const uint8_t *schedule, size_t schedule_length,
                          uint8_t *cells, size_t cells_length, uint8_t *events, size_t events_length, uint64_t *answer,
                          size_t answer_length);
