@@ -8,6 +8,7 @@
 
 use crate::calls::*;
 use crate::line::line;
+use crate::machine::EVENT;
 
 pub const READ_CONCURRENT: u8 = 1;
 pub const READ_SEQUENTIAL: u8 = 2;
@@ -24,7 +25,7 @@ pub const PRICES: u8 = 8;
 pub const GREETING: u8 = 90;
 
 /// One more whenever a case or a line changes its form.
-pub const VERSION: u64 = 4;
+pub const VERSION: u64 = 5;
 
 const HEADER: usize = 36;
 
@@ -32,7 +33,8 @@ const HEADER: usize = 36;
 pub const LONGEST_TABLE: usize = 66_000;
 pub const LONGEST_SCHEDULE: usize = 5_000;
 pub const LONGEST_CELLS: u32 = 45_000;
-pub const LONGEST_EVENTS: u32 = 20_000;
+/// An event for each entry of the longest schedule that is run.
+pub const LONGEST_EVENTS: u32 = EVENT as u32 * 4_096;
 pub const LONGEST_OUT: u32 = 70_000;
 
 #[derive(Clone, PartialEq, Eq, Debug, Default)]
@@ -310,7 +312,7 @@ mod tests {
             format!("7 13 0 0{} {empty}", " 0".repeat(COUNTS))
         );
         assert_eq!(line(PRICES), "8 0 0 0");
-        assert_eq!(line(GREETING), "90 4");
+        assert_eq!(line(GREETING), "90 5");
     }
 
     #[test]

@@ -1,5 +1,6 @@
 //! The concurrent machine.
 
+use crate::labels;
 use crate::machine::{run_in_place, step, Effect, End, Event, Frame, Heap, Stack, Touch};
 use crate::program::{Block, Instruction, Program};
 use crate::reason::Reason;
@@ -27,6 +28,27 @@ pub enum Done<'a> {
 pub struct Step<'a> {
     pub done: Done<'a>,
     pub touches: Vec<Touch>,
+    /// The instruction that the thread was at, an atomic block too; `None` at an end label.
+    at: Option<&'a Instruction>,
+}
+
+impl Step<'_> {
+    /// The events of the step: "the last two [bytes] being the label of the step; inside an atomic
+    /// block it is the block's label".
+    fn events(&self, program: &Program, thread: u8) -> Vec<Event> {
+        if self.touches.is_empty() {
+            return Vec::new();
+        }
+        // A return touches nothing, and an instruction of the program has a label.
+        let label = self.at.and_then(|at| labels::find(program, at));
+        let label = label.unwrap_or(0) as u16;
+        let event = |touch: &Touch| Event {
+            thread,
+            touch: *touch,
+            label,
+        };
+        self.touches.iter().map(event).collect()
+    }
 }
 
 impl<'a> Concurrent<'a> {
@@ -51,7 +73,7 @@ impl<'a> Concurrent<'a> {
         let stack = stack.ok_or(Reason::FinishedThread)?;
         let next = stack.last().ok_or(Reason::FinishedThread)?.next();
         if let Some(Instruction::Atomic { body }) = next {
-            return self.atomic_step(thread, body);
+            return self.atomic_step(thread, next, body);
         }
         let effect = step(self.program, stack, &mut self.heap)?;
         Ok(Step {
@@ -60,12 +82,18 @@ impl<'a> Concurrent<'a> {
                 Effect::Silent => Vec::new(),
                 Effect::Touched(touch) => vec![touch],
             },
+            at: next,
         })
     }
 
     /// A "whole atomic block" is one step: it works on copies, which replace the state only when
     /// the block has come to its end.
-    fn atomic_step(&mut self, thread: usize, body: &'a Block) -> Result<Step<'a>, Reason> {
+    fn atomic_step(
+        &mut self,
+        thread: usize,
+        at: Option<&'a Instruction>,
+        body: &'a Block,
+    ) -> Result<Step<'a>, Reason> {
         let frame = self.threads.get_mut(thread).and_then(|s| s.last_mut());
         let frame = frame.ok_or(Reason::FinishedThread)?;
         let mut locals = frame.locals.clone();
@@ -79,6 +107,7 @@ impl<'a> Concurrent<'a> {
         Ok(Step {
             done: Done::Atomic(done),
             touches,
+            at,
         })
     }
 }
@@ -102,11 +131,8 @@ pub fn run(program: &Program, schedule: &[u8], events: &mut Events) -> Run {
             Err(reason) => break End::Blocked(reason),
         };
         taken += 1;
-        for touch in step.touches {
-            events.record(&Event {
-                thread: *thread,
-                touch,
-            });
+        for event in step.events(program, *thread) {
+            events.record(&event);
         }
     };
     Run {

@@ -9,6 +9,7 @@ pub mod bodies;
 pub mod builder;
 pub mod calls;
 pub mod concurrent;
+pub mod event_samples;
 pub mod expression;
 pub mod head;
 pub mod labels;

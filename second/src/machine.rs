@@ -52,22 +52,30 @@ pub struct Touch {
     pub value: Value,
 }
 
-/// A touch and the thread that made it.
+/// "The event record becomes 13 bytes".
+pub const EVENT: usize = 13;
+
+/// A touch, the thread that made it, and where.
 #[derive(Clone, Copy, PartialEq, Eq, Debug)]
 pub struct Event {
     pub thread: u8,
     pub touch: Touch,
+    /// "the label of the step; inside an atomic block it is the block's label. The sequential
+    /// machine writes the number of the procedure it is in".
+    pub label: u16,
 }
 
 impl Event {
-    /// "An event is 11 bytes: thread, 0 read or 1 write, location (2), index (2), value (5)"
-    pub fn bytes(&self) -> [u8; 11] {
-        let mut bytes = [0; 11];
+    /// "thread, 0 read or 1 write, location (2), index (2), value (5)", "the last two being the
+    /// label of the step"
+    pub fn bytes(&self) -> [u8; EVENT] {
+        let mut bytes = [0; EVENT];
         bytes[0] = self.thread;
         bytes[1] = self.touch.access as u8;
         bytes[2..4].copy_from_slice(&self.touch.location.to_le_bytes());
         bytes[4..6].copy_from_slice(&self.touch.index.to_le_bytes());
         bytes[6..11].copy_from_slice(&self.touch.value.five_bytes());
+        bytes[11..13].copy_from_slice(&self.label.to_le_bytes());
         bytes
     }
 }

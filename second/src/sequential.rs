@@ -49,9 +49,10 @@ impl<'a> Sequential<'a> {
     /// "Before each step a run is judged finished, at its budget, used up (select and no entry),
     /// blocked, in this order."
     pub fn advance(&mut self, budget: u64) -> Next {
-        if self.stack.is_empty() {
+        let Some(frame) = self.stack.last() else {
             return Next::Ended(End::Finished);
-        }
+        };
+        let procedure = frame.procedure;
         if self.steps >= budget {
             return Next::Ended(End::Budget);
         }
@@ -68,7 +69,7 @@ impl<'a> Sequential<'a> {
             Err(reason) => Next::Ended(End::Blocked(reason)),
             Ok(effect) => {
                 self.steps += 1;
-                Next::Stepped(self.event(effect))
+                Next::Stepped(self.event(effect, procedure))
             }
         }
     }
@@ -93,12 +94,15 @@ impl<'a> Sequential<'a> {
         Ok(Effect::Silent)
     }
 
-    fn event(&self, effect: Effect) -> Option<Event> {
+    /// "The sequential machine writes the number of the procedure it is in, which for procedure 0
+    /// is 0."
+    fn event(&self, effect: Effect, procedure: usize) -> Option<Event> {
         match effect {
             Effect::Silent => None,
             Effect::Touched(touch) => Some(Event {
                 thread: self.selected,
                 touch,
+                label: procedure as u16,
             }),
         }
     }

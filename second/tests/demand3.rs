@@ -8,7 +8,7 @@ use second::concurrent::{Concurrent, Done};
 use second::expression::Expression;
 use second::labels;
 use second::line::BUDGET;
-use second::machine::{End, Event, Frame, Heap};
+use second::machine::{End, Event, Frame, Heap, EVENT};
 use second::price;
 use second::program::{Instruction, Kind, Program};
 use second::random::{program_of, schedule_for, Random, Scale};
@@ -99,9 +99,11 @@ fn story_of_program(program: &Program, schedule: &[u8], table_length: u64) -> St
         check_price(program, label, price);
         copy_steps += labels + 2 * threads + 10 + price;
         let touches = step.touches.into_iter();
+        // "Demand 3's equal reads and writes then include the label."
         events.extend(touches.map(|touch| Event {
             thread: *thread,
             touch,
+            label: label as u16,
         }));
     };
     Story {
@@ -259,7 +261,7 @@ fn check(program: &Program, schedule: &[u8]) -> End {
 fn check_calls(table: &[u8], copy: &[u8], schedule: &[u8], story: &Story, copy_story: &Story) {
     let read = read_concurrent(table);
     let mut cells = vec![0; 5 * read.cells as usize];
-    let mut events = vec![0; 11 * story.events.len()];
+    let mut events = vec![0; EVENT * story.events.len()];
     let run = run_concurrent(table, schedule, &mut cells, &mut events);
     assert_eq!((run.number, run.end), (0, story.end.number()));
     assert_eq!(run.reason, story.end.reason());
@@ -268,7 +270,7 @@ fn check_calls(table: &[u8], copy: &[u8], schedule: &[u8], story: &Story, copy_s
     assert_eq!(run.events, story.events.len() as u64);
 
     let mut copy_cells = vec![0; 5 * read_sequential(copy).cells as usize];
-    let mut copy_events = vec![0; 11 * copy_story.events.len()];
+    let mut copy_events = vec![0; EVENT * copy_story.events.len()];
     let h = read.locations as u32;
     let copy_run = run_sequential(copy, schedule, BUDGET, h, &mut copy_cells, &mut copy_events);
     assert_eq!((copy_run.number, copy_run.end), (0, run.end));

@@ -14,7 +14,7 @@ use second::{builder::*, samples};
 /// A run of a program that blocks behind `READY_STEPS`, nothing being left of its last step.
 fn check_concurrent(name: &str, program: &Program, reason: Reason) {
     let mut cells = [7; 10];
-    let mut events = [7; 22];
+    let mut events = [7; 26];
     let answer = run_concurrent(&table(program), &[0; 5], &mut cells, &mut events);
     let wanted = RunAnswer {
         number: 0,
@@ -26,7 +26,7 @@ fn check_concurrent(name: &str, program: &Program, reason: Reason) {
     };
     assert_eq!(answer, wanted, "{name}");
     assert_eq!(cells, [1, 0, 0, 0, 0, 1, 0, 0, 0, 0], "{name}");
-    assert_eq!(events, [7; 22], "{name}");
+    assert_eq!(events, [7; 26], "{name}");
 }
 
 #[test]

@@ -47,9 +47,11 @@ fn events_that_fit_whole_are_written() {
     for sample in ran() {
         let (answer, cells, all) = run(&sample, 45_000, 20_000);
         let count = answer.events as usize;
-        for room in [0, 1, 10, 11, 12, 21, 22, 23, 11 * count, 11 * count + 10] {
+        let exact = 13 * count;
+        let rooms = [0, 1, 11, 12, 13, 14, 22, 25, 26, 27];
+        for room in [&rooms[..], &[exact.saturating_sub(1), exact, exact + 12]].concat() {
             let (other, other_cells, some) = run(&sample, 45_000, room);
-            let whole = 11 * count.min(room / 11);
+            let whole = 13 * count.min(room / 13);
             assert_eq!((other, &other_cells), (answer, &cells));
             assert_eq!(some[..whole], all[..whole], "{}", sample.name);
             assert!(some[whole..].iter().all(|byte| *byte == 200));
@@ -91,21 +93,21 @@ fn a_blocked_atomic_block_leaves_no_trace() {
         let (answer, cells, events) = run(&named(name)[0], 10, 99);
         assert_eq!(answer.events, 1);
         assert_eq!(cells, [1, 0, 0, 0, 0, 1, 3, 0, 0, 0]);
-        assert_eq!(events[..11], [0, 1, 0, 0, 1, 0, 1, 3, 0, 0, 0]);
-        assert!(events[11..].iter().all(|byte| *byte == 200));
+        assert_eq!(events[..13], [0, 1, 0, 0, 1, 0, 1, 3, 0, 0, 0, 2, 0]);
+        assert!(events[13..].iter().all(|byte| *byte == 200));
     }
 }
 
 #[test]
 fn values_of_each_kind_in_cells_and_events() {
-    let (_, cells, events) = run(&named("values of each kind")[0], 10, 44);
+    let (_, cells, events) = run(&named("values of each kind")[0], 10, 52);
     assert_eq!(cells, [2, 0, 0, 0, 0, 4, 0, 0, 0, 0]);
     #[rustfmt::skip]
     let expected = [
-        0, 1, 0, 0, 0, 0, 2, 0, 0, 0, 0,
-        0, 0, 0, 0, 0, 0, 2, 0, 0, 0, 0,
-        0, 1, 0, 0, 1, 0, 4, 0, 0, 0, 0,
-        0, 0, 0, 0, 1, 0, 4, 0, 0, 0, 0,
+        0, 1, 0, 0, 0, 0, 2, 0, 0, 0, 0, 2, 0,
+        0, 0, 0, 0, 0, 0, 2, 0, 0, 0, 0, 2, 0,
+        0, 1, 0, 0, 1, 0, 4, 0, 0, 0, 0, 2, 0,
+        0, 0, 0, 0, 1, 0, 4, 0, 0, 0, 0, 3, 0,
     ];
     assert_eq!(events, expected);
 }
@@ -114,7 +116,7 @@ fn values_of_each_kind_in_cells_and_events() {
 #[test]
 fn a_select_names_the_thread() {
     let sample = &named("select a negative number")[0];
-    let (_, cells, events) = run(sample, 20, 33);
+    let (_, cells, events) = run(sample, 20, 39);
     #[rustfmt::skip]
     let expected_cells = [
         1, 2, 0, 0, 0,
@@ -125,9 +127,9 @@ fn a_select_names_the_thread() {
     assert_eq!(cells, expected_cells);
     #[rustfmt::skip]
     let expected = [
-        0, 1, 1, 0, 0, 0, 1, 1, 0, 0, 0,
-        0, 1, 1, 0, 2, 0, 1, 255, 255, 255, 255,
-        2, 0, 0, 0, 0, 0, 1, 2, 0, 0, 0,
+        0, 1, 1, 0, 0, 0, 1, 1, 0, 0, 0, 0, 0,
+        0, 1, 1, 0, 2, 0, 1, 255, 255, 255, 255, 0, 0,
+        2, 0, 0, 0, 0, 0, 1, 2, 0, 0, 0, 0, 0,
     ];
     assert_eq!(events, expected);
 }
@@ -150,11 +152,12 @@ fn high_bytes_of_events() {
     let mut sizes = vec![1; 511];
     sizes.push(256);
     let program = program(vec![procedure(0, 1, body)], &sizes, &[]);
-    let mut events = [0; 22];
+    let mut events = [0; 26];
     let mut cells = vec![0; 5 * (511 + 256)];
     let answer = run_sequential(&table(&program), &[], 99, 512, &mut cells, &mut events);
     assert_eq!((answer.end, answer.steps, answer.events), (0, 4, 2));
-    assert_eq!(events[..11], [0, 1, 255, 1, 255, 0, 1, 254, 255, 255, 255]);
+    let first = [0, 1, 255, 1, 255, 0, 1, 254, 255, 255, 255, 0, 0];
+    assert_eq!(events[..13], first);
     assert_eq!(cells[cells.len() - 5..], [1, 254, 255, 255, 255]);
 }
 

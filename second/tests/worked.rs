@@ -184,7 +184,7 @@ fn b_with_an_empty_schedule() {
 /// B's events under 0 0 1 1 0 1 0 1, byte for byte.
 #[test]
 fn events_of_b() {
-    let mut events = [9; 46];
+    let mut events = [9; 54];
     run_concurrent(
         &table(&b()),
         &[0, 0, 1, 1, 0, 1, 0, 1],
@@ -193,10 +193,10 @@ fn events_of_b() {
     );
     #[rustfmt::skip]
     let expected = [
-        0, 0, 0, 0, 0, 0, 1, 0, 0, 0, 0,
-        1, 0, 0, 0, 0, 0, 1, 0, 0, 0, 0,
-        0, 1, 0, 0, 0, 0, 1, 1, 0, 0, 0,
-        1, 1, 0, 0, 0, 0, 1, 1, 0, 0, 0,
+        0, 0, 0, 0, 0, 0, 1, 0, 0, 0, 0, 2, 0,
+        1, 0, 0, 0, 0, 0, 1, 0, 0, 0, 0, 2, 0,
+        0, 1, 0, 0, 0, 0, 1, 1, 0, 0, 0, 3, 0,
+        1, 1, 0, 0, 0, 0, 1, 1, 0, 0, 0, 3, 0,
         9, 9,
     ];
     assert_eq!(events, expected);

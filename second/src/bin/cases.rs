@@ -10,8 +10,10 @@ use second::bench_samples::{benched, blocks_after, d, racing};
 use second::builder::*;
 use second::calls::{read_concurrent, read_sequential, run_sequential, translate};
 use second::concurrent::Concurrent;
+use second::event_samples::{traced, Traced};
 use second::labels;
 use second::line::BUDGET;
+use second::machine::EVENT;
 use second::price;
 use second::price_samples::priced;
 use second::program::{Instruction, Kind, Program};
@@ -109,6 +111,8 @@ fn whole_batch(ops: Vec<u8>) -> Batch {
     worked_prices(&mut batch);
     refused_prices(&mut batch);
     random_prices(&mut batch, &mut Random::new(SEED + 104));
+    batch.section = "labels of events";
+    labelled_events(&mut batch);
     batch.input.extend(last_header());
     batch
 }
@@ -301,6 +305,11 @@ fn cell_bytes(kind: Kind, table: &[u8]) -> u32 {
     }
 }
 
+/// The bytes of so many events.
+fn events(count: u32) -> u32 {
+    EVENT as u32 * count
+}
+
 // ---- cases written by hand ----
 
 /// The paper's worked cases; labels, depths and schedules stand among the judged tables and runs.
@@ -319,9 +328,9 @@ fn worked(batch: &mut Batch) {
         let copy_run = Case {
             budget: BUDGET,
             h: read_concurrent(source).locations as u32,
-            ..run_case(Kind::Sequential, &copy, schedule, 200, 44)
+            ..run_case(Kind::Sequential, &copy, schedule, 200, events(4))
         };
-        let run = run_case(Kind::Concurrent, source, schedule, cells, 44);
+        let run = run_case(Kind::Concurrent, source, schedule, cells, events(4));
         batch.add(shown(read_case(Kind::Concurrent, source)));
         batch.add(shown(read_case(Kind::Sequential, &copy)));
         batch.add(shown(translate_case(source, copy.len() as u32)));
@@ -350,8 +359,14 @@ fn ranges(batch: &mut Batch) {
         let body = vec![assign(0, location(0)), write(0, number(1), expression)];
         let concurrent = table(&one_thread(1, body.clone()));
         let sequential = table(&sequential(1, body));
-        batch.add(run_case(Kind::Concurrent, &concurrent, &[0; 3], 10, 11));
-        batch.add(run_case(Kind::Sequential, &sequential, &[], 10, 11));
+        batch.add(run_case(
+            Kind::Concurrent,
+            &concurrent,
+            &[0; 3],
+            10,
+            events(1),
+        ));
+        batch.add(run_case(Kind::Sequential, &sequential, &[], 10, events(1)));
         batch.add(line_case(&[0; 3], &concurrent));
     }
 }
@@ -415,8 +430,8 @@ fn long_copies(batch: &mut Batch) {
 fn runs(batch: &mut Batch) {
     for sample in ran() {
         let cells = cell_bytes(sample.kind, &sample.table);
-        let events = 11 * sample.answer.events as u32;
-        let mut lengths = vec![(cells, events), (cells + 3, events + 10)];
+        let events = events(sample.answer.events as u32);
+        let mut lengths = vec![(cells, events), (cells + 3, events + 12)];
         if cells > 0 {
             lengths.push((cells - 1, events));
         }
@@ -464,7 +479,7 @@ fn reasons(batch: &mut Batch) {
     }
     for sample in blocks() {
         let sequential = table(&reason_samples::sequential(&sample));
-        batch.add(run_case(Kind::Sequential, &sequential, &[0], 10, 11));
+        batch.add(run_case(Kind::Sequential, &sequential, &[0], 10, events(1)));
         let plain = table(&reason_samples::concurrent(&sample));
         let inside = table(&reason_samples::in_atomic(&sample));
         let branch = table(&reason_samples::in_a_branch(&sample));
@@ -487,7 +502,7 @@ fn ands(batch: &mut Batch) {
     for placed in all_placed() {
         if placed.may_be_sequential() {
             let sequential = table(&and_samples::sequential(&placed));
-            let case = run_case(Kind::Sequential, &sequential, &[], 10, 22);
+            let case = run_case(Kind::Sequential, &sequential, &[], 10, events(2));
             batch.add(Case { budget: 40, ..case });
         }
         blocked_program(batch, &table(&and_samples::concurrent(&placed)), &[0; 12]);
@@ -496,7 +511,13 @@ fn ands(batch: &mut Batch) {
 
 fn blocked_program(batch: &mut Batch, source: &[u8], schedule: &[u8]) {
     let cells = cell_bytes(Kind::Concurrent, source);
-    batch.add(run_case(Kind::Concurrent, source, schedule, cells, 11));
+    batch.add(run_case(
+        Kind::Concurrent,
+        source,
+        schedule,
+        cells,
+        events(1),
+    ));
     batch.add(line_case(schedule, source));
 }
 
@@ -518,7 +539,7 @@ fn schedules(batch: &mut Batch) {
     ];
     for schedule in refused {
         for cells in [4, 5] {
-            batch.add(run_case(Kind::Concurrent, &b, schedule, cells, 44));
+            batch.add(run_case(Kind::Concurrent, &b, schedule, cells, events(4)));
         }
         batch.add(line_case(schedule, &b));
     }
@@ -531,7 +552,13 @@ fn schedules(batch: &mut Batch) {
         vec![0; 5_000],
     ] {
         for cells in [0, cells - 1, cells] {
-            batch.add(run_case(Kind::Sequential, &copy, &schedule, cells, 44));
+            batch.add(run_case(
+                Kind::Sequential,
+                &copy,
+                &schedule,
+                cells,
+                events(4),
+            ));
         }
     }
     long_runs(batch);
@@ -573,15 +600,16 @@ fn many_events(batch: &mut Batch) {
     let source = table(&one_thread(2, body));
     let copy = copy_of(&source).expect("an accepted table");
     let cells = cell_bytes(Kind::Sequential, &copy);
-    for events in [0, 19_998, 20_000] {
-        batch.add(run_case(Kind::Concurrent, &source, &[0; 600], 10, events));
-        let case = run_case(Kind::Sequential, &copy, &[0; 600], cells, events);
+    let entries = [0; 900];
+    for events in [0, events(1_500) + 12, LONGEST_EVENTS - 1, LONGEST_EVENTS] {
+        batch.add(run_case(Kind::Concurrent, &source, &entries, 10, events));
+        let case = run_case(Kind::Sequential, &copy, &entries, cells, events);
         batch.add(Case {
             budget: BUDGET,
             ..case
         });
     }
-    batch.add(line_case(&[0; 600], &source));
+    batch.add(line_case(&entries, &source));
 }
 
 /// Number 12.
@@ -747,7 +775,7 @@ fn about(length: u32, random: &mut Random) -> u32 {
 fn event_room(random: &mut Random) -> u32 {
     match random.below(4) {
         0 => random.below(60) as u32,
-        1 => 11 * random.below(12) as u32,
+        1 => events(random.below(12) as u32),
         _ => random.between(300, 700) as u32,
     }
 }
@@ -1041,4 +1069,50 @@ fn random_prices(batch: &mut Batch, random: &mut Random) {
         }
         batch.add(prices_case(&damaged(&source, random), 1));
     }
+}
+
+// ---- labels of events ----
+
+/// Every run whose labels are worked, with event buffers of few bytes, one byte short of all events,
+/// exact and longer, all shown; and the same runs of copies.
+fn labelled_events(batch: &mut Batch) {
+    for sample in traced() {
+        let exact = events(sample.labels.len() as u32);
+        let few: &[u32] = match sample.table.len() {
+            0..=1_000 => &[0, 12, 13, 14, 25, 26],
+            _ => &[13, 25],
+        };
+        for room in few
+            .iter()
+            .copied()
+            .chain([exact.saturating_sub(1), exact, exact + 12])
+        {
+            batch.add(traced_case(&sample, room));
+        }
+        if sample.kind == Kind::Concurrent && sample.table.len() < 1_000 {
+            traced_copy(batch, &sample);
+        }
+    }
+}
+
+fn traced_case(sample: &Traced, events: u32) -> Case {
+    let cells = cell_bytes(sample.kind, &sample.table);
+    shown(Case {
+        budget: BUDGET,
+        h: sample.h,
+        ..run_case(sample.kind, &sample.table, &sample.schedule, cells, events)
+    })
+}
+
+/// The copy's run: the events of the program's locations, and those of all its own too.
+fn traced_copy(batch: &mut Batch, sample: &Traced) {
+    let copy = Traced {
+        kind: Kind::Sequential,
+        table: copy_of(&sample.table).expect("an accepted table"),
+        ..sample.clone()
+    };
+    let exact = events(sample.labels.len() as u32);
+    batch.add(traced_case(&copy, exact));
+    let all = Traced { h: 600, ..copy };
+    batch.add(traced_case(&all, 700));
 }
