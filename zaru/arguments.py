@@ -16,8 +16,8 @@ class Words:
     options: Dict[str, str]
 
 
-def parse(words: Sequence[str], options: Sequence[str]) -> Words:
-    """Each option takes a value, as `--budget 5` or `--budget=5`; `-` alone is no option."""
+def parse(words: Sequence[str], options: Sequence[str], flags: Sequence[str] = ()) -> Words:
+    """Each option takes a value, as `--budget 5` or `--budget=5`, and a flag takes none; `-` alone is no option."""
     positional: List[str] = []
     found: Dict[str, str] = {}
     rest = list(words)
@@ -26,10 +26,14 @@ def parse(words: Sequence[str], options: Sequence[str]) -> Words:
         name, equals, value = word.partition("=")
         if word == "-" or not word.startswith("-") or is_number(word):
             positional.append(word)
-        elif name not in options:
+        elif name not in options and name not in flags:
             raise UsageError(f"unknown option {name}")
         elif name in found:
             raise UsageError(f"{name} is given twice")
+        elif name in flags and equals:
+            raise UsageError(f"{name} takes no value")
+        elif name in flags:
+            found[name] = ""
         elif equals or rest:
             found[name] = value if equals else rest.pop(0)
         else:

@@ -44,7 +44,7 @@ def sentence(program: t.Program, copy: bytes, run: Run, thread: int, label: int)
 def label_after(program: t.Program, copy: bytes, schedule: bytes, thread: int) -> int:
     """The thread's label when the order has been used."""
     shape = engine.read(engine.READ_SEQUENTIAL, copy)
-    request = Request(engine.RUN_SEQUENTIAL, copy, schedule, budget=BUDGET, cells=5 * shape.cells)
+    request = Request(engine.RUN_SEQUENTIAL, copy, schedule, budget=BUDGET, cells=engine.CELL * shape.cells)
     return state_of(program, engine.run(request).cell_bytes).labels[thread]
 
 

@@ -21,7 +21,7 @@ from zaru.steps import LONGEST_ORDER
 from zaru.table import CONCURRENT, SEQUENTIAL, decode
 from zaru.text import text_of
 from zaru.trace import trace
-from zaru.values import cell_lines
+from zaru.values import cell_lines, event_lines, events_of
 
 DONE, REFUSED, WRONG_USE, NO_ENGINE, FAULT = 0, 1, 2, 3, 4
 KIND_LETTERS = {"c": CONCURRENT, "s": SEQUENTIAL}
@@ -91,12 +91,16 @@ def command_run(words: Words) -> List[str]:
     program = accepted_program(CONCURRENT, source.table)
     # A table without a copy (9) is refused before its order is judged (11), as the run program does it.
     copy = engine.translate(source.table)
-    request = Request(engine.RUN_CONCURRENT, source.table, schedule, cells=engine.CELL_ROOM)
+    request = Request(
+        engine.RUN_CONCURRENT, source.table, schedule, cells=engine.CELL_ROOM, events=engine.EVENT_ROOM
+    )
     run = engine.run(request)
     lines = [engine.run_line(source.table, schedule)]
     if run.end == "blocked":
         lines.append(blocked.why(program, copy, schedule, run))
-    return lines + cell_lines(run.cell_bytes, program.sizes, source.names_for(program).locations)
+    locations = source.names_for(program).locations
+    lines += cell_lines(run.cell_bytes, program.sizes, locations)
+    return lines + (event_lines(events_of(run.event_bytes), run.events, locations) if "--events" in words.options else [])
 
 
 def command_trace(words: Words) -> List[str]:
@@ -168,6 +172,7 @@ class Command:
     do: Callable[[Words], List[str]]
     text: str
     options: Sequence[str] = ()
+    flags: Sequence[str] = ()
 
 
 COMMANDS: Dict[str, Command] = {
@@ -187,7 +192,7 @@ Writes the sequential copy of a concurrent table to the file COPY: its bytes or,
         ("-o",),
     ),
     "run": Command(
-        "zaru run TABLE ORDER..",
+        "zaru run TABLE ORDER.. [--events]",
         command_run,
         """
 Runs a concurrent table and its copy in this order of its threads (`0 0 1 1` or `0,0,1,1`).
@@ -196,15 +201,20 @@ The first line is the run program's: the end (finished, used: the order has no e
 steps, the copy's steps, the entries that were not used, the shared reads and writes, and why it blocked: 1 outside the
 number range, 2 wrong kind, 3 index outside, 4 finished thread chosen, 0 not blocked. A blocked run has a second line,
 which says in words where it stopped and why. Then come the final cells.
+
+With --events the shared reads and writes are listed, in the order of the steps: the thread, the label of the step that made
+it (in an atomic block, the block's), and what was read or written where. At most 4,096 are listed.
 """,
+        flags=("--events",),
     ),
     "trace": Command(
         "zaru trace TABLE ORDER..",
         command_trace,
         f"""
-Prints a line for each step of a run: its thread, its label, the instruction, what it set and read and wrote, where a
-test or call led. Then it says how the run ended and, if it was blocked, where and why. Of an instruction it names the
-parts that can block so: which of several it was is not known.
+Prints a line for each step of a run: its thread, its label, the instruction, what it set, where a test or call led, and
+what it read and wrote, each with the label that the proved program has in its record of it. Then it says how the run
+ended and, if it was blocked, where and why. Of an instruction it names the parts that can block so: which of several it
+was is not known.
 An order has at most {LONGEST_ORDER} entries here.
 """,
     ),
@@ -313,7 +323,7 @@ zaru: concurrent programs, their sequential copies, and what both do in a given 
 
   zaru read c|s TABLE               is the table accepted? its counts
   zaru translate TABLE -o COPY      writes its sequential copy
-  zaru run TABLE ORDER..            runs program and copy in this order of threads
+  zaru run TABLE ORDER..            runs program and copy in this order of threads; --events
   zaru trace TABLE ORDER..          the same, a line for each step
   zaru cost TABLE ORDER..           the copy's steps, a line for each step of the program
   zaru bench TABLE ROUNDS STEPS     tries round-robin orders: the first that blocks
@@ -353,7 +363,7 @@ def main(words: Sequence[str]) -> int:
     try:
         command, rest = chosen(words)
         usage = f"usage: {command.usage}"
-        for line in command.do(arguments.parse(rest, command.options)):
+        for line in command.do(arguments.parse(rest, command.options, command.flags)):
             print(line)
         return DONE
     except UsageError as error:

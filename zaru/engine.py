@@ -20,15 +20,17 @@ from zaru.built import newer_source
 READ_CONCURRENT, READ_SEQUENTIAL, TRANSLATE, RUN_CONCURRENT, RUN_SEQUENTIAL, RUN_LINE, BENCH, PRICES = range(1, 9)
 GREETING = 90
 # The version of requests and lines; crates/cases/src/main.rt has it too.
-VERSION = 4
+VERSION = 5
 
 HEADER = 36
 # What the program is ready for.
 LONGEST_TABLE = 66_000
 LONGEST_SCHEDULE = 5_000
-# Room for every accepted table: cells of 5 bytes, events of 11, the longest copy.
-CELL_ROOM = 5 * 8_192
-EVENT_ROOM = 11 * 4_096
+# The bytes of a cell and of an event.
+CELL, EVENT = 5, 13
+# Room for every accepted table: its cells, the longest copy, and as many events as an order has entries.
+CELL_ROOM = CELL * 8_192
+EVENT_ROOM = EVENT * 4_096
 COPY_ROOM = 65_536
 
 VARIABLE = "ZARU_ENGINE"
@@ -104,7 +106,7 @@ class Shape:
 
 @dataclass(frozen=True)
 class Run:
-    """What a run answers: its end, numbers, final cells (5 bytes each) and the events that were written (11 each)."""
+    """What a run answers: its end, numbers, final cells and the events that were written."""
 
     end: str
     steps: int
@@ -118,7 +120,7 @@ class Run:
 
 @dataclass(frozen=True)
 class Bench:
-    """What the bench answers: was an order found that blocks, its number and its counts; the last run's cells (5 bytes each)."""
+    """What the bench answers: was an order found that blocks, its number and its counts; the last run's cells."""
 
     found: bool
     number: int
@@ -267,7 +269,7 @@ def run_of(request: Request, answer: Answer) -> Run:
     if not 0 <= end < len(ENDS) or not 0 <= reason <= LAST_REASON or (ENDS[end] == "blocked") != (reason != 0):
         raise unexpected(answer)
     cells, rest = answer.lent[: request.cells], answer.lent[request.cells :]
-    written = rest[: 11 * min(events, request.events // 11)]
+    written = rest[: EVENT * min(events, request.events // EVENT)]
     return Run(ENDS[end], steps, unused, events, reason, cells, written)
 
 

@@ -2,8 +2,8 @@
 
 `labels` works out from the program's text which instruction a label is and which labels follow. That is not proved. So a
 run is followed here by those labels alone, from each thread's first one on, and in each state every thread must be
-where the copy's `pct` has it. The events of a step must be such as its instruction has, and name the location and the
-value that are in its locals.
+where the copy's `pct` has it. The events of a step must be such as its instruction has, and name its thread, its label, and
+the location and the value that are in its locals.
 """
 
 from __future__ import annotations
@@ -60,8 +60,8 @@ class Follower:
 
     def hold_events(self, thread: int, before: State, after: State, events: Sequence[Event]) -> None:
         """The thread's next step is from one state to the other, with these events."""
-        spot = self.spot(thread)
-        if any(event.thread != thread for event in events) or not fits(spot, thread, before, after, events):
+        spot, own = self.spot(thread), (thread, self.labels[thread])
+        if any((event.thread, event.label) != own for event in events) or not fits(spot, thread, before, after, events):
             raise self.wrong(f"the next step has events that do not fit label {self.labels[thread]}")
 
     def wrong(self, what: str) -> Fault:

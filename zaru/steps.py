@@ -61,7 +61,7 @@ class Course:
 
 
 def answers_of(program: t.Program, table: bytes, schedule: bytes) -> Answers:
-    cell_room = 5 * sum(program.sizes)
+    cell_room = engine.CELL * sum(program.sizes)
     copy = engine.translate(table)
     whole = Request(engine.RUN_CONCURRENT, table, schedule, cells=cell_room, events=engine.EVENT_ROOM)
     run = engine.run(whole)
@@ -69,7 +69,7 @@ def answers_of(program: t.Program, table: bytes, schedule: bytes) -> Answers:
     prefixes = [schedule[:length] for length in range(run.steps + 1)]
     ours = [Request(engine.RUN_CONCURRENT, table, prefix, cells=cell_room) for prefix in prefixes]
     theirs = [
-        Request(engine.RUN_SEQUENTIAL, copy, prefix, budget=BUDGET, h=shape.locations, cells=5 * shape.cells)
+        Request(engine.RUN_SEQUENTIAL, copy, prefix, budget=BUDGET, h=shape.locations, cells=engine.CELL * shape.cells)
         for prefix in prefixes
     ]
     answers = engine.ask(ours + theirs)

@@ -33,7 +33,7 @@ class Teller:
     def did(self, step: Step) -> str:
         """What the step set, where it led, what it read and wrote."""
         words = self.locals_set(step) + went(step.spot, step.after.labels[step.thread])
-        words += [event.text(self.names.locations) for event in step.events]
+        words += [f"{event.text(self.names.locations)} at label {event.label}" for event in step.events]
         words += [f"{step.missing} more events"] if step.missing else []
         return "; ".join(words)
 

@@ -4,8 +4,9 @@ from __future__ import annotations
 
 from typing import List, NamedTuple, Sequence, Tuple
 
-CELL = 5
-EVENT = 11
+from zaru.columns import columns
+from zaru.engine import CELL, EVENT
+
 # How many cells stand on one line.
 ROW = 16
 
@@ -53,6 +54,8 @@ class Event(NamedTuple):
     location: int
     index: int
     value: bytes
+    # Of the step that made it; of an instruction inside an atomic block, the block's.
+    label: int
 
     def text(self, locations: Sequence[str]) -> str:
         word = "write" if self.is_write else "read"
@@ -60,9 +63,22 @@ class Event(NamedTuple):
 
 
 def events_of(written: bytes) -> Tuple[Event, ...]:
-    """Events of 11 bytes: thread, 0 read or 1 write, location (2), index (2), value (5)."""
-    rows = (written[at : at + EVENT] for at in range(0, len(written), EVENT))
-    return tuple(
-        Event(row[0], row[1] == 1, int.from_bytes(row[2:4], "little"), int.from_bytes(row[4:6], "little"), row[6:])
-        for row in rows
-    )
+    """Events of 13 bytes: thread, 0 read or 1 write, location (2), index (2), value (5), label (2)."""
+    return tuple(event_of(written[at : at + EVENT]) for at in range(0, len(written), EVENT))
+
+
+def event_of(row: bytes) -> Event:
+    def two(at: int) -> int:
+        return int.from_bytes(row[at : at + 2], "little")
+
+    return Event(row[0], row[1] == 1, two(2), two(4), row[6:11], two(11))
+
+
+def event_lines(events: Sequence[Event], count: int, locations: Sequence[str]) -> List[str]:
+    """The events of a run, a line for each, and how many more there are of `count`."""
+    if count == 0:
+        return ["no shared reads or writes"]
+    heads = ("event", "thread", "label", "what was done")
+    rows = [(place, one.thread, one.label, one.text(locations)) for place, one in enumerate(events, 1)]
+    more = [f"{count - len(events):,} more events, which there is no room for"] if count > len(events) else []
+    return columns(heads, rows, heads[3:]) + more

@@ -53,8 +53,8 @@ class Traces(unittest.TestCase):
     def test_lost_update(self) -> None:
         lines = told(samples.B_TEXT, "00110101")
         self.assertEqual(lines[0], "step  thread  label  instruction    what it did")
-        self.assertEqual(lines[2], "   2       0      2  v := p[0]      v = 0; read cell[0] = 0")
-        self.assertEqual(lines[6], "   6       1      3  p[0] := v + 1  write cell[0] = 1")
+        self.assertEqual(lines[2], "   2       0      2  v := p[0]      v = 0; read cell[0] = 0 at label 2")
+        self.assertEqual(lines[6], "   6       1      3  p[0] := v + 1  write cell[0] = 1 at label 3")
         self.assertEqual(lines[8], "   8       1      4  end of work    thread finished")
         self.assertEqual(lines[9], "finished after 8 steps, 0 entries unused")
 
@@ -78,7 +78,7 @@ class Traces(unittest.TestCase):
     def test_atomic(self) -> None:
         lines = told(body("p := m", "atomic", "v := p[1]", "v := v + 5", "p[0] := v", "end"), "00")
         self.assertIn("atomic: v := p[1]; v := v + 5; p[0] :=..", lines[2])
-        self.assertTrue(lines[2].endswith("v = 5; read m[1] = 0; write m[0] = 5"), lines[2])
+        self.assertTrue(lines[2].endswith("v = 5; read m[1] = 0 at label 2; write m[0] = 5 at label 2"), lines[2])
         self.assertEqual(lines[-1], "used: the order ends after 2 steps")
 
     def test_a_blocked_atomic_block_is_told_whole(self) -> None:
