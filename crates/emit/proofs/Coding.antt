@@ -98,7 +98,7 @@ onto-same {o} {p} {a} e = subst (λ (b : List ℕ). Onto o p a o p b) e onto-sta
 
 module _ {s : Site} {u x : ℕ} where
   -- past the locals
-  pub load-past : {o : List ℕ} {p : ℕ} → s .locals ≤ x → LoadsIf s u x o p o p
+  load-past : {o : List ℕ} {p : ℕ} → s .locals ≤ x → LoadsIf s u x o p o p
   load-past l = record {
     gives = λ G m n es h f c.
         let none : variables x (n - x) es ≡ [] = no-variable x n es (omega (arith, h .locals)) in
@@ -131,22 +131,25 @@ module _ {s : Site} {u x : ℕ} where
   }
 
 -- before the first variable
-pub loading-start : {s : Site} {u : ℕ} {o : List ℕ} {p : ℕ} → Loading s u o p maxLocals o p
-loading-start = record {
-  rest = λ G m n es h f c. let e : n ≡ n - 0 = omega arith in onto-same (ap (λ (k : ℕ). block (loadAll G m n (variables 0 k es) c)) e);
+pub loading-start : {s : Site} {u : ℕ} {o : List ℕ} {p : ℕ} → Loading s u o p (s .locals) o p
+loading-start {s} = record {
+  rest = λ G m n es h f c.
+      let x : s .locals - s .locals ≡ 0 = omega arith in
+      let e : n ≡ n - 0 = omega arith in
+      rw x (onto-same (ap (λ (k : ℕ). block (loadAll G m n (variables 0 k es) c)) e));
   kept = refl;
   most = omega arith;
 }
 
 -- a variable more
 pub loading-next : {s : Site} {u : ℕ} {o o′ o″ : List ℕ} {p q r : ℕ} (left : ℕ) → Loading s u o p left o′ q → 0 < left
-    → LoadsIf s u (maxLocals - left) o′ q o″ r → length o″ ≡ length o′ → Loading s u o p (left - 1) o″ r
+    → LoadsIf s u (s .locals - left) o′ q o″ r → length o″ ≡ length o′ → Loading s u o p (left - 1) o″ r
 loading-next {s} {u} {o} {o′} {o″} {p} {q} {r} left L some I k = record {
   rest = λ G m n es h f c.
-      let x : ℕ = maxLocals - left in
-      let next : x + 1 ≡ maxLocals - (left - 1) = omega (arith, L .most) in
+      let x : ℕ = s .locals - left in
+      let next : x + 1 ≡ s .locals - (left - 1) = omega (arith, L .most) in
       let A = L .rest G m n es h f c in
-      let B = I .gives G m n es h (f x (omega arith)) c in
+      let B = I .gives G m n es h (f x (omega (arith, h .locals, h .few))) c in
       subst (λ (y : ℕ). Onto o p (block (loads G m n es c)) o″ r (block (loadAll G m n (variables y (n - y) es) c))) next
       (record { then = λ P. A .then (B .then P); kept = B .kept ∙ A .kept });
   kept = k ∙ L .kept;
@@ -159,7 +162,7 @@ loading-end {s} {u} {o} {o′} {p} {r} {left} L none = record {
   gives = λ G m n es h f. record {
     before = λ c.
         subst (λ (xs : List ℕ). Onto o p (block (loads G m n es c)) o′ r (block (loadAll G m n xs c)))
-        (no-variable (maxLocals - left) n es (omega (arith, h .few))) (L .rest G m n es h f c);
+        (no-variable (s .locals - left) n es (omega (arith, h .locals))) (L .rest G m n es h f c);
     kept = L .kept;
   };
 }
@@ -192,7 +195,6 @@ pub ruleset code-ways = (
   fetch,
   take-one,
   load-one,
-  load-past,
   load-off,
   load-on,
   loading-start,

@@ -5,7 +5,6 @@ use crate::layout::home;
 use basics::numbers::ASSIGN;
 use basics::numbers::END;
 use basics::numbers::LOCAL;
-use basics::numbers::LOCALS;
 use basics::numbers::LOCATION;
 use basics::numbers::READ;
 use basics::numbers::WHOLE;
@@ -15,6 +14,7 @@ use writer::bytes::put;
 use writer::bytes::put_four;
 use writer::bytes::put_three;
 use writer::bytes::put_two;
+ghost use Prim.Native.Nat.{_<_};
 ghost use mathlib.Core.List.{[], _∷_};
 ghost use Rattle.format.specs.Syntax.{local, assign, write, read};
 ghost use Rattle.translation.specs.Code.{tid, tmp, num, loc};
@@ -84,26 +84,25 @@ pub fn put_load(s: Site, x: u8, out: &mut [u8], at: usize) -> usize
     put_take(out, at, home(s, x), moved(x))
 }
 
-// Load x if it is in the set and the procedure has it.
+// Load local x if it is in the set.
 fn put_member(s: Site, set: u16, x: u8, out: &mut [u8], at: usize) -> usize
+    requires { ⌜ x < s .locals ⌝ }
     ensures { λ r. ⌜ LoadsIf s set x (now (out .entry)) at (now (out .exit)) r ⌝ }
 {
     if has(set, x) {
-        if x < s.locals {
-            return put_load(s, x, out, at);
-        }
+        return put_load(s, x, out, at);
     }
     at
 }
 
-// "Loads go over distinct variables, rising": those of a set.
+// "Loads go over distinct variables, rising": the procedure's locals that are in the set.
 pub fn put_loads(s: Site, set: u16, out: &mut [u8], at: usize) -> usize
     ensures { λ r. ⌜ LoadsAll s set (now (out .entry)) at (now (out .exit)) r ⌝ }
 {
-    let mut left = LOCALS;
+    let mut left = s.locals;
     let mut p = at;
     while 0 < left {
-        let x = LOCALS - left;
+        let x = s.locals - left;
         p = put_member(s, set, x, out, p);
         left -= 1;
     }

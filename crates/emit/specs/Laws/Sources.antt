@@ -59,12 +59,12 @@ pub record LoadsIf (s : Site) (u x : ℕ) (o : List ℕ) (p : ℕ) (o′ : List 
 pub record LoadsAll (s : Site) (u : ℕ) (o : List ℕ) (p : ℕ) (o′ : List ℕ) (r : ℕ) : Type 0 where
   pub gives : (G : Layout) (m n : ℕ) (es : List Expr) → Sited G m n s → SetOf u es → Writes o p (loads G m n es) o′ r
 
--- the loads of the last variables of 16 are left
+-- the loads of the last locals are left
 pub record Loading (s : Site) (u : ℕ) (o : List ℕ) (p left : ℕ) (o′ : List ℕ) (r : ℕ) : Type 0 where
   pub rest : (G : Layout) (m n : ℕ) (es : List Expr) → Sited G m n s → SetOf u es → (c : Block S.Plain)
-      → Onto o p (block (loads G m n es c)) o′ r (block (loadAll G m n (variables (maxLocals - left) (n - (maxLocals - left)) es) c))
+      → Onto o p (block (loads G m n es c)) o′ r (block (loadAll G m n (variables (s .locals - left) (n - (s .locals - left)) es) c))
   pub kept : length o′ ≡ length o
-  pub most : left ≤ maxLocals
+  pub most : left ≤ s .locals
 
 -- "pc"
 pub record Goes (s : Site) (label : ℕ) (o : List ℕ) (p : ℕ) (o′ : List ℕ) (r : ℕ) : Type 0 where

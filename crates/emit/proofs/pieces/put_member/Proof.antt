@@ -12,5 +12,4 @@ put-member-spec =
     (λ c κs. search needs)
     (λ c. search needs)
     (λ c. search code-ways)
-    (λ c. search code-ways)
     (λ c. search code-ways))
