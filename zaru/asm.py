@@ -5,74 +5,18 @@ The text is judged only as far as bytes can be written for it; the proved reader
 
 from __future__ import annotations
 
-import re
 from dataclasses import dataclass
-from typing import Callable, Dict, List, NamedTuple, Tuple
+from typing import Dict, List, Tuple
 
 from zaru import table as t
+from zaru.expressions import Expressions, depth_of
 from zaru.names import Names
+from zaru.tokens import Reader, Token, known, tokens_of
 
-WORDS = frozenset(
-    "concurrent sequential location procedure locals thread end while if else atomic call select from "
-    "true false not and".split()
-)
-TOKEN = re.compile(
-    r"(?P<blank>[ \t\r\f\v\ufeff]+|//[^\n]*)|(?P<newline>\n)|(?P<name>[A-Za-z_][A-Za-z0-9_]*)|(?P<number>[0-9]+)"
-    r"|(?P<sign>:=|[\[\](),<=+*-])"
-)
 MOST_IN_BYTE = 255
 MOST_IN_TWO_BYTES = 65_535
 # "An expression nests at most 16 deep"; "A body is at depth 1; depth at most 16."
 MOST_DEPTH = 16
-# Parentheses have no bytes; more of them than any expression needs are refused.
-MOST_NESTING = 60
-
-
-class AsmError(Exception):
-    """What is wrong, and where."""
-
-    def __init__(self, line: int, column: int, message: str) -> None:
-        super().__init__(message)
-        self.line = line
-        self.column = column
-        self.message = message
-
-
-class Token(NamedTuple):
-    kind: str  # word, name, number, sign, newline, end
-    text: str
-    line: int
-    column: int
-
-    def error(self, message: str) -> AsmError:
-        return AsmError(self.line, self.column, message)
-
-    def described(self) -> str:
-        if self.kind == "newline":
-            return "the end of the line"
-        return "the end of the text" if self.kind == "end" else f"`{self.text}`"
-
-
-def tokens_of(text: str) -> List[Token]:
-    """The tokens of a text. Inside parentheses and brackets the end of a line means nothing."""
-    tokens: List[Token] = []
-    line, line_start, at, nesting = 1, 0, 0, 0
-    while at < len(text):
-        match = TOKEN.match(text, at)
-        column = at - line_start + 1
-        if match is None:
-            raise AsmError(line, column, f"no such sign: {text[at]!r}")
-        kind, found, at = str(match.lastgroup), match.group(), match.end()
-        if kind == "name" and found in WORDS:
-            kind = "word"
-        nesting += (found in ("(", "[")) - (found in (")", "]"))
-        if kind != "blank" and not (kind == "newline" and nesting > 0):
-            tokens.append(Token(kind, found, line, column))
-        if kind == "newline":
-            line, line_start = line + 1, at
-            nesting = max(nesting, 0)
-    column = len(text) - line_start + 1
-    return tokens + [Token("newline", "\n", line, column), Token("end", "", line, column)]
 
 
 @dataclass
@@ -94,69 +38,14 @@ class Scope:
         return f"`end` of the {self.opened.text} of line {self.opened.line}"
 
 
-class Parser:
+class Parser(Reader):
     def __init__(self, tokens: List[Token]) -> None:
-        self.tokens = tokens
-        self.at = 0
+        super().__init__(tokens)
         self.kind = ""
         self.locations = declared(tokens, "location")
         self.procedures = declared(tokens, "procedure")
         self.parameters: List[int] = []
         self.calls: List[Tuple[Token, int, int]] = []
-
-    # ---- tokens ----
-
-    @property
-    def token(self) -> Token:
-        return self.tokens[self.at]
-
-    def take(self) -> Token:
-        token = self.token
-        if token.kind != "end":
-            self.at += 1
-        return token
-
-    def sees(self, text: str) -> bool:
-        return self.token.kind in ("word", "sign") and self.token.text == text
-
-    def accept(self, text: str) -> bool:
-        found = self.sees(text)
-        if found:
-            self.take()
-        return found
-
-    def expected(self, what: str) -> AsmError:
-        return self.token.error(f"expected {what}, found {self.token.described()}")
-
-    def expect(self, text: str, place: str = "") -> Token:
-        if not self.sees(text):
-            raise self.expected(f"`{text}`{place}")
-        return self.take()
-
-    def name(self, what: str) -> Token:
-        if self.token.kind == "word":
-            raise self.token.error(f"expected {what}; `{self.token.text}` is a word of the language")
-        if self.token.kind != "name":
-            raise self.expected(what)
-        return self.take()
-
-    def number(self, what: str, most: int) -> int:
-        if self.token.kind != "number":
-            raise self.expected(what)
-        token = self.take()
-        number = small(token)
-        if number > most:
-            raise token.error(f"{what} is at most {most:,}, found {token.text}")
-        return number
-
-    def end_of_line(self) -> None:
-        if self.token.kind != "newline":
-            raise self.expected("the end of the line")
-        self.skip_lines()
-
-    def skip_lines(self) -> None:
-        while self.token.kind == "newline":
-            self.take()
 
     # ---- declarations ----
 
@@ -197,7 +86,7 @@ class Parser:
         word = self.take()
         if number == MOST_IN_TWO_BYTES:
             raise word.error(f"more than {MOST_IN_TWO_BYTES:,} of `thread`")
-        main = self.known(self.name("the name of the thread's procedure"), self.procedures, "procedure")
+        main = known(self.name("the name of the thread's procedure"), self.procedures, "procedure")
         self.end_of_line()
         return main
 
@@ -235,11 +124,6 @@ class Parser:
             wanted = procedures[callee].parameters
             if wanted != count:
                 raise token.error(f"`{token.text}` takes {arguments(wanted)}, found {count}")
-
-    def known(self, token: Token, numbers: Dict[str, int], what: str) -> int:
-        if token.text not in numbers:
-            raise token.error(f"no {what} is called `{token.text}`")
-        return numbers[token.text]
 
     # ---- instructions ----
 
@@ -300,7 +184,7 @@ class Parser:
     def local(self, token: Token, scope: Scope) -> int:
         if token.text in self.locations and token.text not in scope.local_numbers:
             raise token.error(f"`{token.text}` is a location; put it into a local first (p := {token.text}, then p[0])")
-        return self.known(token, scope.local_numbers, "local")
+        return known(token, scope.local_numbers, "local")
 
     def index(self, scope: Scope) -> t.Expression:
         self.expect("[")
@@ -340,7 +224,7 @@ class Parser:
 
     def call(self, scope: Scope) -> t.Instruction:
         token = self.name("the name of a procedure")
-        callee = self.known(token, self.procedures, "procedure")
+        callee = known(token, self.procedures, "procedure")
         self.expect("(", " and the arguments")
         given: List[t.Expression] = []
         if not self.sees(")"):
@@ -353,98 +237,18 @@ class Parser:
         return t.Call(callee, tuple(given))
 
     def select(self, scope: Scope) -> t.Instruction:
-        target = self.known(self.name("a location"), self.locations, "location")
+        target = known(self.name("a location"), self.locations, "location")
         self.expect("from")
-        source = self.known(self.name("a location"), self.locations, "location")
+        source = known(self.name("a location"), self.locations, "location")
         self.end_of_line()
         return t.Select(target, source)
 
-    # ---- expressions, loosest first ----
-
     def value(self, scope: Scope) -> t.Expression:
         first = self.token
-        expression = Expressions(self, scope).conjunction(0)
+        expression = Expressions(self, scope.local_numbers, self.locations).conjunction(0)
         if depth_of(expression) > MOST_DEPTH:
             raise first.error(f"an expression nests at most {MOST_DEPTH} deep, this one {depth_of(expression)}")
         return expression
-
-
-class Expressions:
-    """Reads one expression; `nesting` counts how many calls deep it is."""
-
-    def __init__(self, parser: Parser, scope: Scope) -> None:
-        self.parser = parser
-        self.scope = scope
-
-    def chain(self, signs: Dict[str, int], operand: Callable[[int], t.Expression], nesting: int) -> t.Expression:
-        """Operands with operators of one level between them, from the left."""
-        left = operand(nesting)
-        while self.parser.token.kind in ("word", "sign") and self.parser.token.text in signs:
-            mark = signs[self.parser.take().text]
-            left = t.Operation(mark, (left, operand(nesting)))
-        return left
-
-    def conjunction(self, nesting: int) -> t.Expression:
-        return self.chain({"and": t.AND}, self.negation, nesting)
-
-    def negation(self, nesting: int) -> t.Expression:
-        self.limit(nesting)
-        if self.parser.accept("not"):
-            return t.Operation(t.NOT, (self.negation(nesting + 1),))
-        return self.comparison(nesting)
-
-    def comparison(self, nesting: int) -> t.Expression:
-        left = self.sum(nesting)
-        for sign, mark in (("<", t.LESS), ("=", t.EQUAL)):
-            if self.parser.accept(sign):
-                compared = t.Operation(mark, (left, self.sum(nesting)))
-                self.no_second_comparison()
-                return compared
-        return left
-
-    def no_second_comparison(self) -> None:
-        if self.parser.sees("<") or self.parser.sees("="):
-            raise self.parser.token.error("a second comparison; write parentheses")
-
-    def sum(self, nesting: int) -> t.Expression:
-        return self.chain({"+": t.ADD, "-": t.SUBTRACT}, self.product, nesting)
-
-    def product(self, nesting: int) -> t.Expression:
-        return self.chain({"*": t.MULTIPLY}, self.factor, nesting)
-
-    def factor(self, nesting: int) -> t.Expression:
-        self.limit(nesting)
-        parser = self.parser
-        if parser.accept("-"):
-            if parser.token.kind == "number":
-                return literal(parser.take(), -1)
-            return t.Operation(t.NEGATE, (self.factor(nesting + 1),))
-        if parser.accept("("):
-            inner = self.conjunction(nesting + 1)
-            parser.expect(")")
-            return inner
-        return self.leaf()
-
-    def leaf(self) -> t.Expression:
-        parser = self.parser
-        if parser.token.kind == "number":
-            return literal(parser.take(), 1)
-        if parser.sees("true") or parser.sees("false"):
-            return t.Truth(parser.take().text == "true")
-        if parser.token.kind == "name":
-            return self.named(parser.take())
-        raise parser.expected("an expression")
-
-    def named(self, token: Token) -> t.Expression:
-        if self.parser.sees("["):
-            raise token.error(f"a cell cannot be part of an expression; read it first (x := {token.text}[..])")
-        if token.text in self.scope.local_numbers:
-            return t.Local(self.scope.local_numbers[token.text])
-        return t.Location(self.parser.known(token, self.parser.locations, "local or location"))
-
-    def limit(self, nesting: int) -> None:
-        if nesting > MOST_NESTING:
-            raise self.parser.token.error("too many parentheses inside each other")
 
 
 def declared(tokens: List[Token], word: str) -> Dict[str, int]:
@@ -460,27 +264,6 @@ def declared(tokens: List[Token], word: str) -> Dict[str, int]:
     return numbers
 
 
-def depth_of(expression: t.Expression) -> int:
-    """"a leaf has depth 1." Level by level, since a long row of operators nests as deep as it is long."""
-    depth, level = 0, [expression]
-    while level:
-        depth += 1
-        level = [operand for one in level if isinstance(one, t.Operation) for operand in one.operands]
-    return depth
-
-
-def literal(token: Token, sign: int) -> t.Number:
-    number = sign * small(token)
-    if not t.LEAST_NUMBER <= number <= t.MOST_NUMBER:
-        raise token.error(f"a number is from {t.LEAST_NUMBER:,} to {t.MOST_NUMBER:,}")
-    return t.Number(number)
-
-
-def small(token: Token) -> int:
-    """The number of a token; one of very many digits is cut to 12, still far too large for any place."""
-    return int(token.text.lstrip("0")[:12] or "0")
-
-
 def arguments(count: int) -> str:
     return f"{count} argument" if count == 1 else f"{count} arguments"
 
@@ -492,7 +275,3 @@ def parsed(tokens: List[Token]) -> Tuple[t.Program, Names]:
 
 def assemble(text: str) -> Tuple[t.Program, Names]:
     return parsed(tokens_of(text))
-
-
-def describe(file: str, error: AsmError) -> str:
-    return f"{file}:{error.line}:{error.column}: {error.message}"

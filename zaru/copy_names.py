@@ -4,7 +4,7 @@ from __future__ import annotations
 
 from typing import Set
 
-from zaru.asm import WORDS
+from zaru.tokens import WORDS
 from zaru.labels import spots
 from zaru.names import Names
 from zaru.table import Program

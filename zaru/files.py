@@ -9,12 +9,13 @@ from dataclasses import dataclass
 from pathlib import Path
 from typing import Optional
 
-from zaru import asm, engine
+from zaru import engine
 from zaru.arguments import UsageError
 from zaru.fault import Fault
 from zaru.names import Names, plain_names
 from zaru.table import Program
 from zaru.text import table_of
+from zaru.tokens import AsmError, describe
 
 TEXT_ENDING = ".zaru"
 
@@ -87,8 +88,8 @@ def assembled(name: str) -> Source:
         raise TextError(f"{name}: not a text: byte {error.start} is no UTF-8") from error
     try:
         table, names = table_of(text)
-    except asm.AsmError as error:
-        raise TextError(asm.describe(name, error)) from error
+    except AsmError as error:
+        raise TextError(describe(name, error)) from error
     except Fault as fault:
         raise Fault(f"{name}: {fault}") from fault
     return Source(fitting(name, table), names)

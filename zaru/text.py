@@ -10,11 +10,12 @@ from __future__ import annotations
 
 from typing import Dict, List, NamedTuple, Sequence, Tuple, Union
 
-from zaru.asm import AsmError, Token, parsed, small, tokens_of
+from zaru.asm import parsed
 from zaru.fault import Fault
 from zaru.names import Names, plain_names
 from zaru.show import show
 from zaru.table import CONCURRENT, SEQUENTIAL, decode, encode
+from zaru.tokens import AsmError, Token, small, tokens_of
 
 Row = List[Union[str, int]]
 

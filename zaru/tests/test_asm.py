@@ -6,7 +6,8 @@ import unittest
 
 import samples  # noqa: F401  (puts the repository on the path)
 from zaru import table as t
-from zaru.asm import AsmError, assemble, describe
+from zaru.asm import assemble
+from zaru.tokens import AsmError, describe
 
 HEAD = "concurrent\nlocation cell[1]\nprocedure work()\n  locals p, v\n"
 TAIL = "end\nthread work\n"

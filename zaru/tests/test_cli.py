@@ -187,7 +187,7 @@ class Faults(Command):
         commands = ["read c b.zaru", "translate b.zaru -o new", "translate b.zaru -o new.zaru", "run b.zaru 0 0"]
         commands += ["trace b.zaru 0 0", "cost b.zaru 0 0", "bench b.zaru 1 1", "copy b.zaru 0", "show c b.zaru"]
         commands += ["asm b.zaru -o new"]
-        with mock.patch("zaru.asm.literal", lambda token, sign: t.Number(sign * int(token.text) + 1)):
+        with mock.patch("zaru.expressions.literal", lambda token, sign: t.Number(sign * int(token.text) + 1)):
             for command in commands:
                 self.check(message, *command.split())
 

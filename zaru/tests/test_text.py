@@ -7,12 +7,14 @@ from unittest import mock
 
 import samples
 from zaru import table as t
-from zaru.asm import Expressions, Parser, Scope, Token, assemble
+from zaru.asm import Parser, Scope, assemble
+from zaru.expressions import Expressions
 from zaru.fault import Fault
 from zaru.names import plain_names
 from zaru.show import TWO_OPERANDS, Operator, show
 from zaru.stored import accepted_tables
 from zaru.text import table_of, text_of
+from zaru.tokens import Token
 
 NUMBER = t.Number(5)
 LOCAL = t.Local(0)
@@ -174,18 +176,18 @@ class Held(unittest.TestCase):
     def test_operands_in_the_wrong_order(self) -> None:
         def chain(self: Expressions, signs: Dict[str, int], operand: Callable, nesting: int) -> t.Expression:
             left = operand(nesting)
-            while self.parser.token.text in signs:
-                mark = signs[self.parser.take().text]
+            while self.reader.token.text in signs:
+                mark = signs[self.reader.take().text]
                 left = t.Operation(mark, (operand(nesting), left))
             return left
 
-        self.check("zaru.asm.Expressions.chain", chain, "the text that it shows is read as another program")
+        self.check("zaru.expressions.Expressions.chain", chain, "the text that it shows is read as another program")
 
     def test_a_wrong_number(self) -> None:
         def literal(token: Token, sign: int) -> t.Number:
             return t.Number(sign * int(token.text) % 5)
 
-        self.check("zaru.asm.literal", literal, "the program that was read is shown with other words")
+        self.check("zaru.expressions.literal", literal, "the program that was read is shown with other words")
 
     def test_an_else_that_is_lost(self) -> None:
         def if_else(self: Parser, inner: Scope) -> t.Instruction:
