@@ -9,6 +9,7 @@ from dataclasses import dataclass
 from typing import Dict, List, Tuple
 
 from zaru import table as t
+from zaru.asserts import assertion
 from zaru.expressions import Expressions, depth_of
 from zaru.names import Names
 from zaru.tokens import Reader, Token, known, tokens_of
@@ -140,7 +141,7 @@ class Parser(Reader):
         if self.token.kind == "name":
             return self.assignment(scope)
         holding = {"while": self.while_loop, "if": self.if_else, "atomic": self.atomic}
-        plain = {"call": self.call, "select": self.select}
+        plain = {"call": self.call, "select": self.select, "assert": self.assertion}
         if self.token.kind != "word" or self.token.text not in {**holding, **plain}:
             raise self.expected(f"an instruction or {scope.end()}")
         self.check_allowed(scope)
@@ -235,6 +236,14 @@ class Parser(Reader):
         self.end_of_line()
         self.calls.append((token, callee, len(given)))
         return t.Call(callee, tuple(given))
+
+    def assertion(self, scope: Scope) -> t.Instruction:
+        """Its `if 0` stands in a block inside a block."""
+        if scope.depth + 2 > MOST_DEPTH:
+            raise self.token.error(f"blocks nest at most {MOST_DEPTH} deep, and an assert is an if with an if in its else")
+        test = self.value(scope)
+        self.end_of_line()
+        return assertion(test)
 
     def select(self, scope: Scope) -> t.Instruction:
         target = known(self.name("a location"), self.locations, "location")

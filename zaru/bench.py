@@ -8,7 +8,7 @@ from __future__ import annotations
 import shlex
 from typing import List, Sequence
 
-from zaru import engine
+from zaru import asserts, engine
 from zaru import table as t
 from zaru.blocked import plural
 from zaru.columns import columns
@@ -60,11 +60,13 @@ def tell(program: t.Program, name: str, table: bytes, rounds: int, steps: int) -
     schedule = schedule_of(found.counts, threads)
     run = engine.run(Request(engine.RUN_CONCURRENT, table, schedule, cells=engine.CELL_ROOM))
     hold_run(found, schedule, run)
+    failed = asserts.failed(program, schedule, run)
+    why = failed.failed() if failed else REASONS[run.reason]
     entries = " ".join(str(thread) for thread in schedule)
     return [
         f"order {found.number:,} of {all_orders}, counted from 0, is the first that blocks",
         *rounds_table(found.counts, threads, rounds),
         f"as a schedule: {entries}",
-        f"blocked after {plural(run.steps, 'step')}: {REASONS[run.reason]}; to see it:",
+        f"blocked after {plural(run.steps, 'step')}: {why}; to see it:",
         f"zaru trace {shlex.quote(name)} {entries}",
     ]

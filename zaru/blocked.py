@@ -6,7 +6,7 @@ steps (demand 3), and the instruction there is held against the code that the co
 
 from __future__ import annotations
 
-from zaru import engine, reasons
+from zaru import asserts, engine, reasons
 from zaru import table as t
 from zaru.engine import Request, Run
 from zaru.fault import Fault
@@ -29,16 +29,21 @@ def hold_spot(program: t.Program, copy: bytes, label: int, spot: Spot) -> None:
         raise Fault(f"a fault of zaru: label {label} is another instruction in the copy than in the text")
 
 
-def sentence(program: t.Program, copy: bytes, run: Run, thread: int, label: int) -> str:
-    """Why the run of the program blocked, the thread being at this label."""
-    steps = plural(run.steps, "step")
+def sentence(program: t.Program, copy: bytes, schedule: bytes, run: Run, label: int) -> str:
+    """Why the run of the program blocked, the thread that the next entry names being at this label."""
+    steps, thread = plural(run.steps, "step"), schedule[run.steps]
     if label == 0:
         return reasons.blocked(steps, thread, label, None, run.reason)
     found = spots(program)
     if not 1 <= label <= len(found):
         raise Fault(f"a fault of zaru: thread {thread} is at label {label}; the text has {len(found)}")
     hold_spot(program, copy, label, found[label - 1])
-    return reasons.blocked(steps, thread, label, found[label - 1].instruction, run.reason)
+    failed = asserts.failed(program, schedule, run)
+    if failed is None:
+        return reasons.blocked(steps, thread, label, found[label - 1].instruction, run.reason)
+    if label != failed.label_of_failure:
+        raise Fault(f"a fault of zaru: the assertion at label {failed.label} failed, and the thread is at label {label}")
+    return f"{reasons.place(steps, thread, label, failed.is_atomic)}: {failed.failed()}"
 
 
 def label_after(program: t.Program, copy: bytes, schedule: bytes, thread: int) -> int:
@@ -50,5 +55,5 @@ def label_after(program: t.Program, copy: bytes, schedule: bytes, thread: int) -
 
 def why(program: t.Program, copy: bytes, schedule: bytes, run: Run) -> str:
     """Why this run of the program blocked under this order."""
-    thread = schedule[run.steps]
-    return sentence(program, copy, run, thread, label_after(program, copy, schedule[: run.steps], thread))
+    label = label_after(program, copy, schedule[: run.steps], schedule[run.steps])
+    return sentence(program, copy, schedule, run, label)

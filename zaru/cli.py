@@ -286,6 +286,7 @@ Turns a text into a table, has the proved reader judge it and writes it to the f
         call add(p, -5)
         v := p[0]
       end
+      assert not (v < 10)     // what must hold; the run blocks where it does not
       if not (v = 0) and true
         v := v * 2
       else                    // may be left out

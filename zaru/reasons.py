@@ -90,7 +90,7 @@ def parts(instruction: t.Instruction, reason: int) -> List[str]:
 
 
 def parts_inside(block: t.Block, reason: int) -> List[str]:
-    """Of all instructions of an atomic block."""
+    """Of all instructions of an atomic block. That an assertion fails is none of them: `asserts` knows it."""
     found: List[str] = []
     for instruction in block:
         found += parts(instruction, reason)
@@ -130,7 +130,11 @@ def blocked(steps: str, thread: int, label: int, instruction: Optional[t.Instruc
         raise Fault(f"a fault of zaru: reason {reason} does not fit label {label} of thread {thread}")
     if instruction is None:
         return f"blocked after {steps}: thread {thread} is finished"
-    at = f"blocked after {steps}: thread {thread} at label {label}"
-    if isinstance(instruction, t.Atomic):
-        return f"{at}, inside the atomic block: {told(parts_inside(instruction.body, reason), reason)}"
-    return f"{at}: {told(parts(instruction, reason), reason)}"
+    is_atomic = isinstance(instruction, t.Atomic)
+    names = parts_inside(instruction.body, reason) if isinstance(instruction, t.Atomic) else parts(instruction, reason)
+    return f"{place(steps, thread, label, is_atomic)}: {told(names, reason)}"
+
+
+def place(steps: str, thread: int, label: int, is_atomic: bool) -> str:
+    inside = ", inside the atomic block" if is_atomic else ""
+    return f"blocked after {steps}: thread {thread} at label {label}{inside}"

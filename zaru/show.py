@@ -5,6 +5,7 @@ from __future__ import annotations
 from typing import Dict, List, NamedTuple, Optional, Sequence, Tuple
 
 from zaru import table as t
+from zaru.asserts import is_assertion
 from zaru.names import Names
 
 INDENT = "  "
@@ -34,10 +35,11 @@ NEGATE_LEVEL = 6
 
 
 class Line(NamedTuple):
-    """A line of text, and the label that it has."""
+    """A line of text, the label that it has, and whether the label after it is its own too, where an assertion fails."""
 
     text: str
     label: Optional[int] = None
+    can_fail: bool = False
 
 
 class Shower:
@@ -92,7 +94,8 @@ class Shower:
         if isinstance(instruction, t.While):
             return f"while {self.expression(instruction.test)}"
         if isinstance(instruction, t.If):
-            return f"if {self.expression(instruction.test)}"
+            word = "assert" if is_assertion(instruction) else "if"
+            return f"{word} {self.expression(instruction.test)}"
         if isinstance(instruction, t.Call):
             arguments = ", ".join(self.expression(argument) for argument in instruction.arguments)
             return f"call {self.names.procedures[instruction.procedure]}({arguments})"
@@ -114,11 +117,13 @@ class Shower:
 
 
 def has_blocks(instruction: t.Instruction) -> bool:
-    return isinstance(instruction, (t.While, t.If, t.Atomic))
+    return isinstance(instruction, (t.While, t.If, t.Atomic)) and not is_assertion(instruction)
 
 
 def blocks_of(instruction: t.Instruction) -> List[Tuple[str, t.Block]]:
-    """The blocks that an instruction holds, each with the word before it."""
+    """The blocks that an instruction shows, each with the word before it. An assertion shows none."""
+    if is_assertion(instruction):
+        return []
     if isinstance(instruction, (t.While, t.Atomic)):
         return [("", instruction.body)]
     if isinstance(instruction, t.If):
@@ -146,7 +151,10 @@ class Lines:
 
     def instruction(self, shower: Shower, instruction: t.Instruction, depth: int, in_atomic: bool) -> None:
         margin = INDENT * depth
-        self.lines.append(Line(margin + shower.head(instruction), self.next_label(in_atomic)))
+        label = self.next_label(in_atomic)
+        can_fail = is_assertion(instruction) and not in_atomic
+        self.label += can_fail
+        self.lines.append(Line(margin + shower.head(instruction), label, can_fail))
         for word, block in blocks_of(instruction):
             if word:
                 self.lines.append(Line(margin + word))
@@ -185,10 +193,11 @@ def with_labels(lines: List[Line], prices: Sequence[str]) -> List[str]:
     widest = max(len(line.text) for line in lines)
     column = min(widest, COMMENT_COLUMN)
     return [
-        line.text if line.label is None else f"{line.text:<{column}}  // {described(line.label, prices)}"
+        line.text if line.label is None else f"{line.text:<{column}}  // {described(line, line.label, prices)}"
         for line in lines
     ]
 
 
-def described(label: int, prices: Sequence[str]) -> str:
-    return f"label {label}, price {prices[label - 1]}" if prices else f"label {label}"
+def described(line: Line, label: int, prices: Sequence[str]) -> str:
+    price = f", price {prices[label - 1]}" if prices else ""
+    return f"label {label}{price}" + (f"; {label + 1} if it fails" if line.can_fail else "")

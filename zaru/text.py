@@ -8,7 +8,7 @@ groups wrongly could be shown just as wrongly. The tests hold it against Python'
 
 from __future__ import annotations
 
-from typing import Dict, List, NamedTuple, Sequence, Tuple, Union
+from typing import Dict, Iterator, List, NamedTuple, Sequence, Tuple, Union
 
 from zaru.asm import parsed
 from zaru.fault import Fault
@@ -68,7 +68,7 @@ def counts_of(names: Names) -> List[int]:
 def words_of(tokens: List[Token]) -> Dict[str, List[Row]]:
     """The words of each part of a text, parts of one sort in their order. An empty `else` counts as none."""
     found: Dict[str, List[Row]] = {part: [] for part in PARTS}
-    kept = [one for one in tokens if one.kind not in ("newline", "end") and one.text not in LOOSE]
+    kept = [one for one in written_out(tokens) if one.kind not in ("newline", "end") and one.text not in LOOSE]
     row: Row = []
     for token, following in zip(kept, kept[1:] + kept[-1:]):
         if token.text in PARTS:
@@ -77,3 +77,18 @@ def words_of(tokens: List[Token]) -> Dict[str, List[Row]]:
         if (token.text, following.text) != ("else", "end"):
             row.append(small(token) if token.kind == "number" else token.text)
     return found
+
+
+def written_out(tokens: List[Token]) -> Iterator[Token]:
+    """The tokens, with `if e else if 0 end end` for each `assert e`: a text may have either."""
+    is_open = False
+    for token in tokens:
+        if token.kind == "word" and token.text == "assert":
+            is_open = True
+            token = token._replace(text="if")
+        elif token.kind == "newline" and is_open:
+            is_open = False
+            yield from (token._replace(kind="word", text=word) for word in ("else", "if"))
+            yield token._replace(kind="number", text="0")
+            yield from [token._replace(kind="word", text="end")] * 2
+        yield token

@@ -7,7 +7,7 @@ from typing import Dict, List, NamedTuple
 
 WORDS = frozenset(
     "concurrent sequential location procedure locals thread end while if else atomic call select from "
-    "true false not and".split()
+    "true false not and assert".split()
 )
 TOKEN = re.compile(
     r"(?P<blank>[ \t\r\f\v\ufeff]+|//[^\n]*)|(?P<newline>\n)|(?P<name>[A-Za-z_][A-Za-z0-9_]*)|(?P<number>[0-9]+)"

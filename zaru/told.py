@@ -5,6 +5,7 @@ from __future__ import annotations
 from typing import List, Sequence
 
 from zaru import table as t
+from zaru.asserts import FAILS, is_assertion
 from zaru.blocked import plural, sentence
 from zaru.labels import Spot, spots
 from zaru.names import Names
@@ -57,17 +58,27 @@ class Teller:
     def why(self, course: Course) -> str:
         """Where and why a blocked run stopped."""
         answers = course.answers
-        thread = course.schedule[answers.run.steps]
-        return sentence(self.program, answers.copy, answers.run, thread, course.labels[thread])
+        return sentence(self.program, answers.copy, course.schedule, answers.run, blocked_label(course))
 
     def not_done(self, course: Course) -> str:
         """The instruction at which a run blocked; nothing if the thread was finished."""
-        label = course.labels[course.schedule[course.answers.run.steps]]
-        return self.instruction(spots(self.program)[label - 1]) if label else ""
+        label = blocked_label(course)
+        if label == 0:
+            return ""
+        *before, spot = spots(self.program)[:label]
+        is_failure = spot.instruction == FAILS and before and is_assertion(before[-1].instruction)
+        return self.instruction(before[-1] if is_failure else spot)
+
+
+def blocked_label(course: Course) -> int:
+    """Where the thread is that a blocked run's next entry names."""
+    return course.labels[course.schedule[course.answers.run.steps]]
 
 
 def went(spot: Spot, label: int) -> List[str]:
     """Where a test, a call or a return led."""
+    if is_assertion(spot.instruction):
+        return [f"holds, to label {label}" if label == spot.if_true else f"fails, to label {label}"]
     if isinstance(spot.instruction, (t.While, t.If)):
         if spot.if_true == spot.if_false:
             return [f"to label {label}"]

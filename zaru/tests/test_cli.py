@@ -365,7 +365,7 @@ class WithEngine(Command):
     def test_the_text_in_the_help_is_accepted(self) -> None:
         lines = self.good("help", "asm").splitlines()
         self.file("help.zaru", "\n".join(line for line in lines if line.startswith("    ")).encode())
-        expected = "accepted: procedures 2, locations 1, threads 2, labels 12, cells 1\n"
+        expected = "accepted: procedures 2, locations 1, threads 2, labels 14, cells 1\n"
         self.assertEqual(self.good("read", "c", "help.zaru"), expected)
 
     def test_refusals(self) -> None:
