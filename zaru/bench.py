@@ -6,14 +6,17 @@ The proved program tries the orders. What it found is held against its own run o
 from __future__ import annotations
 
 import shlex
-from typing import List, Sequence
+from dataclasses import dataclass
+from typing import List, Optional, Sequence, Tuple
 
 from zaru import asserts, engine
 from zaru import table as t
+from zaru.asserts import Assertion
 from zaru.blocked import plural
 from zaru.columns import columns
 from zaru.engine import Bench, EngineError, Request, Run
 from zaru.fault import Fault
+from zaru.progress import saying
 from zaru.reasons import REASONS
 
 
@@ -42,31 +45,54 @@ def hold_run(found: Bench, schedule: bytes, run: Run) -> None:
         raise EngineError(f"{engine.engine_path()} runs order {found.number} otherwise than its bench: {engine.BUILD}")
 
 
-def rounds_table(counts: Sequence[int], threads: int, rounds: int) -> List[str]:
+def rounds_table(rounds: Sequence[Sequence[int]]) -> List[str]:
     """A line for each round, a column for each thread."""
-    heads = ["round"] + [f"thread {thread}" for thread in range(threads)]
-    rows = [[round_ + 1, *counts[round_ * threads : (round_ + 1) * threads]] for round_ in range(rounds)]
-    return columns(heads, rows)
+    heads = ["round"] + [f"thread {thread}" for thread in range(len(rounds[0]))]
+    return columns(heads, [[number, *counts] for number, counts in enumerate(rounds, 1)])
 
 
-def tell(program: t.Program, name: str, table: bytes, rounds: int, steps: int) -> List[str]:
-    """What the bench found in the table of this name."""
-    found = engine.bench(table, rounds, steps)
+@dataclass(frozen=True)
+class Outcome:
+    """What the bench found: how many orders there are and, of the first that blocks, all there is to tell."""
+
+    orders: int
+    number: int = 0
+    # The steps of each thread, for each round; none if no order blocks.
+    rounds: Tuple[Tuple[int, ...], ...] = ()
+    schedule: bytes = b""
+    steps: int = 0
+    reason: int = 0
+    words: str = ""
+    assertion: Optional[Assertion] = None
+
+
+def search(program: t.Program, table: bytes, rounds: int, steps: int) -> Outcome:
+    """Has the orders tried, and holds what was found."""
+    with saying("trying the orders"):
+        found = engine.bench(table, rounds, steps)
     threads = len(program.mains)
-    all_orders = f"{orders(threads, rounds, steps):,}"
     if not found.found:
-        return [f"none of {all_orders} orders blocks"]
+        return Outcome(orders(threads, rounds, steps))
     hold_counts(found, rounds * threads, steps)
     schedule = schedule_of(found.counts, threads)
     run = engine.run(Request(engine.RUN_CONCURRENT, table, schedule, cells=engine.CELL_ROOM))
     hold_run(found, schedule, run)
     failed = asserts.failed(program, schedule, run)
-    why = failed.failed() if failed else REASONS[run.reason]
-    entries = " ".join(str(thread) for thread in schedule)
+    by_rounds = tuple(found.counts[at : at + threads] for at in range(0, rounds * threads, threads))
+    words = failed.failed() if failed else REASONS[run.reason]
+    all_orders = orders(threads, rounds, steps)
+    return Outcome(all_orders, found.number, by_rounds, schedule, run.steps, run.reason, words, failed)
+
+
+def lines_of(outcome: Outcome, name: str) -> List[str]:
+    """What was found in the table of this name."""
+    if not outcome.rounds:
+        return [f"none of {outcome.orders:,} orders blocks"]
+    entries = " ".join(str(thread) for thread in outcome.schedule)
     return [
-        f"order {found.number:,} of {all_orders}, counted from 0, is the first that blocks",
-        *rounds_table(found.counts, threads, rounds),
+        f"order {outcome.number:,} of {outcome.orders:,}, counted from 0, is the first that blocks",
+        *rounds_table(outcome.rounds),
         f"as a schedule: {entries}",
-        f"blocked after {plural(run.steps, 'step')}: {why}; to see it:",
+        f"blocked after {plural(outcome.steps, 'step')}: {outcome.words}; to see it:",
         f"zaru trace {shlex.quote(name)} {entries}",
     ]

@@ -6,8 +6,12 @@ steps (demand 3), and the instruction there is held against the code that the co
 
 from __future__ import annotations
 
+from dataclasses import dataclass
+from typing import Optional
+
 from zaru import asserts, engine, reasons
 from zaru import table as t
+from zaru.asserts import Assertion
 from zaru.engine import Request, Run
 from zaru.fault import Fault
 from zaru.labels import Spot, spots
@@ -29,21 +33,46 @@ def hold_spot(program: t.Program, copy: bytes, label: int, spot: Spot) -> None:
         raise Fault(f"a fault of zaru: label {label} is another instruction in the copy than in the text")
 
 
-def sentence(program: t.Program, copy: bytes, schedule: bytes, run: Run, label: int) -> str:
+@dataclass(frozen=True)
+class Why:
+    """Where and why a run blocked."""
+
+    steps: int
+    thread: int
+    # 0 if the thread was finished.
+    label: int
+    is_atomic: bool
+    reason: int
+    words: str
+    # The assertion that failed, if it was one.
+    assertion: Optional[Assertion] = None
+
+    def sentence(self) -> str:
+        after = f"blocked after {plural(self.steps, 'step')}: thread {self.thread}"
+        if self.label == 0:
+            return f"{after} is finished"
+        inside = ", inside the atomic block" if self.is_atomic else ""
+        return f"{after} at label {self.label}{inside}: {self.words}"
+
+
+def why_at(program: t.Program, copy: bytes, schedule: bytes, run: Run, label: int) -> Why:
     """Why the run of the program blocked, the thread that the next entry names being at this label."""
-    steps, thread = plural(run.steps, "step"), schedule[run.steps]
+    thread, found = schedule[run.steps], spots(program)
     if label == 0:
-        return reasons.blocked(steps, thread, label, None, run.reason)
-    found = spots(program)
+        return Why(run.steps, thread, label, False, run.reason, reasons.words(thread, label, None, run.reason))
     if not 1 <= label <= len(found):
         raise Fault(f"a fault of zaru: thread {thread} is at label {label}; the text has {len(found)}")
-    hold_spot(program, copy, label, found[label - 1])
+    spot = found[label - 1]
+    hold_spot(program, copy, label, spot)
+    is_atomic = isinstance(spot.instruction, t.Atomic)
     failed = asserts.failed(program, schedule, run)
     if failed is None:
-        return reasons.blocked(steps, thread, label, found[label - 1].instruction, run.reason)
-    if label != failed.label_of_failure:
+        words = reasons.words(thread, label, spot.instruction, run.reason)
+    elif label == failed.label_of_failure:
+        words = failed.failed()
+    else:
         raise Fault(f"a fault of zaru: the assertion at label {failed.label} failed, and the thread is at label {label}")
-    return f"{reasons.place(steps, thread, label, failed.is_atomic)}: {failed.failed()}"
+    return Why(run.steps, thread, label, is_atomic, run.reason, words, failed)
 
 
 def label_after(program: t.Program, copy: bytes, schedule: bytes, thread: int) -> int:
@@ -53,7 +82,7 @@ def label_after(program: t.Program, copy: bytes, schedule: bytes, thread: int) -
     return state_of(program, engine.run(request).cell_bytes).labels[thread]
 
 
-def why(program: t.Program, copy: bytes, schedule: bytes, run: Run) -> str:
+def why(program: t.Program, copy: bytes, schedule: bytes, run: Run) -> Why:
     """Why this run of the program blocked under this order."""
     label = label_after(program, copy, schedule[: run.steps], schedule[run.steps])
-    return sentence(program, copy, schedule, run, label)
+    return why_at(program, copy, schedule, run, label)

@@ -91,4 +91,4 @@ def ending(teller: Teller, course: Course, schedule: bytes, table: bytes) -> Lis
         return [f"finished after {count}, {unused(course)}; with its last test and its return the copy {taken}"]
     if run.end == "used":
         return [f"used: the order ends after {count}; with its test of the loop the copy {taken}"]
-    return [teller.why(course), f"{unused(course)}; the copy, which blocks too, {taken}"]
+    return [teller.why(course).sentence(), f"{unused(course)}; the copy, which blocks too, {taken}"]

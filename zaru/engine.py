@@ -51,8 +51,10 @@ class EngineError(Exception):
 
 @dataclass(frozen=True)
 class Request:
-    """A call, with the lengths of the buffers that are lent to it. The bench has its rounds as the budget, its steps as h,
-    and the call for prices its label as the budget."""
+    """A call, with the lengths of the buffers that are lent to it.
+
+    The bench has its rounds as the budget and its steps as h, the call for prices its label as the budget.
+    """
 
     op: int
     table: bytes

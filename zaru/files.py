@@ -10,7 +10,7 @@ from pathlib import Path
 from typing import Optional
 
 from zaru import engine
-from zaru.arguments import UsageError
+from zaru.arguments import FileError
 from zaru.fault import Fault
 from zaru.names import Names, plain_names
 from zaru.table import Program
@@ -42,7 +42,12 @@ def read_file(name: str) -> bytes:
     try:
         return Path(name).read_bytes()
     except OSError as error:
-        raise UsageError(f"{name} cannot be read: {error.strerror}") from error
+        raise FileError(f"{name} cannot be read: {error.strerror}") from error
+
+
+def read_text(name: str) -> str:
+    """A file of ASCII, or one with other signs in the place of what is not."""
+    return read_file(name).decode("ascii", "replace")
 
 
 def write_file(name: str, content: bytes) -> None:
@@ -58,7 +63,7 @@ def write_file(name: str, content: bytes) -> None:
         else:
             replace_file(target, content)
     except OSError as error:
-        raise UsageError(f"{name} cannot be written: {error.strerror}") from error
+        raise FileError(f"{name} cannot be written: {error.strerror}") from error
 
 
 def replace_file(target: Path, content: bytes) -> None:

@@ -124,17 +124,12 @@ def told(names: Sequence[str], reason: int) -> str:
     return f"{subject(names)} has the wrong kind"
 
 
-def blocked(steps: str, thread: int, label: int, instruction: Optional[t.Instruction], reason: int) -> str:
-    """The sentence on a blocked run of the program. Label 0 is a finished thread; the end of a procedure never blocks."""
+def words(thread: int, label: int, instruction: Optional[t.Instruction], reason: int) -> str:
+    """Why a thread blocked at this label. Label 0 is a finished thread; the end of a procedure never blocks."""
     if (label == 0) != (reason == FINISHED_THREAD) or (label != 0 and instruction is None):
         raise Fault(f"a fault of zaru: reason {reason} does not fit label {label} of thread {thread}")
     if instruction is None:
-        return f"blocked after {steps}: thread {thread} is finished"
-    is_atomic = isinstance(instruction, t.Atomic)
-    names = parts_inside(instruction.body, reason) if isinstance(instruction, t.Atomic) else parts(instruction, reason)
-    return f"{place(steps, thread, label, is_atomic)}: {told(names, reason)}"
-
-
-def place(steps: str, thread: int, label: int, is_atomic: bool) -> str:
-    inside = ", inside the atomic block" if is_atomic else ""
-    return f"blocked after {steps}: thread {thread} at label {label}{inside}"
+        return REASONS[reason]
+    if isinstance(instruction, t.Atomic):
+        return told(parts_inside(instruction.body, reason), reason)
+    return told(parts(instruction, reason), reason)

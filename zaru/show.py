@@ -174,7 +174,7 @@ class Lines:
 
 
 def show(program: t.Program, names: Names, prices: Sequence[str] = ()) -> str:
-    """The text of a program. A concurrent one has its labels as comments on the right, with their prices if they are given."""
+    """The text of a program. A concurrent one has its labels as comments on the right, with prices if they are given."""
     lines = [Line(program.kind)]
     lines += [Line(f"location {name}[{size}]") for name, size in zip(names.locations, program.sizes)]
     code = Lines()

@@ -17,6 +17,7 @@ from zaru.blocked import BUDGET
 from zaru.engine import Request, Run
 from zaru.follow import Follower
 from zaru.labels import Spot, spots
+from zaru.progress import saying
 from zaru.state import State, state_of
 from zaru.values import Event, events_of
 
@@ -80,7 +81,8 @@ def answers_of(program: t.Program, table: bytes, schedule: bytes) -> Answers:
 
 def course_of(program: t.Program, table: bytes, schedule: bytes) -> Course:
     """The run's steps, each held against the answers."""
-    answers = answers_of(program, table, schedule)
+    with saying(f"running both machines for each of {len(schedule)} entries"):
+        answers = answers_of(program, table, schedule)
     states = [state_of(program, one.cell_bytes) for one in answers.copy_runs]
     events = events_of(answers.run.event_bytes)
     follower = Follower(program, spots(program))

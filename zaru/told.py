@@ -2,11 +2,11 @@
 
 from __future__ import annotations
 
-from typing import List, Sequence
+from typing import List, Sequence, Tuple
 
 from zaru import table as t
 from zaru.asserts import FAILS, is_assertion
-from zaru.blocked import plural, sentence
+from zaru.blocked import Why, plural, why_at
 from zaru.labels import Spot, spots
 from zaru.names import Names
 from zaru.show import Shower
@@ -38,27 +38,31 @@ class Teller:
         words += [f"{step.missing} more events"] if step.missing else []
         return "; ".join(words)
 
+    def set_by(self, step: Step) -> Tuple[int, Sequence[int]]:
+        """The procedure and the numbers of the locals that the step has set."""
+        procedure, instruction = step.spot.procedure, step.spot.instruction
+        if isinstance(instruction, (t.Assign, t.Read)):
+            return procedure, [instruction.target]
+        if isinstance(instruction, t.Call):
+            return instruction.procedure, range(len(instruction.arguments))
+        if isinstance(instruction, t.Atomic):
+            old, new = step.before.local_values[procedure], step.after.local_values[procedure]
+            changed = [number for number in range(len(new)) if old[number][step.thread] != new[number][step.thread]]
+            return procedure, changed
+        return procedure, []
+
     def locals_set(self, step: Step) -> List[str]:
         """The locals that the step has set, with their new values."""
-        procedure, instruction = step.spot.procedure, step.spot.instruction
-        numbers: Sequence[int] = []
-        if isinstance(instruction, (t.Assign, t.Read)):
-            numbers = [instruction.target]
-        elif isinstance(instruction, t.Call):
-            procedure = instruction.procedure
-            numbers = range(len(instruction.arguments))
-        elif isinstance(instruction, t.Atomic):
-            old, new = step.before.local_values[procedure], step.after.local_values[procedure]
-            numbers = [number for number in range(len(new)) if old[number][step.thread] != new[number][step.thread]]
+        procedure, numbers = self.set_by(step)
         names, values = self.names.local_names[procedure], step.after.local_values[procedure]
         return [
             f"{names[number]} = {value_text(values[number][step.thread], self.names.locations)}" for number in numbers
         ]
 
-    def why(self, course: Course) -> str:
+    def why(self, course: Course) -> Why:
         """Where and why a blocked run stopped."""
         answers = course.answers
-        return sentence(self.program, answers.copy, course.schedule, answers.run, blocked_label(course))
+        return why_at(self.program, answers.copy, course.schedule, answers.run, blocked_label(course))
 
     def not_done(self, course: Course) -> str:
         """The instruction at which a run blocked; nothing if the thread was finished."""

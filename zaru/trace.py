@@ -15,10 +15,8 @@ HEADS = ("step", "thread", "label", "instruction", "what it did")
 LEFT = HEADS[3:]
 
 
-def trace(program: t.Program, names: Names, table: bytes, schedule: bytes) -> List[str]:
+def lines_of(teller: Teller, course: Course) -> List[str]:
     """A line for each step, then how the run ended."""
-    teller = Teller(program, names)
-    course = course_of(program, table, schedule)
     rows = [
         (step.number, step.thread, step.label, cut(teller.instruction(step.spot)), teller.did(step))
         for step in course.steps
@@ -34,4 +32,8 @@ def ending(teller: Teller, course: Course) -> List[str]:
     if run.end == "used":
         return [f"used: the order ends {count}"]
     not_done = teller.not_done(course)
-    return [teller.why(course), unused(course) + (f"; not done: {not_done}" if not_done else "")]
+    return [teller.why(course).sentence(), unused(course) + (f"; not done: {not_done}" if not_done else "")]
+
+
+def trace(program: t.Program, names: Names, table: bytes, schedule: bytes) -> List[str]:
+    return lines_of(Teller(program, names), course_of(program, table, schedule))

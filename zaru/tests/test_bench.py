@@ -42,7 +42,7 @@ class Counts(unittest.TestCase):
 
     def test_a_table_of_rounds(self) -> None:
         lines = ["round  thread 0  thread 1", "    1         0         2", "    2        64         6"]
-        self.assertEqual(bench.rounds_table((0, 2, 64, 6, 0), 2, 2), lines)
+        self.assertEqual(bench.rounds_table(((0, 2), (64, 6))), lines)
 
     def test_wrong_counts(self) -> None:
         found = engine.Bench(True, 139, (0, 2, 5, 6) + (0,) * 15, b"")

@@ -70,14 +70,14 @@ class Command(unittest.TestCase):
 class WrongUse(Command):
     """None of these reaches the proved program."""
 
-    def check(self, message: str, *words: str) -> None:
+    def check(self, message: str, *words: str, has_usage: bool = True, given: bytes = b"") -> None:
         before = self.listed()
-        result = self.zaru(*words, engine="/nowhere/cases")
+        result = self.zaru(*words, engine="/nowhere/cases", given=given)
         self.assertEqual(result.status, 2, result)
         self.assertEqual(result.out, "")
         first, *others = result.err.splitlines()
         self.assertEqual(first, f"zaru: {message}")
-        self.assertTrue(any("zaru" in line for line in others), "no usage")
+        self.assertEqual(any("zaru" in line for line in others), has_usage, others)
         self.assertEqual(self.listed(), before)
 
     def test_commands(self) -> None:
@@ -86,18 +86,19 @@ class WrongUse(Command):
         self.check("no such command: fly", "help", "fly")
 
     def test_counts_and_kinds(self) -> None:
-        self.check("a kind (c or s) and one table are needed", "read", "b.table")
-        self.check("a kind (c or s) and one table are needed", "show", "c")
+        self.check("the following arguments are required: TABLE", "read", "c")
+        self.check("the following arguments are required: c|s, TABLE", "show")
         self.check("the kind is c (concurrent) or s (sequential), not x", "read", "x", "b.table")
-        self.check("a table is needed", "run")
-        self.check("one table is needed", "translate", "-o", "x")
-        self.check("one text is needed", "asm", "b.zaru", "b.zaru", "-o", "x")
+        self.check("the following arguments are required: TABLE", "run")
+        self.check("the following arguments are required: TABLE", "translate", "-o", "x")
+        self.check("unrecognized arguments: b.zaru", "asm", "b.zaru", "b.zaru", "-o", "x")
 
     def test_options(self) -> None:
-        self.check("-o and the file to write are needed", "translate", "b.table")
-        self.check("-o needs a value", "translate", "b.table", "-o")
+        self.check("the following arguments are required: -o", "translate", "b.table")
+        self.check("argument -o: expected one argument", "translate", "b.table", "-o")
         self.check("-o is given twice", "translate", "b.table", "-o", "x", "-o", "y")
-        self.check("unknown option --budget", "run", "b.table", "0", "--budget", "3")
+        self.check("unrecognized arguments: --budget 3", "run", "b.table", "0", "--budget", "3")
+        self.check("unrecognized arguments: --event", "run", "b.table", "0", "--event")
         self.check("the budget is a number from 0 to 18,446,744,073,709,551,615, not x", "copy", "c", "--budget", "x")
         self.check("h is a number from 0 to 4,294,967,295, not 4294967296", "copy", "c", "0", "--h=4294967296")
         self.check("a file that ends in .zaru is a text; give the table another name", "asm", "b.zaru", "-o", "c.zaru")
@@ -106,21 +107,39 @@ class WrongUse(Command):
         self.check("an entry of the order is a number from 0 to 255, not x", "run", "b.table", "0", "x")
         self.check("an entry of the order is a number from 0 to 255, not 256", "run", "b.table", "0", "256")
         self.check("an entry of the order is a number from 0 to 255, not -1", "run", "b.table", "-1")
-        self.check("an order of 513 entries is too long; the most is 512", "trace", "b.table", ",".join("0" * 513))
-        self.check("an order of 5,001 entries is too long; the most is 5,000", "run", "b.table", ",".join("0" * 5001))
+        for entry in ("0*x", "x*3", "*", "0*", "*4", "0*-1", "0*65536", "0*1*1"):
+            message = f"{entry} is no part of an order: 0*4 is thread 0 four times, which may be at most 65,535"
+            self.check(message, "run", "b.table", entry)
+
+    def test_long_orders(self) -> None:
+        message = "an order of 513 entries is too long; the most is 512"
+        for order in (",".join("0" * 513), "0*513", "0*500 1*13"):
+            self.check(message, "trace", "b.table", order, has_usage=False)
+        message = "an order of 131,070 entries is too long; the most is 5,000"
+        self.check(message, "run", "b.table", "0*65535", "0*65535", has_usage=False)
+
+    def test_orders_in_files(self) -> None:
+        self.file("order", b"0 1 x")
+        self.check("an entry of the order is a number from 0 to 255, not x", "run", "b.table", "--order", "order")
+        self.check("the order is given twice, in the words and by --order", "run", "b.table", "0", "--order", "order")
+        self.check("standard input cannot be both the table and the order", "run", "-", "--order", "-", given=b"0")
+        self.check("none cannot be read: No such file or directory", "run", "b.table", "--order", "none", has_usage=False)
+        self.file("binary", b"0 \xff")
+        self.check("an entry of the order is a number from 0 to 255, not \ufffd", "trace", "b.table", "--order=binary")
 
     def test_bounds_of_the_bench(self) -> None:
-        needed = "a table, the number of rounds and the most steps of a thread in a round are needed"
-        for words in ([], ["b.table"], ["b.table", "1"], ["b.table", "1", "1", "1"]):
-            self.check(needed, "bench", *words)
-        self.check("the number of rounds is a number from 0 to 18,446,744,073,709,551,615, not x", "bench", "b.table", "x", "1")
-        self.check("the number of rounds is a number from 0 to 18,446,744,073,709,551,615, not -1", "bench", "b.table", "-1", "1")
+        self.check("the following arguments are required: TABLE, ROUNDS, STEPS", "bench")
+        self.check("the following arguments are required: STEPS", "bench", "b.table", "1")
+        self.check("unrecognized arguments: 1", "bench", "b.table", "1", "1", "1")
+        most = "a number from 0 to 18,446,744,073,709,551,615"
+        self.check(f"the number of rounds is {most}, not x", "bench", "b.table", "x", "1")
+        self.check(f"the number of rounds is {most}, not -1", "bench", "b.table", "-1", "1")
         self.check("the most steps is a number from 0 to 4,294,967,295, not 4294967296", "bench", "b.table", "1", "4294967296")
-        self.check("unknown option --h", "bench", "b.table", "1", "1", "--h", "1")
+        self.check("unrecognized arguments: --h 1", "bench", "b.table", "1", "1", "--h", "1")
 
     def test_files(self) -> None:
-        self.check("none.table cannot be read: No such file or directory", "read", "c", "none.table")
-        self.check(". cannot be read: Is a directory", "read", "c", ".")
+        self.check("none.table cannot be read: No such file or directory", "read", "c", "none.table", has_usage=False)
+        self.check(". cannot be read: Is a directory", "read", "c", ".", has_usage=False)
 
 
 class WrongEngine(Command):
@@ -257,7 +276,12 @@ class WithoutEngine(Command):
             self.assertIn(f"  zaru {command} ", overview.out)
             told = self.zaru("help", command)
             self.assertTrue(told.out.startswith(f"usage: zaru {command}"), told)
-            self.assertEqual(self.zaru(command, "--help"), told)
+            if command != "help":
+                self.assertEqual(self.zaru(command, "--help"), told)
+                self.assertEqual(self.zaru(command, "x", "-h"), told)
+
+    def test_version(self) -> None:
+        self.assertEqual(self.zaru("--version"), Result(0, f"zaru 1.{VERSION}\n", ""))
 
 
 @samples.needs_engine
@@ -287,6 +311,24 @@ class WithEngine(Command):
         self.assertEqual(self.good("run", "b.zaru", "0,0,0,0", "1,1,1,1"), "finished 8 198 0 4 0\ncell[0] = 2\n")
         self.assertEqual(self.good("run", "b.zaru"), "used 0 9 0 0 0\ncell[0] = 0\n")
         self.assertEqual(self.good("run", "a.table", "0", "0"), "finished 1 24 1 0 0\n")
+
+    def test_orders(self) -> None:
+        """Words, short forms, a file and standard input."""
+        expected = self.good("run", "b.zaru", *"00001111")
+        self.assertEqual(self.good("run", "b.zaru", "0*4", "1*4"), expected)
+        self.assertEqual(self.good("run", "b.zaru", "0*2,0 0*1,0*0", "1*4"), expected)
+        self.file("order", b"0*4\n1,1\n 1 1\n")
+        self.assertEqual(self.good("run", "b.zaru", "--order", "order"), expected)
+        self.assertEqual(self.good("run", "--order=-", "b.zaru", given=b"0*4 1*4"), expected)
+        for command in ("trace", "cost"):
+            self.assertEqual(self.good(command, "b.zaru", "--order", "order"), self.good(command, "b.zaru", *"00001111"))
+        self.good("translate", "b.zaru", "-o", "b.copy")
+        self.assertEqual(self.good("copy", "b.copy", "--order", "order"), self.good("copy", "b.copy", "0*4", "1*4"))
+
+    def test_options_anywhere(self) -> None:
+        expected = self.good("run", "b.zaru", "0", "1", "--events")
+        self.assertEqual(self.good("run", "--events", "b.zaru", "0", "1"), expected)
+        self.assertEqual(self.good("run", "b.zaru", "0", "--events", "1"), expected)
 
     def test_blocked_runs(self) -> None:
         """The sentence stands between the line and the cells."""
@@ -364,6 +406,7 @@ class WithEngine(Command):
 
     def test_the_text_in_the_help_is_accepted(self) -> None:
         lines = self.good("help", "asm").splitlines()
+        lines = lines[: lines.index("positional arguments:")]
         self.file("help.zaru", "\n".join(line for line in lines if line.startswith("    ")).encode())
         expected = "accepted: procedures 2, locations 1, threads 2, labels 14, cells 1\n"
         self.assertEqual(self.good("read", "c", "help.zaru"), expected)
@@ -404,7 +447,7 @@ class WithEngine(Command):
     def test_unwritable(self) -> None:
         result = self.zaru("translate", "b.table", "-o", "none/new")
         self.assertEqual(result.status, 2)
-        self.assertIn("zaru: none/new cannot be written: No such file or directory", result.err)
+        self.assertEqual(result.err, "zaru: none/new cannot be written: No such file or directory\n")
 
     def test_links_and_devices_stay(self) -> None:
         (self.folder / "link").symlink_to("real")

@@ -48,6 +48,9 @@ thread w
 """
 
 
+IGNORED = "argument --events: ignored explicit argument '1'"
+
+
 class Bytes(unittest.TestCase):
     def test_an_event(self) -> None:
         row = bytes.fromhex("07 01 0201 0403 02 0500 0000 0807")
@@ -113,7 +116,7 @@ class WithEngine(Command):
         self.assertEqual(self.zaru("run", "b.zaru", *"00").out, "used 2 56 0 1 0\ncell[0] = 0\n")
 
     def test_the_flag_takes_no_value(self) -> None:
-        for words, message in (("--events=1", "--events takes no value"), ("--events --events", "--events is given twice")):
+        for words, message in (("--events=1", IGNORED), ("--events --events", "--events is given twice")):
             result = self.zaru("run", "b.zaru", "0", *words.split())
             self.assertEqual((result.status, result.err.splitlines()[0]), (2, f"zaru: {message}"))
 

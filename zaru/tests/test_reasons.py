@@ -22,10 +22,11 @@ def instruction(*lines: str) -> t.Instruction:
 
 def said(reason: int, *lines: str) -> str:
     """What is said of the instruction, behind thread and label."""
-    sentence = reasons.blocked("3 steps", 1, 2, instruction(*lines), reason)
+    found = instruction(*lines)
+    why = blocked.Why(3, 1, 2, isinstance(found, t.Atomic), reason, reasons.words(1, 2, found, reason))
     head = "blocked after 3 steps: thread 1 at label 2"
-    assert sentence.startswith(head), sentence
-    return sentence[len(head) :].lstrip(": ")
+    assert why.sentence().startswith(head), why
+    return why.sentence()[len(head) :].lstrip(": ")
 
 
 class Words(unittest.TestCase):
@@ -80,7 +81,9 @@ class Words(unittest.TestCase):
         self.assertEqual(said(2, "atomic", "if v", "w := v", "end", "end"), f"{inside}the test is no truth value")
 
     def test_a_finished_thread(self) -> None:
-        self.assertEqual(reasons.blocked("1 step", 0, 0, None, 4), "blocked after 1 step: thread 0 is finished")
+        why = blocked.Why(1, 0, 0, False, 4, reasons.words(0, 0, None, 4))
+        self.assertEqual(why.sentence(), "blocked after 1 step: thread 0 is finished")
+        self.assertEqual(why.words, "finished thread chosen")
 
     def test_a_reason_that_does_not_fit(self) -> None:
         """No part of the instruction can block by the reason: it is not the one that blocked."""
@@ -90,9 +93,9 @@ class Words(unittest.TestCase):
                 said(reason, line)
         for label, reason in [(0, 1), (0, 3), (3, 4)]:
             with self.assertRaisesRegex(Fault, f"reason {reason} does not fit label {label}"):
-                reasons.blocked("1 step", 0, label, instruction("v := v + 1") if label else None, reason)
+                reasons.words(0, label, instruction("v := v + 1") if label else None, reason)
         with self.assertRaisesRegex(Fault, "does not fit label 2"):
-            reasons.blocked("1 step", 0, 2, None, 1)
+            reasons.words(0, 2, None, 1)
 
 
 def blocked_runs() -> List[Request]:
@@ -109,7 +112,7 @@ class StoredRuns(unittest.TestCase):
         for request in blocked_runs()[::5]:
             run = engine.run(request)
             copy = engine.translate(request.table)
-            sentence = blocked.why(t.decode(request.table), copy, request.schedule, run)
+            sentence = blocked.why(t.decode(request.table), copy, request.schedule, run).sentence()
             self.assertRegex(sentence, f"^blocked after {blocked.plural(run.steps, 'step')}: thread ")
             counts[run.reason] += 1
         self.assertTrue(all(counts[1:]), counts)

@@ -1,0 +1,158 @@
+"""What each command of `zaru` does: lines to print, from proved answers."""
+
+from __future__ import annotations
+
+from argparse import Namespace
+from dataclasses import dataclass
+from typing import Iterator, List, Tuple
+
+from zaru import arguments, bench, blocked, cost, engine, files, objects, ran, trace
+from zaru.accepted import READ_OPS, accepted_program
+from zaru.arguments import UsageError
+from zaru.copy_names import copy_names
+from zaru.engine import Request
+from zaru.files import TEXT_ENDING, Source, source_of, write_file
+from zaru.labels import spots
+from zaru.names import Names
+from zaru.reasons import REASONS
+from zaru.steps import LONGEST_ORDER, course_of
+from zaru.table import CONCURRENT, SEQUENTIAL, Program, decode
+from zaru.text import text_of
+from zaru.told import Teller
+from zaru.values import cell_lines
+
+KIND_LETTERS = {"c": CONCURRENT, "s": SEQUENTIAL}
+MOST_IN_FOUR_BYTES = 2**32 - 1
+MOST_IN_EIGHT_BYTES = 2**64 - 1
+
+
+@dataclass(frozen=True)
+class Accepted:
+    """A table that the proved reader accepts, taken apart, with names for what it numbers."""
+
+    table: bytes
+    program: Program
+    names: Names
+
+
+def accepted(kind: str, source: Source) -> Accepted:
+    program = accepted_program(kind, source.table)
+    return Accepted(source.table, program, source.names_for(program))
+
+
+def kind_of(words: Namespace) -> str:
+    if words.kind not in KIND_LETTERS:
+        raise UsageError(f"the kind is c (concurrent) or s (sequential), not {words.kind}")
+    return KIND_LETTERS[words.kind]
+
+
+def order_of(words: Namespace, most: int = engine.LONGEST_SCHEDULE) -> bytes:
+    """The order among the words, or that of the file that they name."""
+    if words.order_file is None:
+        return arguments.order(words.order, most)
+    if words.order:
+        raise UsageError("the order is given twice, in the words and by --order")
+    if words.order_file == "-" and words.table == "-":
+        raise UsageError("standard input cannot be both the table and the order")
+    return arguments.order([files.read_text(words.order_file)], most)
+
+
+def program_and_order(words: Namespace, most: int = engine.LONGEST_SCHEDULE) -> Tuple[Accepted, bytes]:
+    schedule = order_of(words, most)
+    return accepted(CONCURRENT, source_of(words.table)), schedule
+
+
+# ---- commands ----
+
+
+def read(words: Namespace) -> List[str]:
+    kind = kind_of(words)
+    shape = engine.read(READ_OPS[kind], source_of(words.table).table)
+    if words.json:
+        return [objects.written(objects.read(kind, shape))]
+    counts = f"procedures {shape.procedures}, locations {shape.locations}"
+    if kind == CONCURRENT:
+        counts += f", threads {shape.threads}, labels {shape.labels}"
+    return [f"accepted: {counts}, cells {shape.cells}"]
+
+
+def translate(words: Namespace) -> List[str]:
+    source = source_of(words.table)
+    copy = engine.translate(source.table)
+    if words.output.endswith(TEXT_ENDING):
+        write_file(words.output, copy_text(source, copy).encode())
+        return [f"{words.output}: the text of {len(copy):,} bytes"]
+    return written_table(words.output, copy)
+
+
+def written_table(output: str, table: bytes) -> List[str]:
+    write_file(output, table)
+    return [] if output == "-" else [f"{output}: {len(table):,} bytes"]
+
+
+def copy_text(source: Source, copy: bytes) -> str:
+    """A copy as text, named after its source."""
+    one = accepted(CONCURRENT, source)
+    accepted_program(SEQUENTIAL, copy)
+    return text_of(copy, copy_names(one.program, one.names))
+
+
+def run(words: Namespace) -> List[str]:
+    one, schedule = program_and_order(words)
+    found = ran.run_both(one.program, one.table, schedule)
+    if words.json:
+        return [objects.written(objects.run(found, one.program, one.names))]
+    return ran.lines_of(found, one.program, one.names, words.events)
+
+
+def traced(words: Namespace) -> List[str]:
+    one, schedule = program_and_order(words, LONGEST_ORDER)
+    teller, course = Teller(one.program, one.names), course_of(one.program, one.table, schedule)
+    if words.json:
+        return [objects.written(objects.trace(course, teller))]
+    return trace.lines_of(teller, course)
+
+
+def costs(words: Namespace) -> List[str]:
+    one, schedule = program_and_order(words, LONGEST_ORDER)
+    return cost.cost(one.program, one.names, one.table, schedule)
+
+
+def benched(words: Namespace) -> Iterator[str]:
+    rounds = arguments.whole("the number of rounds", words.rounds, MOST_IN_EIGHT_BYTES)
+    steps = arguments.whole("the most steps", words.steps, MOST_IN_FOUR_BYTES)
+    one = accepted(CONCURRENT, source_of(words.table))
+    outcome = bench.search(one.program, one.table, rounds, steps)
+    if words.json:
+        yield objects.written(objects.bench(outcome))
+    else:
+        yield from bench.lines_of(outcome, words.table)
+
+
+def copy_run(words: Namespace) -> List[str]:
+    budget = arguments.whole("the budget", words.budget or str(blocked.BUDGET), MOST_IN_EIGHT_BYTES)
+    h = arguments.whole("h", words.h or str(MOST_IN_FOUR_BYTES), MOST_IN_FOUR_BYTES)
+    schedule = order_of(words)
+    one = accepted(SEQUENTIAL, source_of(words.table))
+    request = Request(engine.RUN_SEQUENTIAL, one.table, schedule, budget, h, cells=engine.CELL_ROOM)
+    found = engine.run(request)
+    lines = [f"{found.end} {found.steps} {found.unused} {found.events} {found.reason}"]
+    if found.end == "blocked":
+        lines.append(f"blocked after {blocked.plural(found.steps, 'step')}: {REASONS[found.reason]}")
+    return lines + cell_lines(found.cell_bytes, one.program.sizes, one.names.locations)
+
+
+def show(words: Namespace) -> List[str]:
+    kind = kind_of(words)
+    one = accepted(kind, source_of(words.table))
+    labels = range(1, len(spots(one.program)) + 1) if kind == CONCURRENT else ()
+    prices = [price.text() for price in engine.prices(one.table, labels)] if labels else []
+    return text_of(one.table, one.names, prices).splitlines()
+
+
+def assemble(words: Namespace) -> List[str]:
+    if words.output.endswith(TEXT_ENDING):
+        raise UsageError(f"a file that ends in {TEXT_ENDING} is a text; give the table another name")
+    table = files.assembled(words.text).table
+    accepted_program(decode(table).kind, table)
+    return written_table(words.output, table)
