@@ -1,5 +1,5 @@
 # Two commands: `make demo` runs the main job, `make test` proves and tests everything.
-.PHONY: demo test kit second cases zaru use lib bench more-edits
+.PHONY: demo test kit second cases zaru use lib bench look install more-edits
 
 kit:
 	@tools/need rt
@@ -43,6 +43,12 @@ lib: kit
 bench: zaru
 	@tools/need python3 python3
 	tools/bench
+
+# not part of the test: pictures of runs, shown by a real browser, as PNG files in target/look
+look: zaru
+	@tools/need python3 python3
+	@tools/need chromium chromium
+	tools/look
 
 # not part of the test, for their time: further wrong definitions and programs that the prover must refuse
 more-edits: kit

@@ -6,7 +6,7 @@ from argparse import Namespace
 from dataclasses import dataclass
 from typing import Iterator, List, Tuple
 
-from zaru import arguments, bench, blocked, cost, engine, files, objects, ran, trace
+from zaru import arguments, bench, blocked, cost, engine, files, objects, picture, ran, trace
 from zaru.accepted import READ_OPS, accepted_program
 from zaru.arguments import UsageError
 from zaru.copy_names import copy_names
@@ -118,15 +118,25 @@ def costs(words: Namespace) -> List[str]:
     return cost.cost(one.program, one.names, one.table, schedule)
 
 
+def pictured(words: Namespace) -> List[str]:
+    picture.hold_ending(words.output)
+    one, schedule = program_and_order(words, LONGEST_ORDER)
+    return picture.draw(one.program, one.names, one.table, schedule, words.table, words.output)
+
+
 def benched(words: Namespace) -> Iterator[str]:
     rounds = arguments.whole("the number of rounds", words.rounds, MOST_IN_EIGHT_BYTES)
     steps = arguments.whole("the most steps", words.steps, MOST_IN_FOUR_BYTES)
+    if words.output:
+        picture.hold_ending(words.output)
     one = accepted(CONCURRENT, source_of(words.table))
     outcome = bench.search(one.program, one.table, rounds, steps)
-    if words.json:
-        yield objects.written(objects.bench(outcome))
-    else:
-        yield from bench.lines_of(outcome, words.table)
+    yield from [objects.written(objects.bench(outcome))] if words.json else bench.lines_of(outcome, words.table)
+    if words.output and outcome.rounds:
+        drawn = picture.draw(one.program, one.names, one.table, outcome.schedule, words.table, words.output)
+        yield from [] if words.json else drawn[:-1]
+    elif words.output and not words.json:
+        yield f"{words.output}: not written, there is nothing to draw"
 
 
 def copy_run(words: Namespace) -> List[str]:

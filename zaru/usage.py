@@ -9,6 +9,7 @@ from typing import Any, Callable, Dict, Iterable, Tuple
 from zaru import commands
 from zaru.arguments import Once, Parser
 from zaru.blocked import BUDGET
+from zaru.drawing import MOST_STEPS
 from zaru.files import TEXT_ENDING
 from zaru.steps import LONGEST_ORDER
 
@@ -33,6 +34,7 @@ TABLE = word("table", help=f"a file of bytes, or of text if its name ends in {TE
 ORDER = word("order", nargs="*", default=[], help="the thread of each step: `0 0 0 1` or `0,0,0,1` or `0*3 1`")
 ORDER_FILE = option("--order", "a file that has the order; - is standard input", dest="order_file", metavar="FILE")
 WRITTEN = "the file to write; - is standard output"
+DRAWN = "a file for the picture of what was found, as `zaru picture` draws it"
 JSON = flag("--json", "print the answer as one JSON object (docs/JSON.md)")
 
 
@@ -113,8 +115,22 @@ An order has at most {LONGEST_ORDER} entries here.
 """,
         (TABLE, ORDER, ORDER_FILE),
     ),
+    "picture": Command(
+        "zaru picture TABLE ORDER.. [--order FILE] -o FILE.svg|FILE.html",
+        commands.pictured,
+        f"""
+Draws a run: a column for each thread and for each shared cell that is touched, a row for each step, an arrow from cell to
+thread for a read and from thread to cell for a write, with the values. A file that ends in .html gets a page with the
+drawing and the table of the trace.
+
+Marked, and printed too, is each write that rests on a read which another thread's write has made old: that write is lost
+if it was to the same cell. So is the step that blocked, with its label and the reason.
+An order has at most {LONGEST_ORDER} entries here. Of a run of over {MOST_STEPS} steps the beginning and the end are drawn.
+""",
+        (TABLE, ORDER, ORDER_FILE, output("FILE", "the file to write")),
+    ),
     "bench": Command(
-        "zaru bench TABLE ROUNDS STEPS [--json]",
+        "zaru bench TABLE ROUNDS STEPS [-o FILE.svg|FILE.html] [--json]",
         commands.benched,
         """
 Tries the round-robin orders of a concurrent table and stops at the first whose run blocks.
@@ -128,7 +144,7 @@ Of the first order that blocks it prints the steps by rounds and threads, the sc
 and the command that shows it step by step. Or it says that none blocks. What must hold in a program is written into it
 as `assert e` (`zaru help asm`): an assertion that fails blocks.
 """,
-        (TABLE, word("rounds"), word("steps"), JSON),
+        (TABLE, word("rounds"), word("steps"), option("-o", DRAWN, dest="output", metavar="FILE"), JSON),
     ),
     "copy": Command(
         "zaru copy COPY ORDER.. [--order FILE] [--budget N] [--h N]",
@@ -212,7 +228,8 @@ zaru: concurrent programs, their sequential copies, and what both do in a given 
   zaru run TABLE ORDER..            runs program and copy in this order of threads; --events
   zaru trace TABLE ORDER..          the same, a line for each step
   zaru cost TABLE ORDER..           the copy's steps, a line for each step of the program
-  zaru bench TABLE ROUNDS STEPS     tries round-robin orders: the first that blocks
+  zaru picture TABLE ORDER.. -o F   draws the run: F.svg or F.html
+  zaru bench TABLE ROUNDS STEPS     tries round-robin orders: the first that blocks; -o F draws it
   zaru copy COPY ORDER..            runs a sequential table alone; --budget N, --h N
   zaru show c|s TABLE               the table as text, with its labels and their prices
   zaru asm TEXT -o TABLE            text to table

@@ -10,7 +10,7 @@ from zaru.engine import CELL, EVENT
 # How many cells stand on one line.
 ROW = 16
 
-NUMBER, LOCATION, FALSE = 1, 2, 3
+NUMBER, LOCATION, FALSE, TRUE = 1, 2, 3, 4
 
 
 def value_text(five: bytes, locations: Sequence[str]) -> str:

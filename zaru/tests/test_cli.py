@@ -205,7 +205,7 @@ class Faults(Command):
         message = "b.zaru: a fault of zaru: the text that it shows is read as another program"
         commands = ["read c b.zaru", "translate b.zaru -o new", "translate b.zaru -o new.zaru", "run b.zaru 0 0"]
         commands += ["trace b.zaru 0 0", "cost b.zaru 0 0", "bench b.zaru 1 1", "copy b.zaru 0", "show c b.zaru"]
-        commands += ["asm b.zaru -o new"]
+        commands += ["asm b.zaru -o new", "picture b.zaru 0 0 -o new.svg"]
         with mock.patch("zaru.expressions.literal", lambda token, sign: t.Number(sign * int(token.text) + 1)):
             for command in commands:
                 self.check(message, *command.split())
@@ -272,7 +272,7 @@ class WithoutEngine(Command):
         overview = self.zaru("help")
         self.assertEqual((overview.status, overview.err), (0, ""))
         self.assertEqual(self.zaru("--help"), overview)
-        for command in "read translate run trace cost bench copy show asm help".split():
+        for command in "read translate run trace cost picture bench copy show asm help".split():
             self.assertIn(f"  zaru {command} ", overview.out)
             told = self.zaru("help", command)
             self.assertTrue(told.out.startswith(f"usage: zaru {command}"), told)
