@@ -1,5 +1,5 @@
 # Two commands: `make demo` runs the main job, `make test` proves and tests everything.
-.PHONY: demo test kit second cases zaru use lib bench look install more-edits
+.PHONY: demo test kit second cases zaru use lib bench look install installed more-edits
 
 kit:
 	@tools/need rt
@@ -38,6 +38,16 @@ use: kit
 # target/staticlib/libzaru.a for C programs (header: lib/zaru.h), and its test
 lib: kit
 	tools/check-lib
+
+# the command, its engine, the C library, its header and its pkg-config file, below PREFIX (and that below DESTDIR, if it is set)
+PREFIX ?= /usr/local
+install: zaru lib
+	tools/install "$(PREFIX)"
+
+# is what `make install` puts into a temporary folder of use there?
+installed: zaru lib
+	@tools/need pkg-config pkgconf
+	tools/check-install
 
 # not part of the test: instructions and time a step of the sequential machine, and an allotment of the bench
 bench: zaru

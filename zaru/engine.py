@@ -36,7 +36,8 @@ COPY_ROOM = 65_536
 VARIABLE = "ZARU_ENGINE"
 ROOT = Path(__file__).resolve().parent.parent
 PROGRAM = "cases"
-DEFAULT = ROOT / "target" / "bin" / PROGRAM
+# Where `make install` puts it, beside the script, and where `make zaru` builds it.
+INSTALLED, BUILT = ROOT / PROGRAM, ROOT / "target" / "bin" / PROGRAM
 BUILD = "`make zaru` builds it"
 
 ENDS = ("finished", "used", "blocked", "budget")
@@ -153,7 +154,8 @@ def unexpected(answer: Answer) -> EngineError:
 
 
 def engine_path() -> Path:
-    return Path(os.environ.get(VARIABLE) or DEFAULT)
+    named = os.environ.get(VARIABLE)
+    return Path(named) if named else INSTALLED if INSTALLED.is_file() else BUILT
 
 
 def ask(requests: List[Request]) -> List[Answer]:
