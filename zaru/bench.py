@@ -14,7 +14,7 @@ from zaru import table as t
 from zaru.asserts import Assertion
 from zaru.blocked import plural
 from zaru.columns import columns
-from zaru.engine import Bench, EngineError, Request, Run
+from zaru.engine import COUNTS, Bench, EngineError, Request, Run
 from zaru.fault import Fault
 from zaru.progress import saying
 from zaru.reasons import REASONS
@@ -68,9 +68,11 @@ class Outcome:
 
 def search(program: t.Program, table: bytes, rounds: int, steps: int) -> Outcome:
     """Has the orders tried, and holds what was found."""
-    with saying("trying the orders"):
-        found = engine.bench(table, rounds, steps)
     threads = len(program.mains)
+    # The bounds may be far outside what the bench takes.
+    count = f"up to {orders(threads, rounds, steps):,}" if rounds * threads <= COUNTS else "the"
+    with saying(f"trying {count} orders"):
+        found = engine.bench(table, rounds, steps)
     if not found.found:
         return Outcome(orders(threads, rounds, steps))
     hold_counts(found, rounds * threads, steps)

@@ -13,9 +13,10 @@ from zaru.steps import Course, Step
 from zaru.told import Teller, unused
 from zaru.values import Event, split_cells, value_text
 
-# Longer runs are cut: so many steps of the beginning and of the end are drawn.
-FIRST_STEPS, LAST_STEPS = 30, 50
+# Longer runs are cut: so many steps of the beginning and of the end are drawn, and so many of those that a mark is about.
+FIRST_STEPS, LAST_STEPS, MARKED_STEPS = 30, 50, 30
 MOST_STEPS = FIRST_STEPS + LAST_STEPS
+DRAWN = f"of a long run the first {FIRST_STEPS} and the last {LAST_STEPS} steps are drawn, and what is marked"
 # Further cells have one column together.
 MOST_CELLS = 12
 # Further reads and writes of a step are only counted.
@@ -53,6 +54,8 @@ class Row:
     # The steps of the reads that were old when it wrote.
     old_reads: Tuple[int, ...] = ()
     is_blocked: bool = False
+    # What is said in front of it, where steps are left out.
+    gap: str = ""
     # All that it did, for whoever points at it.
     told: str = ""
 
@@ -71,14 +74,10 @@ class Picture:
     threads: Tuple[Column, ...]
     cells: Tuple[Column, ...]
     rows: Tuple[Row, ...]
-    # What stands where steps are left out, in front of the row of this place; empty if none are.
-    cut_at: int
-    cut: str
+    # What is marked, in the steps that are left out too.
+    marks: Tuple[str, ...]
     # How the run ended.
-    end: Tuple[str, ...]
-
-    def marks(self) -> List[str]:
-        return [mark for row in self.rows for mark in row.marks]
+    end: str
 
 
 class Drawing:
@@ -110,24 +109,35 @@ class Drawing:
         return short(value_text(five, self.names.locations), MOST_NAME)
 
     def picture(self, title: str, order: str) -> Picture:
-        rows, cut_at, cut = self.rows()
         ends = self.ends()
         mains = [short(self.names.procedures[main], MOST_NAME) for main in self.program.mains]
         threads = [Column(f"thread {number}", main) for number, main in enumerate(mains)]
         cells = [Column(self.cell_name(cell), "begins 0", f"ends {ends[cell]}") for cell in self.columns]
         others = [Column("other cells", "")] if self.has_others() else []
         title, order = short(title, MOST_TITLE), short(order, MOST_TITLE)
-        return Picture(title, order, tuple(threads), tuple(cells + others), rows, cut_at, cut, self.end())
+        marks = dict.fromkeys(f"step {one.step}: {self.sentence(one)}" for one in self.stale)
+        return Picture(title, order, tuple(threads), tuple(cells + others), self.rows(), tuple(marks), self.end())
 
-    def rows(self) -> Tuple[Tuple[Row, ...], int, str]:
-        """The rows, and where and how they were cut."""
-        rows = [self.row(step) for step in self.course.steps]
-        blocked = [self.blocked_row()] if self.course.answers.run.end == "blocked" else []
-        if len(rows) <= MOST_STEPS:
-            return tuple(rows + blocked), 0, ""
-        first, last = FIRST_STEPS + 1, len(rows) - LAST_STEPS
-        cut = f"steps {first} to {last} are left out: a picture has at most {MOST_STEPS} steps"
-        return tuple(rows[:FIRST_STEPS] + rows[-LAST_STEPS:] + blocked), FIRST_STEPS, cut
+    def kept(self) -> List[Step]:
+        """The steps that are drawn."""
+        steps = self.course.steps
+        if len(steps) <= MOST_STEPS:
+            return list(steps)
+        ends = {*range(1, FIRST_STEPS + 1), *range(len(steps) - LAST_STEPS + 1, len(steps) + 1)}
+        marked = [number for one in self.stale for number in (one.read.step, one.other.step, one.step)]
+        others = [number for number in dict.fromkeys(marked) if number not in ends]
+        return [steps[number - 1] for number in sorted({*ends, *others[:MARKED_STEPS]})]
+
+    def rows(self) -> Tuple[Row, ...]:
+        rows: List[Row] = []
+        for step in self.kept():
+            row = self.row(step)
+            first, last = (rows[-1].number if rows else 0) + 1, step.number - 1
+            if first <= last:
+                which = f"steps {first} to {last} are" if first < last else f"step {first} is"
+                row = replace(row, gap=f"{which} left out: {DRAWN}")
+            rows.append(row)
+        return tuple(rows + ([self.blocked_row()] if self.course.answers.run.end == "blocked" else []))
 
     def row(self, step: Step) -> Row:
         arrows = tuple(self.arrow(step, event) for event in step.events)
@@ -179,11 +189,10 @@ class Drawing:
         rows = split_cells(self.course.answers.run.cell_bytes, self.program.sizes)
         return {(location, index): self.value(rows[location][index]) for location, index in self.columns}
 
-    def end(self) -> Tuple[str, ...]:
-        run = self.course.answers.run
-        if run.end == "blocked":
-            return (unused(self.course),)
-        return (f"finished, {unused(self.course)}" if run.end == "finished" else "used: the order has no entry left",)
+    def end(self) -> str:
+        ends = {"finished": "finished, ", "blocked": ""}
+        end = self.course.answers.run.end
+        return "used: the order has no entry left" if end == "used" else ends[end] + unused(self.course)
 
 
 def picture_of(teller: Teller, course: Course, title: str, order: str) -> Picture:

@@ -3,7 +3,7 @@
 from __future__ import annotations
 
 from html import escape
-from typing import List, Sequence
+from typing import Sequence
 
 from zaru.drawing import Picture
 from zaru.steps import Course
@@ -36,7 +36,7 @@ def trace_table(teller: Teller, course: Course) -> str:
     return "<table>\n" + "\n".join([row(HEADS, "th"), *rows]) + "\n</table>"
 
 
-def listed(texts: List[str]) -> str:
+def listed(texts: Sequence[str]) -> str:
     items = "".join(f"<li>{escape(text)}</li>\n" for text in texts)
     return f"<ul>\n{items}</ul>\n" if texts else ""
 
@@ -46,5 +46,5 @@ def page_of(picture: Picture, teller: Teller, course: Course) -> str:
     end = "".join(f'<p class="stop">{escape(text)}</p>\n' for text in ending(teller, course))
     head = f'<!DOCTYPE html>\n<html lang="en">\n<head>\n<meta charset="utf-8">\n<title>{title}</title>\n'
     body = f"<h1>A run of {title}</h1>\n<figure>\n{svg_of(picture)}</figure>\n"
-    body += f"{listed(picture.marks())}<h2>Step by step</h2>\n{trace_table(teller, course)}\n{end}"
+    body += f"{listed(picture.marks)}<h2>Step by step</h2>\n{trace_table(teller, course)}\n{end}"
     return f"{head}<style>\n{STYLE}</style>\n</head>\n<body>\n{body}</body>\n</html>\n"

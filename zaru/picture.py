@@ -30,6 +30,5 @@ def draw(program: t.Program, names: Names, table: bytes, schedule: bytes, title:
     picture = picture_of(teller, course, title, f"order: {short_order(schedule)}")
     text = svg_of(picture) if output.endswith(".svg") else page_of(picture, teller, course)
     write_file(output, text.encode("utf-8", "replace"))
-    marks = [f"step {row.number}: {mark}" for row in picture.rows if not row.is_blocked for mark in row.marks]
     stop = [mark for row in picture.rows if row.is_blocked for mark in row.marks]
-    return [f"{output}: a picture of {plural(len(course.steps), 'step')}", *marks, *stop]
+    return [f"{output}: a picture of {plural(len(course.steps), 'step')}", *picture.marks, *stop]

@@ -30,7 +30,6 @@ text { font: 12px "DejaVu Sans Mono", "Liberation Mono", Menlo, Consolas, monosp
 .small { font-size: 11px; fill: #333 }
 .line { stroke: #999; stroke-width: 1 }
 .box { fill: #fff; stroke: #333; stroke-width: 1.2 }
-.stripe { fill: #f4f4f4 }
 .read line { stroke: #0072b2; stroke-width: 1.8; stroke-dasharray: 6 3 }
 .read path { fill: #fff; stroke: #0072b2; stroke-width: 1.8 }
 .read circle { fill: #fff; stroke: #0072b2; stroke-width: 1.8 }
@@ -117,8 +116,9 @@ class Places:
         return max(half + 12, head) + PAD, max(reads, half + lost, head) + PAD
 
     def widest_text(self) -> int:
-        texts = [self.picture.title, self.picture.order, self.picture.cut, *self.picture.end, *self.picture.marks()]
-        return wide(texts)
+        picture = self.picture
+        said = [text for row in picture.rows for text in (row.gap, *row.marks)]
+        return wide([picture.title, picture.order, picture.end, *said])
 
     def thread_left(self, number: int) -> float:
         return MARGIN + STEP_COLUMN + sum(self.thread_widths[:number])
@@ -142,9 +142,13 @@ class Places:
         arrows = len(row.arrows) + (1 if row.more else 0)
         return max(ARROW_HEIGHT * arrows, LINE * len(row.lines) + 6, 18) + 10
 
-    def whole_height(self, row: Row) -> float:
-        """With the marks under it."""
-        return self.row_height(row) + (BAND + 4) * len(row.marks)
+    def gap_height(self, row: Row) -> float:
+        """Of what is said in front of a row."""
+        return BAND + 12 if row.gap else 0
+
+    def marks_height(self, row: Row) -> float:
+        """Of what is said under it."""
+        return (BAND + 4) * len(row.marks)
 
 
 LEGEND = ("a read", "a write, and the new value", "a write that rests on an old read", "in a box: label and instruction")
@@ -188,15 +192,17 @@ class Writer:
     def body(self) -> float:
         """The rows; where they end."""
         top = self.places.top + HEADER
-        rows, at = [], top
-        for place, row in enumerate(self.picture.rows):
-            if self.picture.cut and place == self.picture.cut_at:
-                rows.append(self.cut_row(at))
-                at += BAND + 12
-            self.middles[row.number] = at + self.places.row_height(row) / 2
-            rows += self.row(row, at, place % 2 == 1)
-            at += self.places.whole_height(row)
-        self.parts += self.lifelines(top, at + 6) + rows
+        rows: List[str] = []
+        at = top
+        for row in self.picture.rows:
+            if row.gap:
+                rows.append(framed(MARGIN, at + 4, self.places.width - 2 * MARGIN, BAND, [row.gap], "cut"))
+            at += self.places.gap_height(row)
+            height = self.places.row_height(row)
+            self.middles[row.number] = at + height / 2
+            rows += self.row(row, at)
+            at += height + self.places.marks_height(row)
+        self.parts += self.lifelines(top, at + 6) + self.brackets() + rows
         return at + 6
 
     def lifelines(self, top: float, bottom: float) -> List[str]:
@@ -204,18 +210,13 @@ class Writer:
         middles += [self.places.cell_line(number) for number in range(len(self.picture.cells))]
         return [line(middle, top - 6, middle, bottom, "line") for middle in middles]
 
-    def cut_row(self, at: float) -> str:
-        width = self.places.width - 2 * MARGIN
-        return framed(MARGIN, at + 4, width, BAND, [self.picture.cut], "cut")
-
-    def row(self, row: Row, at: float, is_odd: bool) -> List[str]:
+    def row(self, row: Row, at: float) -> List[str]:
         height = self.places.row_height(row)
         kind = "step blocked" if row.is_blocked else "step"
         facts = f'data-step="{row.number}" data-thread="{row.thread}"'
         parts = [f'<g class="{kind}" {facts}>', f"<title>{escape(row.told)}</title>"]
         parts += [text_at(MARGIN + 28, at + height / 2 + 4, str(row.number), anchor="end")]
         parts += self.arrows(row, at) + [self.box(row, at, height)]
-        parts += [self.bracket(row, read) for read in row.old_reads if read in self.middles]
         parts += ["</g>"]
         for place, mark in enumerate(row.marks):
             parts.append(self.band(mark, at + height + (BAND + 4) * place, "stop" if row.is_blocked else "mark"))
@@ -233,11 +234,16 @@ class Writer:
         width = self.places.width - 2 * MARGIN
         return f'<g class="{kind}">{framed(MARGIN, at, width, BAND, [text], "band")}</g>'
 
+    def brackets(self) -> List[str]:
+        """From each old read to the write that rests on it, under all else."""
+        rows = self.picture.rows
+        return [self.bracket(row, read) for row in rows for read in row.old_reads if read in self.middles]
+
     def bracket(self, row: Row, read: int) -> str:
-        """From the read to the write, at the left of the thread's boxes."""
+        """At the left of the thread's boxes."""
         x = self.places.box(row.thread)[0] - 2
         top, bottom = self.middles[read], self.middles[row.number]
-        return f'<path d="M{x:g} {top:g} h-10 V{bottom:g} h10" class="bracket"/>'
+        return f'<path d="M{x:g} {top:g} h-10 V{bottom:g} h10" class="bracket" data-step="{row.number}"/>'
 
     # ---- arrows ----
 
@@ -279,10 +285,8 @@ class Writer:
         for number, column in enumerate(self.picture.cells):
             self.parts.append(text_at(self.places.cell_line(number), at + 14, column.last, "head", "middle"))
         at += LINE + 12
-        for text in self.picture.end:
-            self.parts.append(text_at(MARGIN, at + 12, text, "head"))
-            at += LINE + 4
-        return self.legend(at + 8) + MARGIN
+        self.parts.append(text_at(MARGIN, at + 12, self.picture.end, "head"))
+        return self.legend(at + LINE + 12) + MARGIN
 
     def legend(self, at: float) -> float:
         """Two rows of two; where they end."""

@@ -33,6 +33,8 @@ KIND = word("kind", metavar="c|s", help="concurrent or sequential")
 TABLE = word("table", help=f"a file of bytes, or of text if its name ends in {TEXT_ENDING}; - is standard input")
 ORDER = word("order", nargs="*", default=[], help="the thread of each step: `0 0 0 1` or `0,0,0,1` or `0*3 1`")
 ORDER_FILE = option("--order", "a file that has the order; - is standard input", dest="order_file", metavar="FILE")
+ROUNDS = word("rounds", help="how many rounds an order has")
+STEPS = word("steps", help="the most steps of a thread in a round")
 WRITTEN = "the file to write; - is standard output"
 DRAWN = "a file for the picture of what was found, as `zaru picture` draws it"
 JSON = flag("--json", "print the answer as one JSON object (docs/JSON.md)")
@@ -123,9 +125,10 @@ Draws a run: a column for each thread and for each shared cell that is touched, 
 thread for a read and from thread to cell for a write, with the values. A file that ends in .html gets a page with the
 drawing and the table of the trace.
 
-Marked, and printed too, is each write that rests on a read which another thread's write has made old: that write is lost
-if it was to the same cell. So is the step that blocked, with its label and the reason.
-An order has at most {LONGEST_ORDER} entries here. Of a run of over {MOST_STEPS} steps the beginning and the end are drawn.
+Marked, and printed too, is each write that rests on a read which another thread's write has made old; what the other
+thread wrote is lost if both wrote to that cell. So is the step that blocked, with its label and the reason.
+An order has at most {LONGEST_ORDER} entries here. Of a run of over {MOST_STEPS} steps the beginning, the end and what is
+marked are drawn.
 """,
         (TABLE, ORDER, ORDER_FILE, output("FILE", "the file to write")),
     ),
@@ -144,7 +147,7 @@ Of the first order that blocks it prints the steps by rounds and threads, the sc
 and the command that shows it step by step. Or it says that none blocks. What must hold in a program is written into it
 as `assert e` (`zaru help asm`): an assertion that fails blocks.
 """,
-        (TABLE, word("rounds"), word("steps"), option("-o", DRAWN, dest="output", metavar="FILE"), JSON),
+        (TABLE, ROUNDS, STEPS, option("-o", DRAWN, dest="output", metavar="FILE"), JSON),
     ),
     "copy": Command(
         "zaru copy COPY ORDER.. [--order FILE] [--budget N] [--h N]",

@@ -8,7 +8,7 @@ from unittest import mock
 
 import samples
 from test_cli import Command, Result
-from zaru.drawing import MOST_STEPS, short
+from zaru.drawing import DRAWN, MOST_STEPS, short
 from zaru.refusals import REFUSALS
 from zaru.svg import SIGN
 
@@ -72,7 +72,8 @@ class Drawn(Command):
         self.assertEqual((words(mark), words(stop)), ([sentence], [failed]))
         self.assertEqual(self.said, ["new.svg: a picture of 12 steps", f"step 8: {sentence}", failed])
         rows = self.rows(root)
-        self.assertEqual([len(having(row, "bracket")) for row in rows.values()], [0] * 7 + [1] + [0] * 5)
+        brackets = [one for one in having(root, "bracket") if one.get("data-step")]
+        self.assertEqual([one.get("data-step") for one in brackets], ["8"])
         self.assertEqual([number for number, row in rows.items() if having(row, "old")], ["2", "8"])
         self.assertEqual([number for number, row in rows.items() if "blocked" in row.get("class", "")], ["13"])
         self.assertIn("9: atomic: count := p[0];", words(rows["13"]))
@@ -99,8 +100,21 @@ class Drawn(Command):
         root = self.draw("long.zaru", "0*200")
         numbers = list(self.rows(root))
         self.assertEqual(numbers, [str(number) for number in [*range(1, 31), *range(151, 201)]])
-        self.assertIn(f"steps 31 to 150 are left out: a picture has at most {MOST_STEPS} steps", words(root))
+        self.assertIn(f"steps 31 to 150 are left out: {DRAWN}", words(root))
         self.assertNotIn("left out", " ".join(words(self.draw("long.zaru", f"0*{MOST_STEPS}"))))
+
+    def test_what_is_marked_is_drawn(self) -> None:
+        """In the middle of a long run: the read, the other write and the write that rests on the read."""
+        loop = "p := m\nwhile true\nv := p[0]\np[0] := v + 1\nend\n"
+        text = f"concurrent\nlocation m[1]\nprocedure w()\nlocals p, v\n{loop}end\nthread w\nthread w\n"
+        self.file("loops.zaru", text.encode())
+        root = self.draw("loops.zaru", "0*60", "1*4", "0*3", "1*100")
+        self.assertEqual(list(self.rows(root))[28:36], ["29", "30", "60", "64", "65", "118", "119", "120"])
+        gaps = [text.split(" left out: ")[0] for text in words(root) if "left out: " in text]
+        self.assertEqual(gaps, ["steps 31 to 59 are", "steps 61 to 63 are", "steps 66 to 117 are"])
+        sentence = "thread 0 writes 20 from its read at step 60, thread 1 wrote at step 64"
+        self.assertEqual([words(one) for one in having(root, "mark")], [[sentence]])
+        self.assertEqual(self.said[1:], [f"step 65: {sentence}"])
 
     def test_more_cells_than_columns(self) -> None:
         body = "".join(f"p[{place}] := {place}\n" for place in range(14))
