@@ -199,5 +199,9 @@ def with_labels(lines: List[Line], prices: Sequence[str]) -> List[str]:
 
 
 def described(line: Line, label: int, prices: Sequence[str]) -> str:
-    price = f", price {prices[label - 1]}" if prices else ""
-    return f"label {label}{price}" + (f"; {label + 1} if it fails" if line.can_fail else "")
+    own = label_text(label, prices)
+    return f"{own}; if it fails {label_text(label + 1, prices)}" if line.can_fail else own
+
+
+def label_text(label: int, prices: Sequence[str]) -> str:
+    return f"label {label}, price {prices[label - 1]}" if prices else f"label {label}"

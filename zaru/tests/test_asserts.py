@@ -39,7 +39,7 @@ class Text(unittest.TestCase):
         expected = ["assert v = 2", "assert not (v = 3)", "assert v < 5 and true"]
         self.assertEqual([line for line in lines if line.startswith("assert")], expected)
         self.assertEqual(t.encode(assemble(shown)[0]), t.encode(program))
-        self.assertIn("// label 2; 3 if it fails\n", shown)
+        self.assertIn("// label 2; if it fails label 3\n", shown)
         self.assertIn("// label 4\n", shown)
         self.assertIn("// label 5\n", shown)
 
@@ -175,6 +175,15 @@ class Failures(Command):
         self.file("p.zaru", body("v := 1", "assert v = 2").encode())
         why = "blocked after 2 steps: the assertion at label 2 failed; to see it:"
         self.assertEqual(self.out("bench", "p.zaru", "1", "9")[-2], why)
+
+    def test_prices(self) -> None:
+        self.file("p.zaru", body("v := 1", "assert v = 2").encode())
+        self.assertIn("  // label 2, price 5; if it fails label 3, price 3", "\n".join(self.out("show", "c", "p.zaru")))
+
+    def test_a_sequential_program(self) -> None:
+        self.file("s.zaru", b"sequential\nprocedure p()\nassert true\nassert 1 = 2\nend\n")
+        self.assertEqual(self.out("show", "s", "s.zaru")[3:5], ["  assert true", "  assert 1 = 2"])
+        self.assertEqual(self.out("copy", "s.zaru"), ["blocked 2 0 0 2", "blocked after 2 steps: wrong kind"])
 
     def test_the_way_back(self) -> None:
         self.file("again.zaru", "\n".join(self.out("show", "c", str(EXAMPLE))).encode() + b"\n")
