@@ -106,7 +106,7 @@ pub fn equal(left: Value, right: Value) -> Answer
     }
 }
 
-// Both sides have been evaluated.
+// Of two sides that are both looked at: where a false left side decides alone, the evaluator does not ask (engine, `evaluate`).
 pub fn and(left: Value, right: Value) -> Answer
     ensures { λ r. ⌜ given r ≡ apply₂ and left right ⌝ }
 {
