@@ -1,6 +1,6 @@
 -- What the mender answers and leaves in the table and the list of changes, for every input. Request #108: "it overwrites the last sixteen with
 -- the trailer for the one choice of the three counts that makes an acceptable table of that length, and lists each changed byte".
-use Prim.Native.Nat.{ℕ, suc, _-_, _*_}
+use Prim.Native.Nat.{ℕ, zero, suc, _-_, _*_}
 use mathlib.Core.List.{List, [], _∷_, _++_}
 use mathlib.Core.Bool.{Bool, true, false}
 use lib.ListN.{length}
@@ -8,7 +8,7 @@ use lib.Dec.{ltb, eqb}
 use Rattle.value.specs.Maybe.{pick}
 use Rattle.value.specs.Lists.{upto, over}
 use Rattle.value.specs.Values.{bytes}
-use Rattle.format.specs.Syntax.{Kind}
+use Rattle.format.specs.Syntax.{Kind, concurrent, sequential}
 use Rattle.format.specs.Encode.{each, Trailer, trailer, trailerSize, kindMark, formMark, distance}
 use Rattle.format.specs.Decode.{but}
 use Rattle.format.specs.Rules.{Limits, limits, Verdict, refused, accepted, verdict}
@@ -110,6 +110,11 @@ abbrev pub mendBy : List ℕ → List ℕ → List Trailer → Outcome
 mendBy t l [] = untouched 14 t l
 mendBy t l (r ∷ []) = become t (withTrailer t r) l
 mendBy t l (r ∷ s ∷ rs) = untouched 15 t l
+
+-- the kind wanted by its number, for callers that have no enum: 0 concurrent, any other sequential
+abbrev pub kindNumbered : ℕ → Kind
+kindNumbered zero = concurrent
+kindNumbered (suc n) = sequential
 
 -- the call, on table t of the kind wanted, with the lent buffer l for the list: "under 16 bytes 1, over length 2"
 abbrev pub mendCall : Kind → List ℕ → List ℕ → Outcome

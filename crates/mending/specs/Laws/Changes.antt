@@ -85,14 +85,14 @@ changes-bytes cs = length-each changeBytes changeSize (λ c. refl) cs
 -- ---- how many
 
 -- places that are the same are not listed
-changes-behind : (i : ℕ) (x a b : List ℕ) → changesFrom i (x ++ a) (x ++ b) ≡ changesFrom (i + length x) a b
+pub changes-behind : (i : ℕ) (x a b : List ℕ) → changesFrom i (x ++ a) (x ++ b) ≡ changesFrom (i + length x) a b
 changes-behind i [] a b = let same : i + 0 ≡ i = omega arith in rw same
 changes-behind i (y ∷ x) a b =
     let same : i + suc (length x) ≡ suc i + length x = omega arith in
     rw (eq-eqb y y refl, same) (changes-behind (suc i) x a b)
 
 -- no more changes than bytes
-changes-few : (i : ℕ) (a b : List ℕ) → length (changesFrom i a b) ≤ length a
+pub changes-few : (i : ℕ) (a b : List ℕ) → length (changesFrom i a b) ≤ length a
 changes-few i [] b = omega arith
 changes-few i (x ∷ a) [] = omega arith
 changes-few i (x ∷ a) (y ∷ b) =

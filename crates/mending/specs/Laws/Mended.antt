@@ -83,11 +83,11 @@ module _ (k : Kind) (t l : List ℕ) where
 -- ---- what each answer leaves
 
 -- a table with another trailer
-with-front : (t : List ℕ) (r : Trailer) → but trailerSize (withTrailer t r) ≡ but trailerSize t
+pub with-front : (t : List ℕ) (r : Trailer) → but trailerSize (withTrailer t r) ≡ but trailerSize t
 with-front t r = but-append (but trailerSize t) (trailer r) trailerSize refl
 
 -- is as long
-with-length : (t : List ℕ) (r : Trailer) → trailerSize ≤ length t → length (withTrailer t r) ≡ length t
+pub with-length : (t : List ℕ) (r : Trailer) → trailerSize ≤ length t → length (withTrailer t r) ≡ length t
 with-length t r l = omega (arith, length-append (but trailerSize t) (trailer r), length-take (length t - trailerSize) t)
 
 -- of every answer
