@@ -203,12 +203,49 @@ static void prices(void)
     expect("no third number", few[2], 99);
 }
 
+/* B with its trailer lost comes back as it was, and each change is listed; two numbers that may be sizes or mains give 15. */
+static void mends(void)
+{
+    uint64_t answer[ZARU_MEND_NUMBERS];
+    uint8_t table[sizeof B], list[ZARU_LONGEST_LIST + 4];
+    memcpy(table, B, sizeof B);
+    memset(list, 0xEE, sizeof list);
+    zaru_mend(table, sizeof table, ZARU_CONCURRENT, list, 0, answer, ZARU_MEND_NUMBERS);
+    expect("nothing to mend", answer[0] + answer[1] + answer[2], 0);
+    zaru_mend(table, sizeof table, ZARU_SEQUENTIAL, list, sizeof list, answer, ZARU_MEND_NUMBERS);
+    expect("B is no sequential table", answer[0], 14);
+    expect("a refusal changes no byte", (uint64_t)memcmp(table, B, sizeof B), 0);
+    memset(table + sizeof B - 16, 0xAA, 16);
+    zaru_mend(table, sizeof table, ZARU_CONCURRENT, list, ZARU_LONGEST_LIST - 1, answer, ZARU_MEND_NUMBERS);
+    expect("95 bytes are too few", answer[0], 10);
+    expect("the trailer stays lost", table[sizeof B - 1], 0xAA);
+    untouched("refused list", list, 0, sizeof list);
+    zaru_mend(table, sizeof table, ZARU_CONCURRENT, list, sizeof list, answer, ZARU_MEND_NUMBERS);
+    expect("mended", answer[1], 1);
+    expect("changed bytes", answer[2], 16);
+    expect("B is as it was", (uint64_t)memcmp(table, B, sizeof B), 0);
+    for (unsigned i = 0; i < 16; i += 1) {
+        const uint8_t *change = list + i * ZARU_CHANGE;
+        expect("a change's place", change[0] + 256u * change[1] + 65536u * change[2] + 16777216u * change[3], sizeof B - 16 + i);
+        expect("its old value", change[4], 0xAA);
+        expect("its new value", change[5], B[sizeof B - 16 + i]);
+    }
+    untouched("behind the list", list, ZARU_LONGEST_LIST, sizeof list);
+    uint8_t several[34] = {0};
+    several[10] = several[14] = several[16] = 1;
+    zaru_mend(several, sizeof several, ZARU_CONCURRENT, list, sizeof list, answer, ZARU_MEND_NUMBERS);
+    expect("more than one choice", answer[0], 15);
+    zaru_mend(several, 15, ZARU_CONCURRENT, list, sizeof list, answer, ZARU_MEND_NUMBERS);
+    expect("under 16 bytes", answer[0], 1);
+}
+
 int main(void)
 {
     reads();
     runs(translations());
     benches();
     prices();
+    mends();
     if (failures == 0)
         printf("the C library answers as the paper says\n");
     return failures != 0;

@@ -1,4 +1,4 @@
-/* Zarukohen for C: read, translate and run tables, try their orders, and tell what their steps cost. The calls are proved: on a stack that is large enough (below)
+/* Zarukohen for C: read, translate, run and mend tables, try their orders, and tell what their steps cost. The calls are proved: on a stack that is large enough (below)
  * none traps or runs without end, whatever the bytes, and each determines every number of its answer and every byte of the lent buffers.
  * docs/CONTRACTS.md says in words what each promises.
  *
@@ -31,10 +31,13 @@ enum {
 };
 
 /* How many numbers the answers have. */
-enum { ZARU_READ_NUMBERS = 6, ZARU_TRANSLATE_NUMBERS = 2, ZARU_RUN_NUMBERS = 6, ZARU_BENCH_NUMBERS = 22, ZARU_PRICES_NUMBERS = 3 };
+enum { ZARU_READ_NUMBERS = 6, ZARU_TRANSLATE_NUMBERS = 2, ZARU_RUN_NUMBERS = 6, ZARU_BENCH_NUMBERS = 22, ZARU_PRICES_NUMBERS = 3, ZARU_MEND_NUMBERS = 3 };
 
 /* The places of the bench's counts in its answer, and the most allotments that it tries. */
 enum { ZARU_BENCH_FIRST_COUNT = 3, ZARU_BENCH_COUNTS = 19, ZARU_MOST_ALLOTMENTS = 1000000 };
+
+/* The kinds of tables for the mender; the bytes of a change in its list, and those of the longest list. */
+enum { ZARU_CONCURRENT = 0, ZARU_SEQUENTIAL = 1, ZARU_CHANGE = 6, ZARU_LONGEST_LIST = 96 };
 
 /* The most steps that a translated program's copy may need, and the longest copy. */
 #define ZARU_BUDGET UINT64_C(140000000)
@@ -49,6 +52,7 @@ enum { ZARU_BENCH_FIRST_COUNT = 3, ZARU_BENCH_COUNTS = 19, ZARU_MOST_ALLOTMENTS 
 #define ZARU_STACK_RUN_SEQUENTIAL (352 * 1024)
 #define ZARU_STACK_BENCH (108 * 1024)
 #define ZARU_STACK_PRICES (40 * 1024)
+#define ZARU_STACK_MEND (32 * 1024)
 
 /* answer: number, procedures, locations, threads, labels (sequential: 0), cells. */
 void zaru_read_concurrent(const uint8_t *table, size_t table_length, uint64_t *answer, size_t answer_length);
@@ -85,6 +89,14 @@ void zaru_bench(const uint8_t *table, size_t table_length, uint64_t rounds, uint
  * answer: number, the least and the most. They differ only where an if stands in an atomic block, and lie over the ways through it; the price of
  * each step that a run takes at that label lies between them. 0 and 0 for a label that there is not. */
 void zaru_prices(const uint8_t *table, size_t table_length, uint64_t label, uint64_t *answer, size_t answer_length);
+/* The mender for lost trailers: if `table` is accepted as a table of the kind wanted, there is nothing to mend. Else its last sixteen bytes
+ * become the trailer of the one choice of P, M and T that makes an acceptable table of that length; bytes before them are never changed.
+ * Each changed byte is listed in `list` by rising place: its place (4 bytes, low byte first), its old and its new value; at most 16.
+ * answer: number, mended (1 or 0), changed bytes. With number 0 and mended 0 there was nothing to mend.
+ * Refused by 1: under 16 bytes; 2: too long for its kind; 14: no choice is acceptable; 15: more than one is; 10: the list is too short.
+ * kind: ZARU_CONCURRENT, or ZARU_SEQUENTIAL (as every other number). */
+void zaru_mend(uint8_t *table, size_t table_length, uint64_t kind, uint8_t *list, size_t list_length, uint64_t *answer,
+               size_t answer_length);
 
 #ifdef __cplusplus
 }

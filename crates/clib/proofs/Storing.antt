@@ -13,8 +13,12 @@ use Rattle.semantics.specs.Calls.{Outcome}
 use Rattle.allotments.specs.declared.BenchAnswer.{BenchAnswer}
 use Rattle.allotments.specs.Bench as Bench
 use Rattle.agreement.specs.declared.PricesAnswer.{PricesAnswer}
+use Rattle.format.specs.Syntax.{Kind}
+use Rattle.mending.specs.declared.MendAnswer.{MendAnswer}
+use Rattle.mending.specs.Mending as Mending
 use Rattle.clib.specs.Numbers.{stored, readNumbers, writeNumbers, runNumbers, benchNumbers, pricesNumbers, flag}
 use Rattle.clib.specs.Numbers.{Translated, translated, Ran, ran, Benched, benched}
+use Rattle.clib.specs.Numbers.{mendNumbers, Mended, mended}
 
 -- past the end nothing is stored
 pub set-past : (xs : List ℕ) (i n : ℕ) → length xs ≤ i → xs ≡ set xs i n
@@ -84,6 +88,11 @@ pub prices-stored : (r : PricesAnswer) (xs ys : List ℕ) → ys ≡ set (set (s
     → ys ≡ stored 0 (pricesNumbers r) xs
 prices-stored r xs ys e = e
 
+-- the numbers of the mender
+pub mend-stored : (r : MendAnswer) (xs ys : List ℕ) → ys ≡ set (set (set xs 0 (r .refusal)) 1 (flag (r .mended))) 2 (r .changes)
+    → ys ≡ stored 0 (mendNumbers r) xs
+mend-stored r xs ys e = e
+
 -- the answer of a read is what it is said to be
 pub read-told : (r s : ReadAnswer) (xs ys : List ℕ) → r ≡ s → ys ≡ stored 0 (readNumbers r) xs → ys ≡ stored 0 (readNumbers s) xs
 read-told r s xs ys e f = f ∙ ap (λ r. stored 0 (readNumbers r) xs) e
@@ -107,6 +116,13 @@ bench-told r cs xs ys o e f = ap (λ ys. record { cells = cs; answer = ys }) f �
 pub prices-told : (r s : PricesAnswer) (xs ys : List ℕ) → r ≡ s → ys ≡ stored 0 (pricesNumbers r) xs → ys ≡ stored 0 (pricesNumbers s) xs
 prices-told r s xs ys e f = f ∙ ap (λ r. stored 0 (pricesNumbers r) xs) e
 
+-- of the mender, told the kind by its number
+pub mend-told : (r : MendAnswer) (t l xs ys t₀ l₀ : List ℕ) (j k : Kind) → j ≡ k → record { answer = r; table = t; list = l } ≡ Mending.mendCall j t₀ l₀
+    → ys ≡ stored 0 (mendNumbers r) xs
+    → _≡_ {A = Mended} (record { table = t; list = l; answer = ys }) (mended (Mending.mendCall k t₀ l₀) xs)
+mend-told r t l xs ys t₀ l₀ j k same e f =
+    ap (λ ys. record { table = t; list = l; answer = ys }) f ∙ ap (λ o. mended o xs) (e ∙ ap (λ k. Mending.mendCall k t₀ l₀) same)
+
 -- one law for each function
 pub ruleset stores = (
   set-past,
@@ -119,6 +135,7 @@ pub ruleset stores = (
   run-stored,
   bench-stored,
   prices-stored,
+  mend-stored,
   read-told,
   write-told,
   run-told,

@@ -11,6 +11,8 @@ use Rattle.semantics.specs.Calls.{Outcome}
 use Rattle.allotments.specs.declared.BenchAnswer.{BenchAnswer}
 use Rattle.agreement.specs.declared.PricesAnswer.{PricesAnswer}
 use Rattle.allotments.specs.Bench as Bench
+use Rattle.mending.specs.declared.MendAnswer.{MendAnswer}
+use Rattle.mending.specs.Mending as Mending
 
 -- numbers from place i on, each where there is such a place; all others stay
 abbrev pub stored : ℕ → List ℕ → List ℕ → List ℕ
@@ -29,7 +31,7 @@ writeNumbers r = r .number ∷ r .length ∷ []
 abbrev pub runNumbers : RunAnswer → List ℕ
 runNumbers r = r .number ∷ r .end ∷ r .steps ∷ r .unused ∷ r .events ∷ r .reason ∷ []
 
--- found is 1, none is 0
+-- found or mended is 1, not is 0
 abbrev pub flag : Bool → ℕ
 flag true = 1
 flag false = 0
@@ -41,6 +43,10 @@ benchNumbers r = r .number ∷ flag (r .found) ∷ r .allotment ∷ r .counts
 -- the number, the least and the most
 abbrev pub pricesNumbers : PricesAnswer → List ℕ
 pricesNumbers r = r .refusal ∷ r .least ∷ r .most ∷ []
+
+-- the number of refusal, whether it was mended, and the number of changes
+abbrev pub mendNumbers : MendAnswer → List ℕ
+mendNumbers r = r .refusal ∷ flag (r .mended) ∷ r .changes ∷ []
 
 -- what a translation leaves in both lent arrays
 pub record Translated : Type 0 where
@@ -66,3 +72,12 @@ pub record Benched : Type 0 where
 
 abbrev pub benched : Bench.Outcome → List ℕ → Benched
 benched o answer = record { cells = o .cells; answer = stored 0 (benchNumbers (o .answer)) answer }
+
+-- what the mender leaves in the three lent arrays
+pub record Mended : Type 0 where
+  pub table : List ℕ
+  pub list : List ℕ
+  pub answer : List ℕ
+
+abbrev pub mended : Mending.Outcome → List ℕ → Mended
+mended o answer = record { table = o .table; list = o .list; answer = stored 0 (mendNumbers (o .answer)) answer }

@@ -1,8 +1,9 @@
 // The calls for programs in C: a slice is a pointer and a length, and the numbers of an answer go into a lent array, each where the
-// array has a place for it. May use `reader`, `translator`, `machines`, `bench`, `prices` and the types that they answer. Read specs/Numbers.antt first.
+// array has a place for it. May use `reader`, `translator`, `machines`, `bench`, `prices`, `mender` and the types that they answer. Read specs/Numbers.antt first.
 use agreement::PricesAnswer;
 use allotments::BenchAnswer;
 use format::ReadAnswer;
+use mending::MendAnswer;
 use semantics::RunAnswer;
 use translation::WriteAnswer;
 ghost use mathlib.Core.Path.{_≡_};
@@ -14,8 +15,10 @@ ghost use Rattle.translation.specs.Calls.{translateCall};
 ghost use Rattle.semantics.specs.Calls.{concurrentCall, sequentialCall};
 ghost use Rattle.allotments.specs.Bench.{benchCall};
 ghost use Rattle.agreement.specs.Prices.{pricesCall};
+ghost use Rattle.mending.specs.Mending.{kindNumbered, mendCall};
 ghost use Rattle.clib.specs.Numbers.{stored, readNumbers, writeNumbers, runNumbers, benchNumbers, pricesNumbers};
 ghost use Rattle.clib.specs.Numbers.{Translated, translated, Ran, ran, Benched, benched};
+ghost use Rattle.clib.specs.Numbers.{mendNumbers, Mended, mended};
 
 // "at most 19 counts, the rest 0".
 const COUNTS: usize = 19;
@@ -93,6 +96,19 @@ fn store_prices(answer: &mut [u64], r: PricesAnswer)
     ensures { λ _. ⌜ now (answer .exit) ≡ stored 0 (pricesNumbers r) (now (answer .entry)) ⌝ }
 {
     store_three(answer, 0, r.refusal as u64, r.least, r.most);
+}
+
+// The three numbers of the mender.
+fn store_mend(answer: &mut [u64], r: MendAnswer)
+    ensures { λ _. ⌜ now (answer .exit) ≡ stored 0 (mendNumbers r) (now (answer .entry)) ⌝ }
+{
+    store_three(
+        answer,
+        0,
+        r.refusal as u64,
+        r.mended as u64,
+        r.changes as u64,
+    );
 }
 
 // Reads a concurrent table.
@@ -179,4 +195,14 @@ pub extern "C" fn zaru_prices(table: &[u8], label: u64, answer: &mut [u64])
     ensures { λ _. ⌜ now (answer .exit) ≡ stored 0 (pricesNumbers (pricesCall (now (table .entry)) label)) (now (answer .entry)) ⌝ }
 {
     store_prices(answer, prices::prices(table, label));
+}
+
+// Mends a table of the kind wanted whose trailer is lost: 0 concurrent, any other number sequential.
+#[no_mangle]
+pub extern "C" fn zaru_mend(table: &mut [u8], kind: u64, list: &mut [u8], answer: &mut [u64])
+    ensures { λ _. ⌜ _≡_ {A = Mended} (record { table = now (table .exit); list = now (list .exit); answer = now (answer .exit) })
+        (mended (mendCall (kindNumbered kind) (now (table .entry)) (now (list .entry))) (now (answer .entry))) ⌝ }
+{
+    let r = mender::mend(table, mender::kind_numbered(kind), list);
+    store_mend(answer, r);
 }
