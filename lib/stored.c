@@ -11,7 +11,7 @@
 #include <unistd.h>
 
 /* MARGIN: what must be left of each stack, for signal handlers and for what a thread of another program keeps there. */
-enum { HEADER = 36, LONGEST_LINE = 300, GUARD = 1 << 20, PAINT = 0xA5, MARGIN = 8192 };
+enum { MEND = 11, HEADER = 36, LONGEST_LINE = 300, GUARD = 1 << 20, PAINT = 0xA5, MARGIN = 8192 };
 
 /* The calls by their number in a case, each with the numbers of its answer and its stack: GUARD bytes that nobody may touch, then the bytes
  * that a thread gets. The run program's line, 6, is no call for C. */
@@ -31,6 +31,7 @@ static struct call {
     {"", 0, 0, NULL, 0},
     {"zaru_bench", ZARU_BENCH_NUMBERS, ZARU_STACK_BENCH, NULL, 0},
     {"zaru_prices", ZARU_PRICES_NUMBERS, ZARU_STACK_PRICES, NULL, 0},
+    [MEND] = {"zaru_mend", ZARU_MEND_NUMBERS, ZARU_STACK_MEND, NULL, 0},
 };
 enum { CALLS = sizeof calls / sizeof *calls };
 
@@ -45,7 +46,7 @@ static struct {
     const uint8_t *table, *schedule;
     size_t table_length, schedule_length, h, cells_length, events_length, out_length;
     uint64_t budget;
-    uint8_t cells[45056], events[4096 * ZARU_EVENT], out[70000];
+    uint8_t cells[45056], events[4096 * ZARU_EVENT], out[70000], copy[66000];
     uint64_t answer[ZARU_BENCH_NUMBERS];
 } job;
 
@@ -107,6 +108,9 @@ static void *work(void *unused)
     case 8:
         zaru_prices(job.table, job.table_length, job.budget, job.answer, ZARU_PRICES_NUMBERS);
         break;
+    case MEND:
+        zaru_mend(job.copy, job.table_length, job.h, job.events, job.events_length, job.answer, ZARU_MEND_NUMBERS);
+        break;
     }
     return unused;
 }
@@ -167,9 +171,11 @@ static void write_line(char *line)
         line += sprintf(line, " %llu", (unsigned long long)job.answer[i]);
     if (job.op == 3)
         line += sprintf(line, " %016llx", (unsigned long long)hash(job.out, job.out_length));
-    if (job.op >= 4 && job.op != 8)
+    if (job.op == MEND)
+        line += sprintf(line, " %016llx", (unsigned long long)hash(job.copy, job.table_length));
+    else if (job.op >= 4 && job.op != 8)
         line += sprintf(line, " %016llx", (unsigned long long)hash(job.cells, job.cells_length));
-    if (job.op == 4 || job.op == 5)
+    if (job.op == 4 || job.op == 5 || job.op == MEND)
         sprintf(line, " %016llx", (unsigned long long)hash(job.events, job.events_length));
 }
 
@@ -204,6 +210,9 @@ static const uint8_t *take_case(const uint8_t *header)
     lend(job.cells, job.cells_length, sizeof job.cells);
     lend(job.events, job.events_length, sizeof job.events);
     lend(job.out, job.out_length, sizeof job.out);
+    if (job.table_length > sizeof job.copy)
+        fail("a case has a longer table", "than there is room for");
+    memcpy(job.copy, job.table, job.table_length);
     return job.schedule + job.schedule_length;
 }
 
@@ -212,6 +221,8 @@ static size_t shown_length(void)
 {
     if (job.shown == 0 || !is_call(job.op) || job.op < 3 || job.op == 8)
         return 0;
+    if (job.op == MEND)
+        return job.table_length + job.events_length;
     return job.op == 3 ? job.out_length : job.op == 7 ? job.cells_length : job.cells_length + job.events_length;
 }
 
