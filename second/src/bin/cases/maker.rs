@@ -1,0 +1,110 @@
+//! Makers of one case, and what they need to know of a table.
+
+use second::batch::*;
+use second::calls::{read_concurrent, read_sequential, translate};
+use second::machine::EVENT;
+use second::program::Kind;
+
+pub fn read_case(kind: Kind, table: &[u8]) -> Case {
+    Case {
+        op: match kind {
+            Kind::Concurrent => READ_CONCURRENT,
+            Kind::Sequential => READ_SEQUENTIAL,
+        },
+        table: table.to_vec(),
+        ..Case::default()
+    }
+}
+
+pub fn translate_case(table: &[u8], out: u32) -> Case {
+    Case {
+        op: TRANSLATE,
+        table: table.to_vec(),
+        out,
+        ..Case::default()
+    }
+}
+
+pub fn run_case(kind: Kind, table: &[u8], schedule: &[u8], cells: u32, events: u32) -> Case {
+    Case {
+        op: match kind {
+            Kind::Concurrent => RUN_CONCURRENT,
+            Kind::Sequential => RUN_SEQUENTIAL,
+        },
+        table: table.to_vec(),
+        schedule: schedule.to_vec(),
+        budget: 1_000,
+        h: 1,
+        cells,
+        events,
+        ..Case::default()
+    }
+}
+
+pub fn line_case(schedule: &[u8], table: &[u8]) -> Case {
+    let mut input = (schedule.len() as u16).to_le_bytes().to_vec();
+    input.extend(schedule);
+    input.extend(table);
+    input_case(&input)
+}
+
+pub fn input_case(input: &[u8]) -> Case {
+    Case {
+        op: LINE,
+        table: input.to_vec(),
+        ..Case::default()
+    }
+}
+
+pub fn bench_case(table: &[u8], rounds: u64, most: u32, cells: u32) -> Case {
+    Case {
+        op: BENCH,
+        table: table.to_vec(),
+        budget: rounds,
+        h: most,
+        cells,
+        ..Case::default()
+    }
+}
+
+pub fn prices_case(table: &[u8], label: u64) -> Case {
+    Case {
+        op: PRICES,
+        table: table.to_vec(),
+        budget: label,
+        ..Case::default()
+    }
+}
+
+/// The case with the bytes of its lent buffers behind its line.
+pub fn shown(case: Case) -> Case {
+    Case {
+        shown: true,
+        ..case
+    }
+}
+
+/// The copy of an accepted table whose copy is not too long.
+pub fn copy_of(table: &[u8]) -> Option<Vec<u8>> {
+    let mut out = vec![0; 65_536];
+    let answer = translate(table, &mut out);
+    out.truncate(answer.length as usize);
+    (answer.number == 0).then_some(out)
+}
+
+/// The bytes that the cells of a table need; 100 where it is refused.
+pub fn cell_bytes(kind: Kind, table: &[u8]) -> u32 {
+    let answer = match kind {
+        Kind::Concurrent => read_concurrent(table),
+        Kind::Sequential => read_sequential(table),
+    };
+    match answer.number {
+        0 => 5 * answer.cells as u32,
+        _ => 100,
+    }
+}
+
+/// The bytes of so many events.
+pub fn events(count: u32) -> u32 {
+    EVENT as u32 * count
+}
