@@ -4,11 +4,14 @@
 //! lent buffers are to be shown (1 byte, 0 or 1), 2 zero bytes, table length (4), schedule length
 //! (4), budget (8), h (4), cell buffer length (4), event buffer length (4), out buffer length (4),
 //! low byte first. A header whose op is 0 ends the batch. The bench has its rounds in the budget's
-//! place and the most steps of a count in h's; prices have the label in the budget's place.
+//! place and the most steps of a count in h's; prices have the label in the budget's place. The
+//! mender is told by h which kind is wanted (0 concurrent, 1 sequential); it mends the table itself,
+//! and the event buffer is its list of changes.
 
 use crate::calls::*;
 use crate::line::line;
 use crate::machine::EVENT;
+use crate::program::Kind;
 
 pub const READ_CONCURRENT: u8 = 1;
 pub const READ_SEQUENTIAL: u8 = 2;
@@ -21,11 +24,13 @@ pub const LINE: u8 = 6;
 pub const BENCH: u8 = 7;
 /// The budget is the label.
 pub const PRICES: u8 = 8;
+/// h is the kind wanted, the event buffer the list of changes; the table itself is lent.
+pub const MEND: u8 = 11;
 /// Asks for the version of cases and lines.
 pub const GREETING: u8 = 90;
 
 /// One more whenever a case or a line changes its form.
-pub const VERSION: u64 = 5;
+pub const VERSION: u64 = 6;
 
 const HEADER: usize = 36;
 
@@ -98,7 +103,7 @@ impl Case {
             events: four(28),
             out: four(32),
         };
-        let is_known = matches!(case.op, READ_CONCURRENT..=PRICES | GREETING);
+        let is_known = matches!(case.op, READ_CONCURRENT..=PRICES | MEND | GREETING);
         is_known.then_some((case, rest))
     }
 
@@ -121,6 +126,7 @@ impl Case {
             LINE => self.told(format!("{} {}", self.op, line(&self.table))),
             BENCH => self.bench(),
             PRICES => self.prices(),
+            MEND => self.mend(),
             _ => self.told(format!("{} {VERSION}", self.op)),
         }
     }
@@ -181,6 +187,21 @@ impl Case {
             most,
         } = prices(&self.table, self.budget);
         self.told(format!("{} {number} {least} {most}", self.op))
+    }
+
+    /// Two buffers are lent: the table itself, and the list of changes.
+    fn mend(&self) -> Answer {
+        let kind = match self.h {
+            0 => Kind::Concurrent,
+            _ => Kind::Sequential,
+        };
+        let mut table = self.table.clone();
+        let mut list = lent(self.events);
+        let answer = mend(&mut table, kind, &mut list);
+        let mended = u8::from(answer.mended);
+        let numbers = format!("{} {} {mended} {}", self.op, answer.number, answer.changes);
+        let hashes = format!("{:016x} {:016x}", fnv(&table), fnv(&list));
+        self.lending(format!("{numbers} {hashes}"), [table, list].concat())
     }
 
     fn told(&self, line: String) -> Answer {
@@ -312,7 +333,8 @@ mod tests {
             format!("7 13 0 0{} {empty}", " 0".repeat(COUNTS))
         );
         assert_eq!(line(PRICES), "8 0 0 0");
-        assert_eq!(line(GREETING), "90 5");
+        assert_eq!(line(MEND), format!("11 0 0 0 {:016x} {empty}", fnv(&A)));
+        assert_eq!(line(GREETING), "90 6");
     }
 
     #[test]

@@ -39,6 +39,26 @@ pub fn refusal_4(bodies: &[u8], records: &[Record], kind: Kind) -> Result<Vec<Bl
     }
 }
 
+/// Where each of the first bodies ends, as far as there are bodies, and at most so many.
+pub fn ends(bytes: &[u8], kind: Kind, most: usize) -> Vec<usize> {
+    let mut ends = Vec::new();
+    let mut at = 0;
+    for procedure in 0..most {
+        let mut reader = Reader {
+            bytes,
+            at,
+            kind,
+            procedure,
+        };
+        if reader.block(1, false).is_none() {
+            break;
+        }
+        at = reader.at;
+        ends.push(at);
+    }
+    ends
+}
+
 /// Reads one body. `None` is a fault of number 4.
 struct Reader<'a> {
     bytes: &'a [u8],

@@ -6,7 +6,7 @@ use crate::bench::{self, Search};
 use crate::program::{Kind, Program};
 use crate::record::{write_cells, Events, Run};
 use crate::verdict::verdict;
-use crate::{concurrent, labels, price, sequential, translate, write};
+use crate::{concurrent, labels, mend, price, sequential, translate, write};
 
 /// "An accepted read answers 0 with P, M, T, the number of labels (sequential: 0) and of cells."
 #[derive(Clone, Copy, PartialEq, Eq, Debug, Default)]
@@ -54,6 +54,14 @@ pub struct PricesAnswer {
     pub number: u8,
     pub least: u64,
     pub most: u64,
+}
+
+/// The mender's answer: whether bytes were changed, and how many.
+#[derive(Clone, Copy, PartialEq, Eq, Debug, Default)]
+pub struct MendAnswer {
+    pub number: u8,
+    pub mended: bool,
+    pub changes: u64,
 }
 
 pub fn read_concurrent(table: &[u8]) -> ReadAnswer {
@@ -239,4 +247,30 @@ pub fn prices(table: &[u8], label: u64) -> PricesAnswer {
             }
         }
     }
+}
+
+/// Mends a table in place, and lists what it changes. A list too short for all changes is 10, and
+/// nothing is written.
+pub fn mend(table: &mut [u8], kind: Kind, list: &mut [u8]) -> MendAnswer {
+    match mend_and_list(table, kind, list) {
+        Err(number) => MendAnswer {
+            number,
+            ..MendAnswer::default()
+        },
+        Ok(changes) => MendAnswer {
+            number: 0,
+            mended: changes > 0,
+            changes,
+        },
+    }
+}
+
+fn mend_and_list(table: &mut [u8], kind: Kind, list: &mut [u8]) -> Result<u64, u8> {
+    let changes = mend::changes(table, kind)?;
+    let listed: Vec<u8> = changes.iter().flat_map(mend::Change::bytes).collect();
+    put(&listed, list)?;
+    for change in &changes {
+        table[change.place] = change.new;
+    }
+    Ok(changes.len() as u64)
 }

@@ -2,11 +2,12 @@
 //! Refusals 1, 2 and 3.
 
 use crate::program::Kind;
+use std::ops::RangeInclusive;
 
 pub const TRAILER: usize = 16;
 
 /// The three counts of the trailer.
-#[derive(Clone, Copy, Debug)]
+#[derive(Clone, Copy, PartialEq, Eq, Debug)]
 pub struct Counts {
     pub procedures: usize,
     pub locations: usize,
@@ -53,7 +54,7 @@ pub fn refusal_1(table: &[u8], kind: Kind) -> Result<Counts, u8> {
 }
 
 /// "43 50 concurrent or 53 50 sequential"
-fn marks(kind: Kind) -> [u8; 2] {
+pub fn marks(kind: Kind) -> [u8; 2] {
     match kind {
         Kind::Concurrent => [0x43, 0x50],
         Kind::Sequential => [0x53, 0x50],
@@ -61,27 +62,44 @@ fn marks(kind: Kind) -> [u8; 2] {
 }
 
 /// "the distance from the trailer back to the procedure records, 6P+2M+2T"
-fn distance(counts: Counts) -> usize {
+pub fn distance(counts: Counts) -> usize {
     6 * counts.procedures + 2 * counts.locations + 2 * counts.threads
+}
+
+/// What number 2 allows.
+#[derive(Clone, Debug)]
+pub struct Limits {
+    pub length: usize,
+    pub procedures: RangeInclusive<usize>,
+    pub locations: RangeInclusive<usize>,
+    pub threads: RangeInclusive<usize>,
 }
 
 /// "2: concurrent: over 16,384 bytes, P not 1..16, M over 64, T not 1..8.
 /// Sequential: over 65,536 bytes, P not 1..512, M over 512, T not 0"
+pub fn limits(kind: Kind) -> Limits {
+    match kind {
+        Kind::Concurrent => Limits {
+            length: 16_384,
+            procedures: 1..=16,
+            locations: 0..=64,
+            threads: 1..=8,
+        },
+        Kind::Sequential => Limits {
+            length: 65_536,
+            procedures: 1..=512,
+            locations: 0..=512,
+            threads: 0..=0,
+        },
+    }
+}
+
 pub fn refusal_2(length: usize, kind: Kind, counts: Counts) -> Result<(), u8> {
-    let within = match kind {
-        Kind::Concurrent => {
-            length <= 16_384
-                && (1..=16).contains(&counts.procedures)
-                && counts.locations <= 64
-                && (1..=8).contains(&counts.threads)
-        }
-        Kind::Sequential => {
-            length <= 65_536
-                && (1..=512).contains(&counts.procedures)
-                && counts.locations <= 512
-                && counts.threads == 0
-        }
-    };
+    let limits = limits(kind);
+    let within = length <= limits.length
+        && limits.procedures.contains(&counts.procedures)
+        && limits.locations.contains(&counts.locations)
+        && limits.threads.contains(&counts.threads);
     if within {
         Ok(())
     } else {

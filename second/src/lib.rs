@@ -15,6 +15,9 @@ pub mod head;
 pub mod labels;
 pub mod line;
 pub mod machine;
+pub mod mend;
+pub mod mend_samples;
+
 pub mod price;
 pub mod price_samples;
 pub mod program;

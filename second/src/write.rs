@@ -1,6 +1,7 @@
 //! From trees to the bytes of a table.
 
 use crate::expression::{Expression, One, Two};
+use crate::head::{distance, marks, Counts, TRAILER};
 use crate::program::{Block, Instruction, Kind, Program};
 use crate::value::Value;
 
@@ -17,19 +18,28 @@ pub fn table(program: &Program, kind: Kind) -> Vec<u8> {
     let mains = program.mains.iter().flat_map(|main| main.to_le_bytes());
 
     let mut out = bodies;
-    let distance = 6 * program.procedures.len() + 2 * program.sizes.len() + 2 * program.mains.len();
     out.extend(records);
     out.extend(sizes);
     out.extend(mains);
-    let length = out.len() + 16;
-    out.extend(match kind {
-        Kind::Concurrent => [0x43, 0x50],
-        Kind::Sequential => [0x53, 0x50],
-    });
-    out.extend(two_bytes(program.procedures.len()));
-    out.extend(two_bytes(program.sizes.len()));
-    out.extend(two_bytes(program.mains.len()));
-    out.extend(four_bytes(distance));
+    let counts = Counts {
+        procedures: program.procedures.len(),
+        locations: program.sizes.len(),
+        threads: program.mains.len(),
+    };
+    let length = out.len() + TRAILER;
+    out.extend(trailer(kind, counts, length));
+    out
+}
+
+/// "a 16-byte trailer: 43 50 concurrent or 53 50 sequential; procedures P, locations M, threads T
+/// (2 each); the distance from the trailer back to the procedure records, 6P+2M+2T (4); the whole
+/// length (4)"
+pub fn trailer(kind: Kind, counts: Counts, length: usize) -> Vec<u8> {
+    let mut out = marks(kind).to_vec();
+    out.extend(two_bytes(counts.procedures));
+    out.extend(two_bytes(counts.locations));
+    out.extend(two_bytes(counts.threads));
+    out.extend(four_bytes(distance(counts)));
     out.extend(four_bytes(length));
     out
 }

@@ -6,6 +6,7 @@
 
 mod benches;
 mod maker;
+mod mends;
 mod prices;
 mod random_tables;
 mod runs;
@@ -13,6 +14,7 @@ mod tables;
 mod traces;
 
 use benches::*;
+use mends::*;
 use prices::*;
 use random_tables::*;
 use runs::*;
@@ -104,6 +106,10 @@ fn whole_batch(ops: Vec<u8>) -> Batch {
     random_prices(&mut batch, &mut Random::new(SEED + 104));
     batch.section = "labels of events";
     labelled_events(&mut batch);
+    batch.section = "mends";
+    worn_tables(&mut batch);
+    judged_mends(&mut batch);
+    random_mends(&mut batch, &mut Random::new(SEED + 108));
     batch.input.extend(last_header());
     batch
 }
@@ -168,6 +174,7 @@ fn outcome(line: &str) -> String {
         "5" => "run_sequential",
         "7" => "bench",
         "8" => "prices",
+        "11" => "mend",
         _ => "line",
     };
     let result = match (words[0], words[1], words[2]) {
@@ -178,6 +185,8 @@ fn outcome(line: &str) -> String {
         ("4" | "5", "0", end) => end_name(end).to_string(),
         ("7", "0", "0") => "none".to_string(),
         ("7", "0", _) => "found".to_string(),
+        ("11", "0", "0") => "nothing to mend".to_string(),
+        ("11", "0", _) => "mended".to_string(),
         ("8", "0", "0") => "no such label".to_string(),
         ("8", "0", least) if least == words[3] => "one".to_string(),
         ("8", "0", _) => "least and most".to_string(),

@@ -76,6 +76,20 @@ pub fn prices_case(table: &[u8], label: u64) -> Case {
     }
 }
 
+/// A table to be mended, and the length of the list of changes.
+pub fn mend_case(kind: Kind, table: &[u8], list: u32) -> Case {
+    Case {
+        op: MEND,
+        table: table.to_vec(),
+        h: match kind {
+            Kind::Concurrent => 0,
+            Kind::Sequential => 1,
+        },
+        events: list,
+        ..Case::default()
+    }
+}
+
 /// The case with the bytes of its lent buffers behind its line.
 pub fn shown(case: Case) -> Case {
     Case {
@@ -107,4 +121,11 @@ pub fn cell_bytes(kind: Kind, table: &[u8]) -> u32 {
 /// The bytes of so many events.
 pub fn events(count: u32) -> u32 {
     EVENT as u32 * count
+}
+
+pub fn other(kind: Kind) -> Kind {
+    match kind {
+        Kind::Concurrent => Kind::Sequential,
+        Kind::Sequential => Kind::Concurrent,
+    }
 }

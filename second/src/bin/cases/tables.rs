@@ -91,13 +91,6 @@ pub fn judged_tables(batch: &mut Batch) {
     }
 }
 
-fn other(kind: Kind) -> Kind {
-    match kind {
-        Kind::Concurrent => Kind::Sequential,
-        Kind::Sequential => Kind::Concurrent,
-    }
-}
-
 /// Copies of about 65,536 bytes, and out buffers too short by one byte, exact and longer.
 pub fn long_copies(batch: &mut Batch) {
     for sample in number_9() {
