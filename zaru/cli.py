@@ -68,7 +68,7 @@ def tell_refusal(number: int, words: Sequence[str]) -> None:
     """In words; with --json also as an object."""
     if "--json" in words:
         print(objects.written(objects.refusal(number)))
-    complain(refusals.describe(number))
+    complain(*refusals.describe(number, words[0]))
 
 
 def main(words: Sequence[str]) -> int:

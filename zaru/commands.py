@@ -2,15 +2,16 @@
 
 from __future__ import annotations
 
+import sys
 from argparse import Namespace
 from dataclasses import dataclass
 from typing import Iterator, List, Tuple
 
-from zaru import arguments, bench, blocked, cost, engine, files, objects, picture, ran, trace
+from zaru import arguments, bench, blocked, cost, engine, files, mended, objects, picture, ran, trace
 from zaru.accepted import READ_OPS, accepted_program
 from zaru.arguments import UsageError
 from zaru.copy_names import copy_names
-from zaru.engine import Request
+from zaru.engine import Request, Shape
 from zaru.files import TEXT_ENDING, Source, source_of, write_file
 from zaru.labels import spots
 from zaru.names import Names
@@ -70,10 +71,14 @@ def read(words: Namespace) -> List[str]:
     shape = engine.read(READ_OPS[kind], source_of(words.table).table)
     if words.json:
         return [objects.written(objects.read(kind, shape))]
+    return [counted(kind, shape)]
+
+
+def counted(kind: str, shape: Shape) -> str:
     counts = f"procedures {shape.procedures}, locations {shape.locations}"
     if kind == CONCURRENT:
         counts += f", threads {shape.threads}, labels {shape.labels}"
-    return [f"accepted: {counts}, cells {shape.cells}"]
+    return f"accepted: {counts}, cells {shape.cells}"
 
 
 def translate(words: Namespace) -> List[str]:
@@ -160,9 +165,40 @@ def show(words: Namespace) -> List[str]:
     return text_of(one.table, one.names, prices).splitlines()
 
 
-def assemble(words: Namespace) -> List[str]:
-    if words.output.endswith(TEXT_ENDING):
+def hold_table_name(name: str) -> None:
+    """A table must not be written where a text is expected."""
+    if name.endswith(TEXT_ENDING):
         raise UsageError(f"a file that ends in {TEXT_ENDING} is a text; give the table another name")
+
+
+def assemble(words: Namespace) -> List[str]:
+    hold_table_name(words.output)
     table = files.assembled(words.text).table
     accepted_program(decode(table).kind, table)
     return written_table(words.output, table)
+
+
+def mend_output(words: Namespace) -> str:
+    """Where the mended table goes. The table that is given is overwritten only if that is asked for."""
+    if words.in_place == bool(words.output):
+        raise UsageError("one of -o NEW and --in-place is needed" + (", not both" if words.output else ""))
+    if not words.in_place:
+        hold_table_name(words.output)
+        if files.is_same_file(words.table, words.output):
+            raise UsageError(f"{words.output} is the table that is given; --in-place overwrites it")
+        return words.output
+    if words.table == "-":
+        raise UsageError("standard input cannot be mended in place")
+    return words.table
+
+
+def mend(words: Namespace) -> List[str]:
+    kind, output = kind_of(words), mend_output(words)
+    found, shape = mended.mend(kind, files.table_file(words.table))
+    if found.changes or not words.in_place:
+        write_file(output, found.table)
+    lines = mended.lines_of(found, output) + ([counted(kind, shape)] if found.changes else [])
+    if output == "-":
+        print(*lines, sep="\n", file=sys.stderr)
+        return []
+    return lines

@@ -18,9 +18,10 @@ from typing import List, NamedTuple, Sequence, Tuple
 from zaru.built import newer_source
 
 READ_CONCURRENT, READ_SEQUENTIAL, TRANSLATE, RUN_CONCURRENT, RUN_SEQUENTIAL, RUN_LINE, BENCH, PRICES = range(1, 9)
+MEND = 11
 GREETING = 90
 # The version of requests and lines; crates/cases/src/main.rt has it too.
-VERSION = 5
+VERSION = 6
 
 HEADER = 36
 # What the program is ready for.
@@ -32,6 +33,9 @@ CELL, EVENT = 5, 13
 CELL_ROOM = CELL * 8_192
 EVENT_ROOM = EVENT * 4_096
 COPY_ROOM = 65_536
+# A change of the mender's list: its place (4 bytes), the old and the new byte. There are at most as many as the trailer has bytes.
+CHANGE = 6
+CHANGE_ROOM = CHANGE * 16
 
 VARIABLE = "ZARU_ENGINE"
 ROOT = Path(__file__).resolve().parent.parent
@@ -54,7 +58,8 @@ class EngineError(Exception):
 class Request:
     """A call, with the lengths of the buffers that are lent to it.
 
-    The bench has its rounds as the budget and its steps as h, the call for prices its label as the budget.
+    The bench has its rounds as the budget and its steps as h, the call for prices its label as the budget. The mender has the
+    kind as h and its list of changes as the events; the table itself is lent to it.
     """
 
     op: int
@@ -69,7 +74,7 @@ class Request:
     def header(self) -> bytes:
         lengths = [(len(self.table), 4), (len(self.schedule), 4), (self.budget, 8), (self.h, 4)]
         lengths += [(self.cells, 4), (self.events, 4), (self.out, 4)]
-        wants_bytes = self.op in (TRANSLATE, RUN_CONCURRENT, RUN_SEQUENTIAL, BENCH)
+        wants_bytes = self.op in (TRANSLATE, RUN_CONCURRENT, RUN_SEQUENTIAL, BENCH, MEND)
         numbers = b"".join(number.to_bytes(length, "little") for number, length in lengths)
         return bytes([self.op, wants_bytes, 0, 0]) + numbers
 
@@ -79,6 +84,8 @@ class Request:
             return self.out
         if self.op == BENCH:
             return self.cells
+        if self.op == MEND:
+            return len(self.table) + self.events
         return self.cells + self.events if self.op in (RUN_CONCURRENT, RUN_SEQUENTIAL) else 0
 
 
@@ -129,6 +136,22 @@ class Bench:
     number: int
     counts: Tuple[int, ...]
     cell_bytes: bytes
+
+
+class Change(NamedTuple):
+    """A byte that the mender changed."""
+
+    place: int
+    old: int
+    new: int
+
+
+@dataclass(frozen=True)
+class Mended:
+    """The table after the mender's call, and what it changed in it: nothing, if the table is accepted as it was."""
+
+    table: bytes
+    changes: Tuple[Change, ...]
 
 
 class Price(NamedTuple):
@@ -252,6 +275,16 @@ def bench(table: bytes, rounds: int, steps: int) -> Bench:
     if found not in (0, 1) or (not found and any([number, *counts])):
         raise unexpected(answer)
     return Bench(found == 1, number, tuple(counts), answer.lent)
+
+
+def mend(table: bytes, is_sequential: bool) -> Mended:
+    answer = accepted(ask([Request(MEND, table, h=int(is_sequential), events=CHANGE_ROOM)])[0])
+    is_mended, count = answer.number(1), answer.number(2)
+    if is_mended != (count > 0) or not 0 <= count <= CHANGE_ROOM // CHANGE:
+        raise unexpected(answer)
+    after, rest = answer.lent[: len(table)], answer.lent[len(table) :]
+    rows = [rest[at : at + CHANGE] for at in range(0, CHANGE * count, CHANGE)]
+    return Mended(after, tuple(Change(int.from_bytes(row[:4], "little"), row[4], row[5]) for row in rows))
 
 
 def prices(table: bytes, labels: Sequence[int]) -> List[Price]:

@@ -107,6 +107,20 @@ def source_of(name: str) -> Source:
     return Source(fitting(name, read_file(name)))
 
 
+def table_file(name: str) -> bytes:
+    """The bytes of a table, as they are in their file: it must not be a text."""
+    if name.endswith(TEXT_ENDING):
+        raise FileError(f"{name} is a text, not the bytes of a table: `zaru asm` writes them")
+    return source_of(name).table
+
+
+def is_same_file(one: str, other: str) -> bool:
+    """Do both names lead to one file that is there? Standard input and output do not."""
+    if "-" in (one, other) or not (os.path.exists(one) and os.path.exists(other)):
+        return False
+    return os.path.samefile(one, other)
+
+
 def fitting(name: str, table: bytes) -> bytes:
     if len(table) > engine.LONGEST_TABLE:
         raise TextError(f"{name}: {len(table):,} bytes; no table is longer than 65,536 bytes")

@@ -2,6 +2,8 @@
 
 from __future__ import annotations
 
+from typing import List
+
 REFUSALS = {
     1: "under 16 bytes; wrong kind marks, distance or length; distance over length - 16",
     2: "concurrent: over 16,384 bytes, P not 1..16, M over 64, T not 1..8. "
@@ -20,8 +22,23 @@ REFUSALS = {
     11: "run: schedule over 4,096 entries, or (concurrent) an entry not below T",
     12: "run: cell buffer shorter than 5 bytes a cell",
     13: "bench: k (the rounds) below 1, s (the steps) not 1..64, or more than 1,000,000 allotments",
+    14: "mender: no choice of the three counts makes an acceptable table of that length",
+    15: "mender: more than one choice of the three counts makes an acceptable table of that length",
+}
+
+# What can be done where a table cannot be mended.
+AFTER_MENDING = {
+    1: "a table has 16 bytes of trailer and more before them: what is missing cannot be made anew; read the medium again",
+    2: "a concurrent table has at most 16,384 bytes, a sequential one 65,536: if it is a sequential one, say s; "
+    "if something stands behind the table, cut it off",
+    14: "more than the last sixteen bytes is damaged, bytes are missing or too many, or it is a table of the other kind: "
+    "compare its length with another copy's, and try the other kind",
+    15: "the last sizes could be threads, or the first threads sizes: the bytes that are left do not tell. "
+    "Take the numbers of locations and threads from another copy, its text or its sheet",
 }
 
 
-def describe(number: int) -> str:
-    return f"refused {number}: {REFUSALS[number]}" if number in REFUSALS else f"refused {number}"
+def describe(number: int, command: str = "") -> List[str]:
+    """The number in the paper's words; of a table that cannot be mended also what can be done."""
+    told = [f"refused {number}: {REFUSALS[number]}" if number in REFUSALS else f"refused {number}"]
+    return told + ([AFTER_MENDING[number]] if command == "mend" and number in AFTER_MENDING else [])

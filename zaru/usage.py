@@ -221,6 +221,27 @@ program may have `select chosen from waiting`, with two locations. docs/TEXT.md 
 """,
         (word("text", help="a file of text; - is standard input"), output("TABLE", WRITTEN)),
     ),
+    "mend": Command(
+        "zaru mend c|s TABLE -o NEW | --in-place",
+        commands.mend,
+        """
+Mends a concurrent (c) or sequential (s) table whose last sixteen bytes, the trailer, were lost or scrambled.
+
+If the table is accepted as it is there is nothing to mend. Otherwise the proved mender looks for the numbers of procedures,
+locations and threads that make an accepted table of these bytes. If there is one choice, it writes the trailer for it; each
+byte that it changed is listed, by its place in the file, counted from 0. Bytes before the last sixteen are never changed.
+It refuses where no choice is accepted, and where more than one is: nothing is guessed.
+
+NEW is written in both cases, so that it holds an accepted table. The table that is given stays as it is, unless --in-place
+is said. With -o - the list goes to standard error.
+""",
+        (
+            KIND,
+            word("table", help="a file of bytes; - is standard input"),
+            option("-o", WRITTEN, dest="output", metavar="NEW"),
+            flag("--in-place", "overwrite the table that is given"),
+        ),
+    ),
 }
 
 OVERVIEW = f"""\
@@ -236,6 +257,7 @@ zaru: concurrent programs, their sequential copies, and what both do in a given 
   zaru copy COPY ORDER..            runs a sequential table alone; --budget N, --h N
   zaru show c|s TABLE               the table as text, with its labels and their prices
   zaru asm TEXT -o TABLE            text to table
+  zaru mend c|s TABLE -o NEW        writes a lost trailer anew; --in-place
   zaru help [COMMAND]               more about a command; zaru --version
 
 A table is a file of bytes, or of text if its name ends in {TEXT_ENDING}; - is standard input, and -o - standard output.
