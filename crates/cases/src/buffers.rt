@@ -1,4 +1,5 @@
 // Lent buffers: what they hold before a call, and a hash of what they hold after it.
+use basics::bytes::byte_at;
 
 // FNV-1a with 64 bits: the hash of no bytes.
 const BASIS: u64 = 14695981039346656037;
@@ -32,6 +33,15 @@ pub fn fill(buffer: &mut [u8]) {
     let mut i = 0;
     while i < buffer.len() {
         buffer[i] = (((i % 256) * 7 + 13) % 256) as u8;
+        i += 1;
+    }
+}
+
+// The bytes of a buffer become those of another one of its length.
+pub fn copy(from: &[u8], to: &mut [u8]) {
+    let mut i = 0;
+    while i < to.len() {
+        to[i] = byte_at(from, i);
         i += 1;
     }
 }

@@ -8,11 +8,12 @@
 // A line has the call's number, the numbers of its answer, and a hash of each lent buffer. Where they are to be shown, their bytes
 // follow it. Before a call byte i of a lent buffer is the low byte of 7 * i + 13.
 //
-// The bench has its rounds in the budget's place and the most steps of a count in h's.
+// The bench has its rounds in the budget's place and the most steps of a count in h's. The mender has the kind wanted in h's place (0
+// concurrent, 1 sequential), and its list of changes is the lent buffer for events; it mends a copy of the table, whose hash comes first.
 //
 // The prices have their label in the budget's place; no buffer is lent to them, so that their line has no hash.
 //
-// What can be called: the eight calls below by 1 to 8, and the greeting by 90 (hexadecimal 5A, far from the calls that may still come). A
+// What can be called: the calls below by 1 to 8 and 11, and the greeting by 90 (hexadecimal 5A, far from the calls that may still come). A
 // greeting's line has the version of requests and lines, so that the command `zaru` does not read the lines of another program.
 mod buffers;
 mod print;
@@ -57,10 +58,12 @@ const BENCH: u8 = 7;
 
 const PRICES: u8 = 8;
 
+const MEND: u8 = 11;
+
 const GREETING: u8 = 90;
 
 // One more whenever a request, or a line that answers one, changes its form. `zaru/engine.py` and `second/src/batch.rs` have it too.
-const VERSION: u64 = 5;
+const VERSION: u64 = 6;
 
 // What is asked for, beside the table and the schedule.
 struct Request {
@@ -207,6 +210,46 @@ fn try_orders(request: Request, table: &[u8]) {
     lend_bench(request, table, &mut cells);
 }
 
+// Mends a table, and lists the changes in a lent buffer.
+fn answer_mend(request: Request, table: &mut [u8], list: &mut [u8]) {
+    buffers::fill(list);
+    let r = mender::mend(table, mender::kind_numbered(request.h as u64), list);
+    print::mend(MEND, r);
+    print::hash(table);
+    print::hash(list);
+    print::end_line();
+    print::show(request.shown, table);
+    print::show(request.shown, list);
+}
+
+// Lends the first bytes of a buffer to the mender for its list.
+fn lend_list(request: Request, table: &mut [u8], list: &mut [u8]) {
+    let n = request.events;
+    if n <= list.len() {
+        answer_mend(request, table, &mut list[..n]);
+    }
+}
+
+// Mends a copy of the table.
+fn mend_copy(request: Request, table: &[u8], copy: &mut [u8], list: &mut [u8]) {
+    buffers::copy(table, copy);
+    lend_list(request, copy, list);
+}
+
+// Lends the first bytes of a buffer for the copy.
+fn lend_table(request: Request, table: &[u8], copy: &mut [u8], list: &mut [u8]) {
+    let n = table.len();
+    if n <= copy.len() {
+        mend_copy(request, table, &mut copy[..n], list);
+    }
+}
+
+fn mend(request: Request, table: &[u8]) {
+    let mut copy = [0u8; LONGEST_TABLE];
+    let mut list = [0u8; LONGEST_EVENTS];
+    lend_table(request, table, &mut copy, &mut list);
+}
+
 // The run program's line on its whole input.
 fn run_program(input: &[u8]) {
     let mut line = [0u8; LINE];
@@ -226,6 +269,7 @@ fn answer(request: Request, table: &[u8], schedule: &[u8]) -> bool {
         RUN_PROGRAM => run_program(table),
         BENCH => try_orders(request, table),
         PRICES => print::prices(PRICES, prices::prices(table, request.budget)),
+        MEND => mend(request, table),
         GREETING => print::greeting(GREETING, VERSION),
         _ => return false,
     }

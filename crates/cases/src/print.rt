@@ -3,6 +3,7 @@ use super::buffers;
 use agreement::PricesAnswer;
 use allotments::BenchAnswer;
 use format::ReadAnswer;
+use mending::MendAnswer;
 use semantics::RunAnswer;
 use translation::WriteAnswer;
 
@@ -76,6 +77,14 @@ pub fn prices(call: u8, r: PricesAnswer) {
     number(r.least);
     number(r.most);
     end_line();
+}
+
+// The mender's answer.
+pub fn mend(call: u8, r: MendAnswer) {
+    io::print_decimal(1, call as u64);
+    number(r.refusal as u64);
+    number(r.mended as u64);
+    number(r.changes as u64);
 }
 
 // A line that has its newline.
