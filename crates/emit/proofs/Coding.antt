@@ -1,5 +1,5 @@
 -- One law for each way through the pieces of generated code that do not read the source.
-use Prim.Native.Nat.{ℕ, suc, _+_, _-_, _%_, _≤_, _<_}
+use Prim.Native.Nat.{ℕ, zero, suc, _+_, _-_, _%_, _≤_, _<_}
 use native.Mathlib.Omega.{arith}
 use native.Mathlib.Decide.{decLt}
 use native.Mathlib.Numerals.{add-one}
@@ -12,6 +12,7 @@ use Rattle.format.specs.Syntax.{Expr, local, Instr, assign, write, read, Block,
 use Rattle.format.specs.Encode.{expr, instr, block}
 use Rattle.format.specs.Rules.{maxLocals}
 use Rattle.basics.specs.BitSets.{bits}
+use Rattle.basics.specs.Laws.BitSets.{bits-none}
 use Rattle.translation.specs.Code.{_then_, num, loc, tid, tmp, aux, moved, mentions, keep, variables, loadAll, loads}
 use Rattle.writer.specs.Laws.Put.{Put, PutExpr, PutInstr, PutBlock, Onto, Writes}
 use Rattle.emit.specs.Laws.Sources.{Takes, Loads, LoadsIf, LoadsAll, Loading, Goes, Returns}
@@ -130,6 +131,21 @@ module _ {s : Site} {u x : ℕ} where
         (L .gives G m n h l′ .before (loadAll G m n more c));
   }
 
+-- no variable is mentioned
+none-mentioned : (x k : ℕ) (es : List Expr) → x + k ≤ maxLocals → ((y : ℕ) → y < maxLocals → mentions y es ≡ false) → variables x k es ≡ []
+none-mentioned x zero es l h = refl
+none-mentioned x (suc k) es l h = rw (h x (omega arith)) (none-mentioned (suc x) k es (omega arith) h)
+
+-- an empty set
+pub loads-none : {s : Site} {u : ℕ} {o : List ℕ} {p : ℕ} → u ≡ 0 → LoadsAll s u o p o p
+loads-none {u = u} e = record {
+  gives = λ G m n es h f.
+      let empty : variables 0 n es ≡ [] =
+      none-mentioned 0 n es (omega (arith, h .few)) (λ y l. sym (f y l) ∙ ap (λ (z : ℕ). bits z y) e ∙ bits-none y)
+      in
+      record { before = λ c. onto-same (ap (λ (xs : List ℕ). block (loadAll G m n xs c)) empty); kept = refl };
+}
+
 -- before the first variable
 pub loading-start : {s : Site} {u : ℕ} {o : List ℕ} {p : ℕ} → Loading s u o p (s .locals) o p
 loading-start {s} = record {
@@ -197,6 +213,7 @@ pub ruleset code-ways = (
   load-one,
   load-off,
   load-on,
+  loads-none,
   loading-start,
   loading-next,
   loading-end,

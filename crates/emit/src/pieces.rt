@@ -99,6 +99,9 @@ fn put_member(s: Site, set: u16, x: u8, out: &mut [u8], at: usize) -> usize
 pub fn put_loads(s: Site, set: u16, out: &mut [u8], at: usize) -> usize
     ensures { λ r. ⌜ LoadsAll s set (now (out .entry)) at (now (out .exit)) r ⌝ }
 {
+    if set == 0 {
+        return at;
+    }
     let mut left = s.locals;
     let mut p = at;
     while 0 < left {

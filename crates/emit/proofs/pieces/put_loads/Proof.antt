@@ -18,6 +18,7 @@ put-loads-spec =
     Inv-loop
     μ-loop
     (λ c. search code-ways)
+    (λ c. search code-ways)
     (λ c. search needs)
     (λ c κs. search needs)
     (λ c. search needs)
