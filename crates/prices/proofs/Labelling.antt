@@ -19,7 +19,7 @@ use Rattle.format.specs.Syntax.{Expr, constant, local, one, two}
 use Rattle.format.specs.Syntax.{Instr, assign, write, read, while, if, call, atomic, select, Block, end, step, _⊕_, Proc, Program, Plain, concurrent}
 use Rattle.format.specs.Encode.{expr, instr, block, table}
 use Rattle.format.specs.Labels.{count, counts, label, labels, labelled}
-use Rattle.format.specs.Rules.{Verdict, refused, accepted, verdict, limits, maxLocals, inExpr, takes, named, namedI, allowed}
+use Rattle.format.specs.Rules.{Verdict, refused, accepted, verdict, maxLocals, inExpr, takes, named, namedI, allowed}
 use Rattle.format.specs.Calls.{readAs, readCall}
 use Rattle.format.specs.declared.ReadAnswer.{ReadAnswer}
 use Rattle.format.specs.Laws.Names.{InRange, names?}
@@ -32,7 +32,7 @@ use Rattle.format.specs.Laws.Labelled.{named-label, allowed-label}
 use Rattle.format.specs.Laws.Variables.{variables-most}
 use Rattle.format.specs.Laws.Grammar.{BlockAt, block-inside}
 use Rattle.format.specs.Decode.{maxNesting}
-use Rattle.labels.specs.LabelMap.{Node, Mapped, nodeOf, nodes, held, allNodes}
+use Rattle.labels.specs.LabelMap.{Node, nodeOf, nodes, held, allNodes}
 use Rattle.labels.specs.Walks.{BodiesIn, MapsLabels}
 use Rattle.labels.specs.Laws.LabelMap.{NodeOf, node-of, node-there, length-nodes}
 use Rattle.labels.specs.Laws.Spots.{spot-has, allowed-inherited}

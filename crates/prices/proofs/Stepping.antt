@@ -1,18 +1,18 @@
 -- One law for each way through the price of a step.
-use Prim.Native.Nat.{ℕ, _+_, _*_, _-_, _≤_, _<_}
+use Prim.Native.Nat.{ℕ, _+_, _*_, _-_}
 use native.Mathlib.Omega.{arith}
 use mathlib.Core.Path.{_≡_, refl, sym, ap, _∙_}
-use mathlib.Core.List.{List, []}
+use mathlib.Core.List.{List}
 use mathlib.Core.Bool.{true}
 use lib.ListN.{length, getD}
 use Rattle.value.specs.Laws.Tests.{both-passed, never}
-use Rattle.format.specs.Syntax.{Expr, Instr, assign, write, read, while, if, call, atomic, select, Block, end, step, concurrent}
-use Rattle.format.specs.Decode.{maxDepth, maxNesting, noForm, forms}
+use Rattle.format.specs.Syntax.{Instr, assign, write, read, while, if, call, atomic, select, Block, concurrent}
+use Rattle.format.specs.Decode.{maxDepth, maxNesting}
 use Rattle.format.specs.Rules.{allowed, allowedI, maxLocals}
 use Rattle.format.specs.Laws.Procs.{bodyIn}
 use Rattle.format.specs.Laws.Stands.{first}
 use Rattle.format.specs.Laws.Grammar.{InstrAt, BlockAt, IfAt, WhileAt, CallAt, AtomicAt, StepAt}
-use Rattle.format.specs.Laws.Grammar.{if-here, while-here, call-here, atomic-here, end-here, step-here, no-instr}
+use Rattle.format.specs.Laws.Grammar.{if-here, while-here, call-here, atomic-here, end-here, step-here}
 use Rattle.labels.specs.Walks.{Gathers, GathersEach, CountsSet}
 use Rattle.labels.specs.declared.variables.Gathered.{Gathered}
 use Rattle.agreement.specs.Prices.{Prices, inside, insideI, stepPrices}

@@ -1,25 +1,22 @@
 -- One law for each way through the code of a label.
-use Prim.Native.Nat.{ℕ, zero, suc, _+_, _-_, _≤_, _<_}
+use Prim.Native.Nat.{ℕ, suc, _+_, _-_, _≤_, _<_}
 use native.Mathlib.Omega.{arith}
 use native.Mathlib.Nat.{sub-zero}
 use native.Mathlib.Numerals.{add-one}
-use mathlib.Core.Path.{_≡_, refl, sym, ap, _∙_}
+use mathlib.Core.Path.{_≡_, refl, _∙_}
 use mathlib.Core.List.{List, [], _∷_, _++_, append-assoc}
-use mathlib.Core.Bool.{Bool, true, false}
-use lib.ListN.{length, getD, replicate}
-use Rattle.value.specs.Maybe.{either}
+use lib.ListN.{length, getD}
 use Rattle.value.specs.Laws.Lists.{Each}
-use Rattle.value.specs.Laws.Tests.{either-false}
 use Rattle.format.specs.Syntax.{Expr, local, Instr, assign, write, read, while, if, call, atomic, select, end}
 use Rattle.format.specs.Syntax as S
 use Rattle.format.specs.Encode.{expr, block}
 use Rattle.format.specs.Laws.Grammar.{InstrAt, MoreAt, exprs-none, exprs-more, AtomicAt, atomic-here}
 use Rattle.format.specs.Laws.Stands.{first}
 use Rattle.labels.specs.Walks.{GathersEach}
-use Rattle.format.specs.Decode.{maxDepth, maxNesting}
+use Rattle.format.specs.Decode.{maxNesting}
 use Rattle.format.specs.Rules.{maxLocals}
 use Rattle.translation.specs.Layout.{Layout}
-use Rattle.translation.specs.Code.{_then_, num, loc, tid, tmp, mentioned, mentions, shift, goto, passes, code}
+use Rattle.translation.specs.Code.{_then_, num, loc, tid, tmp, shift, goto, passes, code}
 use Rattle.writer.specs.Laws.Put.{Put, PutInstr, PutBlock, Writes}
 use Rattle.emit.specs.Laws.Sources.{Low, Sited, LoadsOf, Stores, Goes, Asks, InPlace, PlainIf, InsideBlock}
 use Rattle.emit.specs.Laws.Sources.{LoadsAll, Ways, Questions, Tests, LoadsEach, Passes, Passing}

@@ -17,7 +17,7 @@ use Rattle.value.specs.Laws.Maybes.{is-inj, missing}
 use Rattle.value.specs.Laws.Tries.{has-inj, lacking, chain-has, provided-has, orLacks-has}
 use Rattle.value.specs.Laws.Tests.{both-passed, by-test}
 use Rattle.value.specs.Laws.Lists.{Each, each-at, at-after, at-front}
-use Rattle.format.specs.Syntax.{Expr, Instr, assign, write, read, while, if, call, atomic, select, Block, end, step, _⊕_, Proc, Program, Plain, concurrent}
+use Rattle.format.specs.Syntax.{Instr, assign, write, read, while, if, call, atomic, select, Block, end, step, _⊕_, Proc, Program, Plain, concurrent}
 use Rattle.format.specs.Encode.{table}
 use Rattle.format.specs.Labels.{count, countI, label, labelI, labels, labelled, endOf}
 use Rattle.format.specs.Rules.{verdict, accepted, allowed, allowedI, plainly}
@@ -28,7 +28,7 @@ use Rattle.format.specs.Laws.Procs.{bodyIn, ProcSound, proc-sound}
 use Rattle.format.specs.Laws.Labelled.{labels-at, allowed-label, endOf-labels}
 use Rattle.translation.specs.Layout.{localsOf}
 use Rattle.semantics.specs.Memory.{Env, Memory, Event, eval, evals}
-use Rattle.semantics.specs.Step.{Stack, Frame, Moved, runs}
+use Rattle.semantics.specs.Step.{Stack, Moved, runs}
 use Rattle.semantics.specs.Threads as P
 use Rattle.semantics.specs.Laws.Ends.{step-run}
 use Rattle.semantics.specs.Laws.Reached.{each-set}

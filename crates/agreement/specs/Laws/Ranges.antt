@@ -1,25 +1,25 @@
 -- The price of a step lies between the least and the most of its instruction, and is both where no if stands in an atomic block.
-use Prim.Native.Nat.{ℕ, zero, suc, _+_, _*_, _≤_}
+use Prim.Native.Nat.{ℕ, zero, suc, _+_, _≤_}
 use native.Mathlib.Omega.{arith}
 use mathlib.Core.Path.{_≡_, refl, ap₂, _∙_}
 use mathlib.Core.List.{List, [], _∷_, _++_}
 use mathlib.Core.Bool.{Bool, true, false}
 use Rattle.value.specs.Maybe.{pick}
-use Rattle.value.specs.Try.{Try, has, lacks, _⟫_}
+use Rattle.value.specs.Try.{has, lacks, _⟫_}
 use Rattle.value.specs.Values.{truth}
 use Rattle.value.specs.Laws.Tries.{has-inj, lacking, chain-has}
 use Rattle.value.specs.Laws.Tests.{both-passed, never}
-use Rattle.format.specs.Syntax.{Expr, Instr, assign, write, read, while, if, call, atomic, select, Block, end, step, _⊕_, Proc}
+use Rattle.format.specs.Syntax.{Instr, assign, write, read, while, if, call, atomic, select, Block, end, step, _⊕_, Proc}
 use Rattle.format.specs.Syntax.{concurrent}
 use Rattle.format.specs.Rules.{Here, allowed, allowedI}
 use Rattle.format.specs.Laws.Joined.{allowed-append}
 use Rattle.format.specs.Laws.Procs.{bodyIn}
-use Rattle.semantics.specs.Memory.{Env, bound, Memory, Event, stored, eval}
+use Rattle.semantics.specs.Memory.{Env, Memory, Event, stored, eval}
 use Rattle.semantics.specs.Step.{Stack, Moved}
 use Rattle.semantics.specs.Step as Step
 use Rattle.semantics.specs.Threads.{Atomic, toEnd, first-instr, size}
 use Rattle.agreement.specs.Price as P
-use Rattle.agreement.specs.Prices.{Prices, only, then, or, inside, insideI, stepPrices}
+use Rattle.agreement.specs.Prices.{Prices, only, then, inside, insideI, stepPrices}
 use Rattle.agreement.specs.Laws.Accesses.{indexed, pointed, access}
 
 -- x lies between the least and the most
