@@ -10,3 +10,5 @@ pub mod Text
 pub mod Calls
 -- worked by hand
 pub mod Worked
+-- what these are worth: read Laws.OneToOne and Laws.Reads
+pub mod Laws

@@ -98,7 +98,7 @@ deep = refl
 
 -- "with `,\n` between two of them", at depth 2
 pub arguments :
-    block 2 (step tt (call 7 (local 0 ∷ one neg (two sub (local 1) (local 2)) ∷ two mul (local 3) (local 4) ∷ [])) (step tt (call 10 []) end))
+    block {A = Plain} 2 (step tt (call 7 (local 0 ∷ one neg (two sub (local 1) (local 2)) ∷ two mul (local 3) (local 4) ∷ [])) (step tt (call 10 []) end))
     ≡ say "    z_call(); p7(x0,\nz_neg(z_sub(x1, x2)),\nz_mul(x3, x4));\n    z_call(); p10();\n"
 unfolding say digits
 arguments = refl
