@@ -10,3 +10,9 @@ pub mod ArgText
 pub mod LineText
 -- one law for each way to read them
 pub mod BlockText
+-- around the blocks
+pub mod FrameText
+-- definitions of procedures
+pub mod DefinitionText
+-- a text has one program
+pub mod OneToOne

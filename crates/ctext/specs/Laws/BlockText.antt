@@ -73,18 +73,18 @@ pub record StepIn {A : Type 0} (x : List ℕ) (i c d : ℕ) (b : Block A) (j : �
   pub here : InstrText x (i + 2 * d) (c - 1) d s k
   pub after : BlockText x k c d rest j
 
--- no instruction begins as z_return does
-begins : {A : Type 0} {x : List ℕ} {i : ℕ} (d : ℕ) (s : Instr A) (r : List ℕ) {j : ℕ} → FlatI s → Stands x i (instr d s ++ r) j
-    → both (eqb (getD x i 0) 122) (eqb (getD x (i + 2) 0) 114) ≡ false
+-- the names of lines have one of three third letters
+pub begins : {A : Type 0} {x : List ℕ} {i : ℕ} (d : ℕ) (s : Instr A) (r : List ℕ) (c : ℕ) {j : ℕ} → FlatI s → Stands x i (instr d s ++ r) j
+    → eqb 119 c ≡ false → eqb 99 c ≡ false → eqb 115 c ≡ false → both (eqb (getD x i 0) 122) (eqb (getD x (i + 2) 0) c) ≡ false
 unfolding say
-begins d (assign v e) r f h = rw (first h)
-begins d (write y o e) r f h = rw (first h, byte-in 2 h (omega arith))
-begins d (read v y o) r f h = rw (first h)
-begins d (while e b) r f h = rw (first h)
-begins d (if e b c) r f h = rw (first h)
-begins d (call m es) r f h = rw (first h, byte-in 2 h (omega arith))
-begins d (atomic b) r f h = absurd f
-begins d (select a b) r f h = rw (first h, byte-in 2 h (omega arith))
+begins d (assign v e) r c f h w l t = rw (first h)
+begins d (write y o e) r c f h w l t = rw (first h, byte-in 2 h (omega arith), w)
+begins d (read v y o) r c f h w l t = rw (first h)
+begins d (while e b) r c f h w l t = rw (first h)
+begins d (if e b g) r c f h w l t = rw (first h)
+begins d (call m es) r c f h w l t = rw (first h, byte-in 2 h (omega arith), l)
+begins d (atomic b) r c f h w l t = absurd f
+begins d (select a b) r c f h w l t = rw (first h, byte-in 2 h (omega arith), t)
 
 -- nor has a brace before it
 goes-on : {A : Type 0} {x : List ℕ} {i : ℕ} (d : ℕ) (s : Instr A) (r : List ℕ) {j : ℕ} → 1 ≤ d → FlatI s → Stands x i (ind d ++ (instr d s ++ r)) j
@@ -97,7 +97,7 @@ goes-on {x = x} {i} d s r l f h =
     byte-in (2 * d - 2) h (rw length-append (omega arith)) ∙ List·getD-append (ind d) (instr d s ++ r) 0 (2 * d - 2) (omega arith)
     ∙ getD-replicate (2 * d) (2 * d - 2) 32 0 (omega arith)
     in
-    rw (place, space, begins d s r f (behind (ind d) (instr d s ++ r) (2 * d) long h))
+    rw (place, space, begins d s r 114 f (behind (ind d) (instr d s ++ r) (2 * d) long h) refl refl refl)
 
 -- the first instruction of a block, and what follows it
 step-text : {A : Type 0} {x : List ℕ} {i c d : ℕ} {a : A} {s : Instr A} {b : Block A} {j : ℕ} → BlockText x i c d (step a s b) j
