@@ -16,3 +16,5 @@ pub mod FrameText
 pub mod DefinitionText
 -- a text has one program
 pub mod OneToOne
+-- what the text reader finds
+pub mod Reads

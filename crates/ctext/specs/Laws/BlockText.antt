@@ -105,8 +105,7 @@ step-text : {A : Type 0} {x : List ℕ} {i c d : ℕ} {a : A} {s : Instr A} {b :
 step-text {x = x} {i} {c} {d} {a} {s} {b} {j} h =
     let line : Stands x (i + 2 * d) (instr d s ++ block d b) j =
     behind (ind d) (instr d s ++ block d b) (2 * d) (length-replicate (2 * d) 32) (h .stands)
-    in
-    (
+    in (
       record {
         stands = front (instr d s) (block d b) line;
         fits = (omega (arith, h .fits .0), h .fits .1 .0);

@@ -89,8 +89,7 @@ take-body {x} {i} b r {j} s f g =
     let k : ℕ = i + length (block 1 b) in
     let after : Stands x k rest j = back (block 1 b) rest s in
     let place : k + 2 - 2 ≡ k = omega arith in
-    let four : k + 2 + 2 ≡ k + 4 = omega arith in
-    (
+    let four : k + 2 + 2 ≡ k + 4 = omega arith in (
       record {
         stands = front (block 1 b) rest s;
         fits = f;

@@ -204,8 +204,7 @@ unfolding say
 head-parts {x} {i} k n r {j} s f few =
     let name = take-number k (behind (say "void p") (decimal k ++ (say "(" ++ (params n ++ say ")"))) 6 refl (front (head k n) r s)) f (low (omega arith)) in
     let inner = behind (say "(") (params n ++ say ")") 1 refl (name .1) in
-    let close = back (params n) (say ")") inner in
-    (
+    let close = back (params n) (say ")") inner in (
       _,
       name .0,
       record { stands = front (params n) (say ")") inner; close = first close; few = few },
@@ -227,8 +226,7 @@ declaration-parts {x} {i} {k} {p} {ps} {j} h =
     let rest : List ℕ = numbered declaration (suc k) ps in
     let here = head-parts k (p .params) (say ";\n") (front (declaration k p) rest (h .stands)) (omega (arith, h .few)) (h .fits .0) in
     let l : ℕ = here .0 in
-    let next : i + length (declaration k p) ≡ l + 3 = here .3 .ends ∙ omega arith in
-    (
+    let next : i + length (declaration k p) ≡ l + 3 = here .3 .ends ∙ omega arith in (
       l,
       here .2,
       record {

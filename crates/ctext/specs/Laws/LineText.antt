@@ -198,8 +198,7 @@ take-block {x = x} {i} d b c {r} {j} s f g =
     let brace : Stands x (l + 2 * d) (125 ∷ r) j =
     behind (ind d) (125 ∷ r) (2 * d) (length-replicate (2 * d) 32) (back (block (suc d) b) (ind d ++ (125 ∷ r)) s)
     in
-    let place : l + 2 * suc d - 2 ≡ l + 2 * d = omega arith in
-    (
+    let place : l + 2 * suc d - 2 ≡ l + 2 * d = omega arith in (
       record {
         stands = front (block (suc d) b) (ind d ++ (125 ∷ r)) s;
         fits = f;
