@@ -26,11 +26,13 @@ pub const BENCH: u8 = 7;
 pub const PRICES: u8 = 8;
 /// h is the kind wanted, the event buffer the list of changes; the table itself is lent.
 pub const MEND: u8 = 11;
+/// As `RUN_CONCURRENT`, by the plain engine.
+pub const RUN_PLAIN: u8 = 12;
 /// Asks for the version of cases and lines.
 pub const GREETING: u8 = 90;
 
 /// One more whenever a case or a line changes its form.
-pub const VERSION: u64 = 6;
+pub const VERSION: u64 = 7;
 
 const HEADER: usize = 36;
 
@@ -103,7 +105,10 @@ impl Case {
             events: four(28),
             out: four(32),
         };
-        let is_known = matches!(case.op, READ_CONCURRENT..=PRICES | MEND | GREETING);
+        let is_known = matches!(
+            case.op,
+            READ_CONCURRENT..=PRICES | MEND | RUN_PLAIN | GREETING
+        );
         is_known.then_some((case, rest))
     }
 
@@ -122,7 +127,7 @@ impl Case {
             READ_CONCURRENT => self.told(read_line(self.op, read_concurrent(&self.table))),
             READ_SEQUENTIAL => self.told(read_line(self.op, read_sequential(&self.table))),
             TRANSLATE => self.translation(),
-            RUN_CONCURRENT | RUN_SEQUENTIAL => self.run(),
+            RUN_CONCURRENT | RUN_SEQUENTIAL | RUN_PLAIN => self.run(),
             LINE => self.told(format!("{} {}", self.op, line(&self.table))),
             BENCH => self.bench(),
             PRICES => self.prices(),
@@ -142,17 +147,14 @@ impl Case {
     fn run(&self) -> Answer {
         let mut cells = lent(self.cells);
         let mut events = lent(self.events);
-        let answer = if self.op == RUN_CONCURRENT {
-            run_concurrent(&self.table, &self.schedule, &mut cells, &mut events)
-        } else {
-            run_sequential(
-                &self.table,
-                &self.schedule,
-                self.budget,
-                self.h,
-                &mut cells,
-                &mut events,
-            )
+        let (table, schedule) = (&self.table, &self.schedule);
+        let answer = match self.op {
+            RUN_CONCURRENT => run_concurrent(table, schedule, &mut cells, &mut events),
+            RUN_PLAIN => run_plain(table, schedule, &mut cells, &mut events),
+            _ => {
+                let (budget, h) = (self.budget, self.h);
+                run_sequential(table, schedule, budget, h, &mut cells, &mut events)
+            }
         };
         let line = format!(
             "{} {} {} {} {} {} {} {:016x} {:016x}",
@@ -334,7 +336,8 @@ mod tests {
         );
         assert_eq!(line(PRICES), "8 0 0 0");
         assert_eq!(line(MEND), format!("11 0 0 0 {:016x} {empty}", fnv(&A)));
-        assert_eq!(line(GREETING), "90 6");
+        assert_eq!(line(RUN_PLAIN), format!("12 0 0 1 0 0 0 {empty} {empty}"));
+        assert_eq!(line(GREETING), "90 7");
     }
 
     #[test]

@@ -6,7 +6,7 @@ use crate::bench::{self, Search};
 use crate::program::{Kind, Program};
 use crate::record::{write_cells, Events, Run};
 use crate::verdict::verdict;
-use crate::{concurrent, labels, mend, price, sequential, translate, write};
+use crate::{concurrent, labels, mend, plain, price, sequential, translate, write};
 
 /// "An accepted read answers 0 with P, M, T, the number of labels (sequential: 0) and of cells."
 #[derive(Clone, Copy, PartialEq, Eq, Debug, Default)]
@@ -123,14 +123,24 @@ pub fn run_concurrent(
     cells: &mut [u8],
     events: &mut [u8],
 ) -> RunAnswer {
-    let judged = verdict(table, Kind::Concurrent).and_then(|program| {
-        schedule_fits(schedule)?;
-        entries_are_threads(schedule, &program)?;
-        cells_fit(&program, cells)?;
-        Ok(program)
-    });
+    let judged = judged_concurrent(table, schedule, cells);
     let run = judged.map(|program| concurrent::run(&program, schedule, &mut Events::new(events)));
     run_answer(run, cells)
+}
+
+/// The plain engine. "It refuses exactly what the first refuses."
+pub fn run_plain(table: &[u8], schedule: &[u8], cells: &mut [u8], events: &mut [u8]) -> RunAnswer {
+    let judged = judged_concurrent(table, schedule, cells);
+    let run = judged.map(|program| plain::run(&program, schedule, &mut Events::new(events)));
+    run_answer(run, cells)
+}
+
+fn judged_concurrent(table: &[u8], schedule: &[u8], cells: &[u8]) -> Result<Program, u8> {
+    let program = verdict(table, Kind::Concurrent)?;
+    schedule_fits(schedule)?;
+    entries_are_threads(schedule, &program)?;
+    cells_fit(&program, cells)?;
+    Ok(program)
 }
 
 pub fn run_sequential(

@@ -18,6 +18,7 @@ pub mod machine;
 pub mod mend;
 pub mod mend_samples;
 
+pub mod plain;
 pub mod price;
 pub mod price_samples;
 pub mod program;

@@ -32,6 +32,7 @@ const RANDOM_SEQUENTIAL_PROGRAMS: usize = 200;
 const LARGE_SEQUENTIAL_PROGRAMS: usize = 10;
 const DAMAGED_TABLES: usize = 500;
 const RANDOM_BENCHES: usize = 400;
+const PLAIN_PROGRAMS: usize = 150;
 
 fn main() -> std::io::Result<()> {
     let words: Vec<String> = std::env::args().skip(1).collect();
@@ -110,6 +111,25 @@ fn whole_batch(ops: Vec<u8>) -> Batch {
     worn_tables(&mut batch);
     judged_mends(&mut batch);
     random_mends(&mut batch, &mut Random::new(SEED + 108));
+    batch.section = "plain engine";
+    batch.plainly(1, runs);
+    batch.plainly(1, labelled_events);
+    batch.plainly(1, judged_tables);
+    batch.plainly(2, reasons);
+    batch.plainly(6, ands);
+    batch.plainly(2, schedules);
+    batch.plainly(1, cell_buffers);
+    batch.plainly(1, largest_programs);
+    let mut random = Random::new(SEED + 109);
+    batch.plainly(1, |batch| {
+        for _ in 0..PLAIN_PROGRAMS {
+            random_program(Scale::Small, batch, &mut random);
+        }
+        random_program(Scale::Large, batch, &mut random);
+        for _ in 0..DAMAGED_TABLES / 10 {
+            damaged_table(0, batch, &mut random);
+        }
+    });
     batch.input.extend(last_header());
     batch
 }
@@ -124,14 +144,46 @@ struct Batch {
     section: &'static str,
     cases: BTreeMap<&'static str, usize>,
     outcomes: BTreeMap<String, usize>,
+    plain: Option<Plainly>,
+}
+
+/// While concurrent runs are written for the plain engine.
+struct Plainly {
+    apart: usize,
+    /// Runs so far.
+    runs: usize,
 }
 
 impl Batch {
     /// The case, if it is one of the calls that are kept.
     fn add(&mut self, case: Case) {
+        let Some(case) = self.turned(case) else {
+            return;
+        };
         if self.ops.is_empty() || self.ops.contains(&case.op) {
             self.put(case);
         }
+    }
+
+    /// Of a part that is written before, each so-and-so-manieth concurrent run, by the plain engine.
+    fn plainly(&mut self, apart: usize, part: impl FnOnce(&mut Batch)) {
+        self.plain = Some(Plainly { apart, runs: 0 });
+        part(self);
+        self.plain = None;
+    }
+
+    fn turned(&mut self, case: Case) -> Option<Case> {
+        let Some(plainly) = &mut self.plain else {
+            return Some(case);
+        };
+        if case.op != RUN_CONCURRENT {
+            return None;
+        }
+        plainly.runs += 1;
+        (plainly.runs % plainly.apart == 0).then_some(Case {
+            op: RUN_PLAIN,
+            ..case
+        })
     }
 
     fn put(&mut self, case: Case) {
@@ -175,14 +227,15 @@ fn outcome(line: &str) -> String {
         "7" => "bench",
         "8" => "prices",
         "11" => "mend",
+        "12" => "run_plain",
         _ => "line",
     };
     let result = match (words[0], words[1], words[2]) {
         ("6", "refused", number) => format!("refused {number:>2}"),
         ("6", "blocked", _) => format!("blocked by {}", words[6]),
         ("6", end, _) => end.to_string(),
-        ("4" | "5", "0", "2") => format!("blocked by {}", words[6]),
-        ("4" | "5", "0", end) => end_name(end).to_string(),
+        ("4" | "5" | "12", "0", "2") => format!("blocked by {}", words[6]),
+        ("4" | "5" | "12", "0", end) => end_name(end).to_string(),
         ("7", "0", "0") => "none".to_string(),
         ("7", "0", _) => "found".to_string(),
         ("11", "0", "0") => "nothing to mend".to_string(),
