@@ -6,8 +6,9 @@
 //! low byte first. A header whose op is 0 ends the batch. The bench has its rounds in the budget's
 //! place and the most steps of a count in h's; prices have the label in the budget's place. The
 //! mender is told by h which kind is wanted (0 concurrent, 1 sequential); it mends the table itself,
-//! and the event buffer is its list of changes.
+//! and the event buffer is its list of changes. The text reader has its text in the table's place.
 
+use crate::c_text;
 use crate::calls::*;
 use crate::line::line;
 use crate::machine::EVENT;
@@ -24,6 +25,10 @@ pub const LINE: u8 = 6;
 pub const BENCH: u8 = 7;
 /// The budget is the label.
 pub const PRICES: u8 = 8;
+/// A sequential table as C text, in the out buffer.
+pub const PRINT_C: u8 = 9;
+/// The table is a C text; its table comes into the out buffer.
+pub const READ_C: u8 = 10;
 /// h is the kind wanted, the event buffer the list of changes; the table itself is lent.
 pub const MEND: u8 = 11;
 /// As `RUN_CONCURRENT`, by the plain engine.
@@ -32,7 +37,7 @@ pub const RUN_PLAIN: u8 = 12;
 pub const GREETING: u8 = 90;
 
 /// One more whenever a case or a line changes its form.
-pub const VERSION: u64 = 7;
+pub const VERSION: u64 = 8;
 
 const HEADER: usize = 36;
 
@@ -43,6 +48,9 @@ pub const LONGEST_CELLS: u32 = 45_000;
 /// An event for each entry of the longest schedule that is run.
 pub const LONGEST_EVENTS: u32 = EVENT as u32 * 4_096;
 pub const LONGEST_OUT: u32 = 70_000;
+/// The longest C text and some bytes: what the printer may be lent, and what the text reader may be
+/// given.
+pub const LONGEST_TEXT: usize = c_text::LONGEST + 97;
 
 #[derive(Clone, PartialEq, Eq, Debug, Default)]
 pub struct Case {
@@ -105,20 +113,22 @@ impl Case {
             events: four(28),
             out: four(32),
         };
-        let is_known = matches!(
-            case.op,
-            READ_CONCURRENT..=PRICES | MEND | RUN_PLAIN | GREETING
-        );
+        let is_known = matches!(case.op, READ_CONCURRENT..=RUN_PLAIN | GREETING);
         is_known.then_some((case, rest))
     }
 
     /// True if the case keeps to the lengths above.
     pub fn keeps_limits(&self) -> bool {
-        self.table.len() <= LONGEST_TABLE
+        let (table, out) = match self.op {
+            PRINT_C => (LONGEST_TABLE, LONGEST_TEXT as u32),
+            READ_C => (LONGEST_TEXT, LONGEST_OUT),
+            _ => (LONGEST_TABLE, LONGEST_OUT),
+        };
+        self.table.len() <= table
             && self.schedule.len() <= LONGEST_SCHEDULE
             && self.cells <= LONGEST_CELLS
             && self.events <= LONGEST_EVENTS
-            && self.out <= LONGEST_OUT
+            && self.out <= out
     }
 
     /// The line has op and the answer's numbers, then the hash of each lent buffer.
@@ -126,7 +136,9 @@ impl Case {
         match self.op {
             READ_CONCURRENT => self.told(read_line(self.op, read_concurrent(&self.table))),
             READ_SEQUENTIAL => self.told(read_line(self.op, read_sequential(&self.table))),
-            TRANSLATE => self.translation(),
+            TRANSLATE => self.written(translate),
+            PRINT_C => self.written(print_c),
+            READ_C => self.written(read_c),
             RUN_CONCURRENT | RUN_SEQUENTIAL | RUN_PLAIN => self.run(),
             LINE => self.told(format!("{} {}", self.op, line(&self.table))),
             BENCH => self.bench(),
@@ -136,9 +148,10 @@ impl Case {
         }
     }
 
-    fn translation(&self) -> Answer {
+    /// A call that writes into the out buffer.
+    fn written(&self, call: fn(&[u8], &mut [u8]) -> WriteAnswer) -> Answer {
         let mut out = lent(self.out);
-        let answer = translate(&self.table, &mut out);
+        let answer = call(&self.table, &mut out);
         let hash = fnv(&out);
         let numbers = format!("{} {} {}", self.op, answer.number, answer.length);
         self.lending(format!("{numbers} {hash:016x}"), out)
@@ -246,7 +259,7 @@ fn lent(length: u32) -> Vec<u8> {
 }
 
 /// FNV-1a with 64 bits.
-fn fnv(bytes: &[u8]) -> u64 {
+pub fn fnv(bytes: &[u8]) -> u64 {
     bytes.iter().fold(0xCBF2_9CE4_8422_2325, |hash, byte| {
         (hash ^ u64::from(*byte)).wrapping_mul(0x0000_0100_0000_01B3)
     })
@@ -335,9 +348,11 @@ mod tests {
             format!("7 13 0 0{} {empty}", " 0".repeat(COUNTS))
         );
         assert_eq!(line(PRICES), "8 0 0 0");
+        assert_eq!(line(PRINT_C), format!("9 1 0 {empty}"));
+        assert_eq!(line(READ_C), format!("10 1 0 {empty}"));
         assert_eq!(line(MEND), format!("11 0 0 0 {:016x} {empty}", fnv(&A)));
         assert_eq!(line(RUN_PLAIN), format!("12 0 0 1 0 0 0 {empty} {empty}"));
-        assert_eq!(line(GREETING), "90 7");
+        assert_eq!(line(GREETING), "90 8");
     }
 
     #[test]

@@ -6,7 +6,9 @@ use crate::bench::{self, Search};
 use crate::program::{Kind, Program};
 use crate::record::{write_cells, Events, Run};
 use crate::verdict::verdict;
-use crate::{concurrent, labels, mend, plain, price, sequential, translate, write};
+use crate::{
+    c_reader, c_text, concurrent, labels, mend, plain, price, sequential, translate, write,
+};
 
 /// "An accepted read answers 0 with P, M, T, the number of labels (sequential: 0) and of cells."
 #[derive(Clone, Copy, PartialEq, Eq, Debug, Default)]
@@ -19,9 +21,10 @@ pub struct ReadAnswer {
     pub cells: u64,
 }
 
-/// "An accepted translation writes its length of bytes and no more."
+/// "An accepted translation writes its length of bytes and no more." So do the calls that write and
+/// read C text.
 #[derive(Clone, Copy, PartialEq, Eq, Debug, Default)]
-pub struct TranslateAnswer {
+pub struct WriteAnswer {
     pub number: u8,
     pub length: u64,
 }
@@ -92,10 +95,14 @@ fn read(table: &[u8], kind: Kind) -> ReadAnswer {
     }
 }
 
-pub fn translate(table: &[u8], out: &mut [u8]) -> TranslateAnswer {
-    match copy_table(table).and_then(|copy| put(&copy, out)) {
-        Ok(length) => TranslateAnswer { number: 0, length },
-        Err(number) => TranslateAnswer { number, length: 0 },
+pub fn translate(table: &[u8], out: &mut [u8]) -> WriteAnswer {
+    write_answer(copy_table(table).and_then(|copy| put(&copy, out)))
+}
+
+fn write_answer(written: Result<u64, u8>) -> WriteAnswer {
+    match written {
+        Ok(length) => WriteAnswer { number: 0, length },
+        Err(number) => WriteAnswer { number, length: 0 },
     }
 }
 
@@ -283,4 +290,17 @@ fn mend_and_list(table: &mut [u8], kind: Kind, list: &mut [u8]) -> Result<u64, u
         table[change.place] = change.new;
     }
     Ok(changes.len() as u64)
+}
+
+/// "Print an accepted sequential table as C11 text". 1 to 8, then 10.
+pub fn print_c(table: &[u8], out: &mut [u8]) -> WriteAnswer {
+    let text = verdict(table, Kind::Sequential).map(|program| c_text::text(&program));
+    write_answer(text.and_then(|text| put(text.as_bytes(), out)))
+}
+
+/// "A reader for exactly that text gives back the table, byte by byte, and refuses all other text.
+/// Text that doesn't fit the buffer is answered by 10; text that isn't ours by 1."
+pub fn read_c(text: &[u8], out: &mut [u8]) -> WriteAnswer {
+    let table = c_reader::table_of(text).ok_or(1);
+    write_answer(table.and_then(|table| put(&table, out)))
 }

@@ -46,7 +46,45 @@ fn give_to_all_calls(bytes: &[u8], schedule: &[u8]) -> bool {
             assert_eq!(write::table(&program, kind), bytes);
         }
     }
+    give_to_other_calls(bytes, schedule);
     concurrent.number == 0 || sequential.number == 0
+}
+
+/// Prices, the plain engine, C text and the mender.
+fn give_to_other_calls(bytes: &[u8], schedule: &[u8]) {
+    let concurrent = read_concurrent(bytes).number;
+    let sequential = read_sequential(bytes).number;
+    assert_eq!(prices(bytes, 1).number, concurrent);
+    let (mut cells, mut events) = (vec![3; 45_000], vec![3; 500]);
+    let ran = run_plain(bytes, schedule, &mut cells, &mut events);
+    only_blocked_runs_have_a_reason(&ran);
+    if ran.number != 0 {
+        assert!(cells.iter().chain(&events).all(|byte| *byte == 3));
+    }
+
+    let mut out = vec![3; 30_000];
+    let printed = print_c(bytes, &mut out);
+    assert!(printed.number == sequential || printed.number == 10);
+    let (text, behind) = out.split_at(printed.length as usize);
+    assert!(behind.iter().all(|byte| *byte == 3));
+    if printed.number == 0 {
+        let mut table = vec![3; bytes.len()];
+        assert_eq!(read_c(text, &mut table).number, 0);
+        assert_eq!(table, bytes);
+    }
+    assert_eq!(read_c(bytes, &mut out).number, 1);
+
+    // The mender tries all choices on short tables, so only very short and long ones are given to it.
+    if bytes.len() < 60 || bytes.len() > 300 {
+        for kind in [Kind::Concurrent, Kind::Sequential] {
+            let (mut table, mut list) = (bytes.to_vec(), [3; 96]);
+            let mended = mend(&mut table, kind, &mut list);
+            assert_eq!(mended.number != 0 || !mended.mended, table == bytes);
+            assert_eq!(mended.number == 0, verdict(&table, kind).is_ok());
+            let listed = 6 * mended.changes as usize;
+            assert!(list[listed..].iter().all(|byte| *byte == 3));
+        }
+    }
 }
 
 fn only_blocked_runs_have_a_reason(answer: &RunAnswer) {

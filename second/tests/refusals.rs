@@ -56,7 +56,7 @@ fn refused_tables_are_refused_by_every_call_and_nothing_is_written() {
         if sample.kind == Kind::Concurrent {
             let mut out = vec![7; 66_000];
             let answer = translate(&sample.table, &mut out);
-            let refusal = TranslateAnswer {
+            let refusal = WriteAnswer {
                 number: sample.number,
                 length: 0,
             };
@@ -99,7 +99,7 @@ fn number_9_is_given_when_the_copy_would_be_too_long() {
         for length in [0, 65_536, 70_000] {
             let mut out = vec![7; length];
             let answer = translate(&sample.table, &mut out);
-            let refusal = TranslateAnswer {
+            let refusal = WriteAnswer {
                 number: 9,
                 length: 0,
             };

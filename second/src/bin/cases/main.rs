@@ -11,6 +11,7 @@ mod prices;
 mod random_tables;
 mod runs;
 mod tables;
+mod texts;
 mod traces;
 
 use benches::*;
@@ -23,6 +24,7 @@ use second::random::{Random, Scale};
 use std::collections::BTreeMap;
 use std::fs;
 use tables::*;
+use texts::*;
 use traces::labelled_events;
 
 const SEED: u64 = 20_170_301;
@@ -130,6 +132,10 @@ fn whole_batch(ops: Vec<u8>) -> Batch {
             damaged_table(0, batch, &mut random);
         }
     });
+    batch.section = "C text";
+    printed_tables(&mut batch);
+    random_texts(&mut batch, &mut Random::new(SEED + 106));
+    texts_read(&mut batch);
     batch.input.extend(last_header());
     batch
 }
@@ -226,6 +232,8 @@ fn outcome(line: &str) -> String {
         "5" => "run_sequential",
         "7" => "bench",
         "8" => "prices",
+        "9" => "print_c",
+        "10" => "read_c",
         "11" => "mend",
         "12" => "run_plain",
         _ => "line",

@@ -76,6 +76,25 @@ pub fn prices_case(table: &[u8], label: u64) -> Case {
     }
 }
 
+pub fn print_case(table: &[u8], out: u32) -> Case {
+    Case {
+        op: PRINT_C,
+        table: table.to_vec(),
+        out,
+        ..Case::default()
+    }
+}
+
+/// A C text to be read.
+pub fn text_case(text: &[u8], out: u32) -> Case {
+    Case {
+        op: READ_C,
+        table: text.to_vec(),
+        out,
+        ..Case::default()
+    }
+}
+
 /// A table to be mended, and the length of the list of changes.
 pub fn mend_case(kind: Kind, table: &[u8], list: u32) -> Case {
     Case {
