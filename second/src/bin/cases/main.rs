@@ -153,8 +153,9 @@ struct Batch {
     plain: Option<Plainly>,
 }
 
-/// While concurrent runs are written for the plain engine.
+/// Says that concurrent runs are turned into runs by the plain engine.
 struct Plainly {
+    /// One of so many is kept.
     apart: usize,
     /// Runs so far.
     runs: usize,
@@ -171,13 +172,14 @@ impl Batch {
         }
     }
 
-    /// Of a part that is written before, each so-and-so-manieth concurrent run, by the plain engine.
+    /// The concurrent runs of a part once more, one of so many, by the plain engine; nothing else of it.
     fn plainly(&mut self, apart: usize, part: impl FnOnce(&mut Batch)) {
         self.plain = Some(Plainly { apart, runs: 0 });
         part(self);
         self.plain = None;
     }
 
+    /// The case as it is, or what comes of it in such a part.
     fn turned(&mut self, case: Case) -> Option<Case> {
         let Some(plainly) = &mut self.plain else {
             return Some(case);

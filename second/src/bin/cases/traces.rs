@@ -16,12 +16,9 @@ pub fn labelled_events(batch: &mut Batch) {
             0..=1_000 => &[0, 12, 13, 14, 25, 26],
             _ => &[13, 25],
         };
-        for room in few
-            .iter()
-            .copied()
-            .chain([exact.saturating_sub(1), exact, exact + 12])
-        {
-            batch.add(traced_case(&sample, room));
+        let about_all = [exact.saturating_sub(1), exact, exact + 12];
+        for room in few.iter().chain(&about_all) {
+            batch.add(traced_case(&sample, *room));
         }
         if sample.kind == Kind::Concurrent && sample.table.len() < 1_000 {
             traced_copy(batch, &sample);
