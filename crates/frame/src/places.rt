@@ -27,7 +27,14 @@ fn put_area(k: usize, size: usize, text: &[u8], out: &mut [u8], at: usize) -> us
 }
 
 // The n locations whose sizes stand from `from` on.
-pub fn put_locations(t: &[u8], from: usize, n: usize, text: &[u8], out: &mut [u8], at: usize) -> usize
+pub fn put_locations(
+    t: &[u8],
+    from: usize,
+    n: usize,
+    text: &[u8],
+    out: &mut [u8],
+    at: usize,
+) -> usize
     requires { ⌜ from + 2 * n ≤ 2 ^ 63 ⌝ }
     ensures { λ r. ⌜ ShowsSizes location (now (t .entry)) (now (text .entry)) from n (now (out .entry)) at (now (out .exit)) r ⌝ }
 {

@@ -26,7 +26,14 @@ fn put_declaration(k: usize, n: u8, text: &[u8], out: &mut [u8], at: usize) -> u
 }
 
 // The n procedures whose records stand from `from` on, declared.
-pub fn put_declarations(t: &[u8], from: usize, n: usize, text: &[u8], out: &mut [u8], at: usize) -> usize
+pub fn put_declarations(
+    t: &[u8],
+    from: usize,
+    n: usize,
+    text: &[u8],
+    out: &mut [u8],
+    at: usize,
+) -> usize
     requires { ⌜ from + 6 * n ≤ 2 ^ 63 ⌝ }
     ensures { λ r. ⌜ ShowsDeclarations (now (t .entry)) (now (text .entry)) from n (now (out .entry)) at (now (out .exit)) r ⌝ }
 {
@@ -52,7 +59,16 @@ fn put_opening(k: usize, params: u8, locals: u8, text: &[u8], out: &mut [u8], at
 }
 
 // Procedure k, whose body stands at `at`.
-fn put_definition(t: &[u8], at: usize, k: usize, params: u8, locals: u8, text: &[u8], out: &mut [u8], to: usize) -> Shown
+fn put_definition(
+    t: &[u8],
+    at: usize,
+    k: usize,
+    params: u8,
+    locals: u8,
+    text: &[u8],
+    out: &mut [u8],
+    to: usize,
+) -> Shown
     ensures { λ r. ⌜ ShowsDefinition (now (t .entry)) (now (text .entry)) at k params locals (now (out .entry)) to (now (out .exit)) r ⌝ }
 {
     let p = put_opening(k, params, locals, text, out, to);
@@ -64,7 +80,14 @@ fn put_definition(t: &[u8], at: usize, k: usize, params: u8, locals: u8, text: &
 }
 
 // The n procedures whose records stand from `from` on, and their bodies from 0 on.
-pub fn put_definitions(t: &[u8], from: usize, n: usize, text: &[u8], out: &mut [u8], at: usize) -> usize
+pub fn put_definitions(
+    t: &[u8],
+    from: usize,
+    n: usize,
+    text: &[u8],
+    out: &mut [u8],
+    at: usize,
+) -> usize
     requires { ⌜ from + 6 * n ≤ 2 ^ 63 ⌝ }
     ensures { λ r. ⌜ ShowsDefinitions (now (t .entry)) (now (text .entry)) from n (now (out .entry)) at (now (out .exit)) r ⌝ }
 {
@@ -73,7 +96,16 @@ pub fn put_definitions(t: &[u8], from: usize, n: usize, text: &[u8], out: &mut [
     let mut p = at;
     while k < n {
         let here = from + RECORD * k;
-        let d = put_definition(t, i, k, byte_at(t, here), byte_at(t, here + 1), text, out, p);
+        let d = put_definition(
+            t,
+            i,
+            k,
+            byte_at(t, here),
+            byte_at(t, here + 1),
+            text,
+            out,
+            p,
+        );
         i = d.next;
         p = d.to;
         k += 1;
