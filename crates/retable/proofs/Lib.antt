@@ -1,0 +1,10 @@
+-- What the proofs of this crate share: one law for each way through its code.
+
+-- bytes and numbers
+pub mod Places
+-- names of expressions
+pub mod Naming
+-- numbers and leaves as bytes
+pub mod Leaves
+-- operators
+pub mod Operators
