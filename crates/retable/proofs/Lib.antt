@@ -8,3 +8,7 @@ pub mod Naming
 pub mod Leaves
 -- operators
 pub mod Operators
+-- lines that hold no block
+pub mod Arguing
+-- instructions and blocks
+pub mod Nesting

@@ -4,3 +4,7 @@
 pub mod Pieces
 -- expressions
 pub mod Exprs
+-- lines that hold no block
+pub mod Lines
+-- instructions and blocks
+pub mod Blocks

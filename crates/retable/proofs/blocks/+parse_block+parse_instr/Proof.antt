@@ -1,0 +1,160 @@
+-- The parsers of blocks and instructions meet their contracts.
+use borrow.Author.Needs.{needs}
+use Rattle.retable.proofs.Nesting.{BlockFrom, nest-ways}
+use lib.ListN.{length}
+use Prim.Native.Nat.{ℕ, _+_, _-_, _<_}
+use borrow.Fn.Kinds.{In}
+use borrow.Fn.PlainCycle.{Measures, is, falls, and}
+use Rattle.retable.proofs.blocks.parse_block.Reads as parse-block
+use Rattle.retable.proofs.blocks.parse_block.Kinds as parse-block-kinds
+use Rattle.retable.proofs.blocks.+parse_block+parse_instr.Lts-parse_block as parse-block-lts
+use Rattle.retable.proofs.blocks.parse_instr.Reads as parse-instr
+use Rattle.retable.proofs.blocks.parse_instr.Kinds as parse-instr-kinds
+use Rattle.retable.proofs.blocks.+parse_block+parse_instr.Lts-parse_instr as parse-instr-lts
+use Rattle.retable.proofs.blocks.ends.Reads as ends-reads
+use Rattle.retable.proofs.blocks.parse_test.Reads as parse-test-reads
+use Rattle.retable.proofs.lines.parse_call.Reads as parse-call-reads
+use Rattle.retable.proofs.lines.parse_select.Reads as parse-select-reads
+use Rattle.retable.proofs.lines.parse_target.Reads as parse-target-reads
+use Rattle.retable.proofs.lines.parse_write.Reads as parse-write-reads
+use Rattle.retable.proofs.pieces.peek.Reads as peek-reads
+use Rattle.retable.proofs.pieces.skip.Reads as skip-reads
+use Rattle.writer.proofs.bytes.put.Reads as put-reads
+use Rattle.retable.proofs.blocks.+parse_block+parse_instr.{statement}
+use Rattle.retable.proofs.blocks.+parse_block+parse_instr.Tie.{close}
+
+abbrev μ-parse-block : Measures 2 parse-block-kinds.ps ℕ
+μ-parse-block κs a = a .1 .1 .0 + a .1 .1 .0
+
+abbrev μ-parse-instr : Measures 2 parse-instr-kinds.ps ℕ
+μ-parse-instr κs a = a .1 .1 .0 + a .1 .1 .0 + 1
+
+abbrev parse-block-at : ℕ → In 2 parse-block-kinds.ps
+parse-block-at t =
+    and 2 parse-block-kinds.ps (is 2 parse-block-kinds.ps μ-parse-block t) parse-block.Pre
+
+abbrev parse-block-below : ℕ → In 2 parse-block-kinds.ps
+parse-block-below t =
+    and 2 parse-block-kinds.ps (falls 2 parse-block-kinds.ps _<_ μ-parse-block t) parse-block.Pre
+
+abbrev parse-instr-at : ℕ → In 2 parse-instr-kinds.ps
+parse-instr-at t =
+    and 2 parse-instr-kinds.ps (is 2 parse-instr-kinds.ps μ-parse-instr t) parse-instr.Pre
+
+abbrev parse-instr-below : ℕ → In 2 parse-instr-kinds.ps
+parse-instr-below t =
+    and 2 parse-instr-kinds.ps (falls 2 parse-instr-kinds.ps _<_ μ-parse-instr t) parse-instr.Pre
+
+abbrev parse-block-Inv-loop : parse-block-lts.InvT-loop
+parse-block-Inv-loop x at depth width out₀ to i₀ p₀ out i p = BlockFrom x at depth width out₀ to i out p
+
+abbrev parse-block-μ-loop : parse-block-lts.MeasureT-loop
+parse-block-μ-loop x at depth width out₀ to i₀ p₀ out i p = length x - i
+
+abbrev parse-block-calls : ℕ → parse-block-lts.Claims
+parse-block-calls t = (
+  ends-reads.Asked,
+  ends-reads.Learnt,
+  put-reads.Asked,
+  put-reads.Learnt,
+  skip-reads.Asked,
+  skip-reads.Learnt,
+  parse-instr-below t,
+  parse-instr.Post,
+)
+
+abbrev parse-instr-calls : ℕ → parse-instr-lts.Claims
+parse-instr-calls t = (
+  peek-reads.Asked,
+  peek-reads.Learnt,
+  parse-target-reads.Asked,
+  parse-target-reads.Learnt,
+  skip-reads.Asked,
+  skip-reads.Learnt,
+  parse-test-reads.Asked,
+  parse-test-reads.Learnt,
+  parse-block-below t,
+  parse-block.Post,
+  parse-write-reads.Asked,
+  parse-write-reads.Learnt,
+  parse-call-reads.Asked,
+  parse-call-reads.Learnt,
+  parse-select-reads.Asked,
+  parse-select-reads.Learnt,
+)
+
+pub +parse-block+parse-instr-spec : {M : Type 1} → statement M
++parse-block+parse-instr-spec = close μ-parse-block μ-parse-instr (λ t. parse-block-lts.spec (parse-block-calls t)
+    (parse-block-at t)
+    parse-block.Post
+    parse-block-Inv-loop
+    parse-block-μ-loop
+    (λ c. search nest-ways)
+    (λ c. search nest-ways)
+    (λ c κs. search needs)
+    (λ c κs. search needs)
+    (λ c. search needs)
+    (λ c. search nest-ways)
+    (λ c κs. search needs)
+    (λ c. search needs)
+    (λ c κs. search needs)
+    (λ c. search needs)
+    (λ c. search nest-ways)
+    (λ c. search needs)
+    (λ c. search nest-ways)
+    (λ c. search needs)
+    (λ c. search nest-ways))
+    λ t. parse-instr-lts.spec (
+      peek-reads.Asked,
+      peek-reads.Learnt,
+      parse-target-reads.Asked,
+      parse-target-reads.Learnt,
+      skip-reads.Asked,
+      skip-reads.Learnt,
+      parse-test-reads.Asked,
+      parse-test-reads.Learnt,
+      parse-block-below t,
+      parse-block.Post,
+      parse-write-reads.Asked,
+      parse-write-reads.Learnt,
+      parse-call-reads.Asked,
+      parse-call-reads.Learnt,
+      parse-select-reads.Asked,
+      parse-select-reads.Learnt,
+    )
+    (parse-instr-at t)
+    parse-instr.Post
+    (λ c κs. search needs)
+    (λ c κs. search needs)
+    (λ c. search needs)
+    (λ c. search nest-ways)
+    (λ c κs. search needs)
+    (λ c κs. search needs)
+    (λ c. search needs)
+    (λ c κs. search needs)
+    (λ c. search needs)
+    (λ c κs. search needs)
+    (λ c. search needs)
+    (λ c. search nest-ways)
+    (λ c κs. search needs)
+    (λ c κs. search needs)
+    (λ c. search needs)
+    (λ c κs. search needs)
+    (λ c. search needs)
+    (λ c κs. search needs)
+    (λ c. search needs)
+    (λ c κs. search needs)
+    (λ c. search needs)
+    (λ c κs. search needs)
+    (λ c. search needs)
+    (λ c. search nest-ways)
+    (λ c κs. search needs)
+    (λ c κs. search needs)
+    (λ c. search needs)
+    (λ c. search nest-ways)
+    (λ c κs. search needs)
+    (λ c. search needs)
+    (λ c. search nest-ways)
+    (λ c κs. search needs)
+    (λ c. search needs)
+    (λ c. search nest-ways)
