@@ -19,7 +19,7 @@ use Rattle.writer.specs.Laws.Put.{Put}
 use Rattle.writer.proofs.Puts.{put-then, put-cons, put-same, put-none}
 use Rattle.retable.specs.Laws.Pieces.{Skips, ReadsNumber}
 use Rattle.retable.specs.Laws.Exprs.{Parses, ParsesByte, ParsesTwo, ParsesExpr}
-use Rattle.retable.specs.Laws.Lines.{ParsesPointed, ParsesTarget, ParsesWrite, ParsesSelect, ParsesCall, Argued, ParsesArgs}
+use Rattle.retable.specs.Laws.Lines.{ParsesPointed, ParsesTarget, ParsesWrite, ParsesSelect, ParsesCall, Argued, ParsesMore, ParsesArgs, ParsesCounted}
 use Rattle.retable.specs.declared.pieces.Numbered.{Numbered}
 use Rattle.retable.specs.declared.exprs.Parsed.{Parsed}
 use Rattle.retable.specs.declared.lines.Arguments.{Arguments}
@@ -159,13 +159,9 @@ select-way {x} {i} {o} {o₃ = o₃} {p} {p₁} {s} {t} {u} {a} {b} P S A T B U 
 
 -- ---- arguments
 
--- whatever arguments stand behind n others are written
-pub record ParsesMore (x : List ℕ) (i n : ℕ) (o : List ℕ) (p : ℕ) (o′ : List ℕ) (r : Arguments) : Type 0 where
-  pub gives : (es : List Expr) (j : ℕ) → MoreText x i es j → n + length es < 2 ^ 8 → Argued n es j o p o′ r
-
--- what is written from k on, behind n arguments, is what is written from i on
-pub record ArgsFrom (x : List ℕ) (i : ℕ) (o : List ℕ) (p k n : ℕ) (o′ : List ℕ) (q : ℕ) : Type 0 where
-  pub back : {o″ : List ℕ} {r : Arguments} → ParsesMore x k n o′ q o″ r → ParsesArgs x i o p o″ r
+-- what is written from k on, behind n arguments, is what is written from i on, behind m
+pub record MoreFrom (x : List ℕ) (i m : ℕ) (o : List ℕ) (p k n : ℕ) (o′ : List ℕ) (q : ℕ) : Type 0 where
+  pub back : {o″ : List ℕ} {r : Arguments} → ParsesMore x k n o′ q o″ r → ParsesMore x i m o p o″ r
   pub kept : length o′ ≡ length o
 
 -- no arguments
@@ -177,14 +173,13 @@ args-void {x} {i} {k} {o} {p} e f = record {
       rw (none .0) (record { count = refl; puts = put-none; ends = sym (none .1) });
 }
 
--- the first
-pub args-first : {x : List ℕ} {i k : ℕ} {o o₁ : List ℕ} {p : ℕ} {e : Parsed} → k ≡ getD x (i + 0) 0 → (k ≡ 41 → ⊥) → ParsesExpr x i 16 o p o₁ e
-    → length o₁ ≡ length o → ArgsFrom x i o p (e .next) 1 o₁ (e .to)
-args-first {x} {i} {k} {o} {o₁} {p} {e} q f E keep = record { back = λ M. record { gives = λ es j h l. go M es j h l }; kept = keep }
+-- the first, and the others
+pub args-first : {x : List ℕ} {i k : ℕ} {o o₁ o₂ : List ℕ} {p : ℕ} {e : Parsed} {r : Arguments} → k ≡ getD x (i + 0) 0 → (k ≡ 41 → ⊥)
+    → ParsesExpr x i 16 o p o₁ e → ParsesMore x (e .next) 1 o₁ (e .to) o₂ r → ParsesArgs x i o p o₂ r
+args-first {x} {i} {k} {o} {o₁} {o₂} {p} {e} {r} q f E M = record { gives = go }
   where
-    go : {o″ : List ℕ} {r : Arguments} → ParsesMore x (e .next) 1 o₁ (e .to) o″ r → (es : List Expr) (j : ℕ) → ArgsText x i es j → length es < 2 ^ 8
-        → Argued 0 es j o p o″ r
-    go {o″} {r} M es j h l =
+    go : (es : List Expr) (j : ℕ) → ArgsText x i es j → length es < 2 ^ 8 → Argued 0 es j o p o₂ r
+    go es j h l =
         let same : k ≡ getD x i 0 = rw add-zero at q in
         let some : SomeIn x i es j = args-some h (λ g. f (same ∙ g)) in
         let one = expr-at E (some .here) refl in
@@ -193,11 +188,15 @@ args-first {x} {i} {k} {o} {o₁} {p} {e} q f E keep = record { back = λ M. rec
         rw (some .is)
         (record { count = omega (arith, rest .count); puts = put-then (expr (some .e)) (each expr (some .rest)) (one .puts) (rest .puts); ends = rest .ends })
 
-module _ {x : List ℕ} {i : ℕ} {o : List ℕ} {p k n : ℕ} {o₁ : List ℕ} {q : ℕ} (F : ArgsFrom x i o p k n o₁ q) where
+-- at the start
+pub more-start : {x : List ℕ} {i m : ℕ} {o : List ℕ} {p : ℕ} → MoreFrom x i m o p i m o p
+more-start = record { back = λ M. M; kept = refl }
+
+module _ {x : List ℕ} {i m : ℕ} {o : List ℕ} {p k n : ℕ} {o₁ : List ℕ} {q : ℕ} (F : MoreFrom x i m o p k n o₁ q) where
   -- another
-  pub args-next : {o₂ : List ℕ} {b s : ℕ} {e : Parsed} → b ≡ getD x (k + 0) 0 → b ≡ 44 → Skips x k 2 s → ParsesExpr x s 16 o₁ q o₂ e
-      → length o₂ ≡ length o₁ → ArgsFrom x i o p (e .next) (n + 1) o₂ (e .to)
-  args-next {o₂} {b} {s} {e} c f S E keep = record { back = λ M. F .back (record { gives = λ es j h l. go M es j h l }); kept = keep ∙ F .kept }
+  pub more-next : {o₂ : List ℕ} {b s : ℕ} {e : Parsed} → b ≡ getD x (k + 0) 0 → b ≡ 44 → Skips x k 2 s → ParsesExpr x s 16 o₁ q o₂ e
+      → length o₂ ≡ length o₁ → MoreFrom x i m o p (e .next) (n + 1) o₂ (e .to)
+  more-next {o₂} {b} {s} {e} c f S E keep = record { back = λ M. F .back (record { gives = λ es j h l. go M es j h l }); kept = keep ∙ F .kept }
     where
       go : {o″ : List ℕ} {r : Arguments} → ParsesMore x (e .next) (n + 1) o₂ (e .to) o″ r → (es : List Expr) (j : ℕ) → MoreText x k es j
           → n + length es < 2 ^ 8 → Argued n es j o₁ q o″ r
@@ -211,8 +210,8 @@ module _ {x : List ℕ} {i : ℕ} {o : List ℕ} {p k n : ℕ} {o₁ : List ℕ}
           (record { count = omega (arith, rest .count); puts = put-then (expr (some .e)) (each expr (some .rest)) (one .puts) (rest .puts); ends = rest .ends })
 
   -- no other
-  pub args-end : {b : ℕ} → b ≡ getD x (k + 0) 0 → (b ≡ 44 → ⊥) → ParsesArgs x i o p o₁ (record { count = n; next = k; to = q })
-  args-end {b} c f = F .back (record { gives = go })
+  pub more-end : {b : ℕ} → b ≡ getD x (k + 0) 0 → (b ≡ 44 → ⊥) → ParsesMore x i m o p o₁ (record { count = n; next = k; to = q })
+  more-end {b} c f = F .back (record { gives = go })
     where
       go : (es : List Expr) (j : ℕ) → MoreText x k es j → n + length es < 2 ^ 8 → Argued n es j o₁ q o₁ (record { count = n; next = k; to = q })
       go es j h l =
@@ -221,8 +220,8 @@ module _ {x : List ℕ} {i : ℕ} {o : List ℕ} {p k n : ℕ} {o₁ : List ℕ}
           rw (none .0) (record { count = omega arith; puts = put-none; ends = sym (none .1) })
 
   -- as many as there may be
-  pub args-full : 255 ≤ n → ParsesArgs x i o p o₁ (record { count = n; next = k; to = q })
-  args-full f = F .back (record { gives = go })
+  pub more-full : 255 ≤ n → ParsesMore x i m o p o₁ (record { count = n; next = k; to = q })
+  more-full f = F .back (record { gives = go })
     where
       go : (es : List Expr) (j : ℕ) → MoreText x k es j → n + length es < 2 ^ 8 → Argued n es j o₁ q o₁ (record { count = n; next = k; to = q })
       go [] j h l = record { count = omega arith; puts = put-none; ends = omega (arith, h .stands .ends) }
@@ -247,25 +246,32 @@ put-anew {o} {o′} {o″} {p} {b = b} {c} {bs} P C = record {
   kept = C .kept ∙ P .kept;
 }
 
+-- the number of arguments, and the arguments
+pub counted-way : {x : List ℕ} {i : ℕ} {o o₁ o₂ o₃ : List ℕ} {p q z : ℕ} {a : Arguments} → Put o p (0 ∷ []) o₁ q → ParsesArgs x i o₁ q o₂ a
+    → Put o₂ p (a .count ∷ []) o₃ z → ParsesCounted x i o p o₃ (record { next = a .next; to = a .to })
+counted-way {a = a} Z A C = record {
+  gives = λ es j h l.
+      let args = A .gives es j h l in
+      let total : a .count ≡ length es = omega (arith, args .count) in
+      record { puts = put-same (ap (λ n. n ∷ each expr es) total) (put-anew (put-cons Z (args .puts)) C); ends = args .ends };
+}
+
 -- z_call
-pub call-way : {x : List ℕ} {i : ℕ} {o o₁ o₂ o₃ o₄ o₅ : List ℕ} {p p₁ q s t u z : ℕ} {m : Parsed} {a : Arguments} → Put o p (0x25 ∷ []) o₁ p₁ → Skips x i 11 s
-    → ParsesTwo x s o₁ p₁ o₂ m → Put o₂ (m .to) (0 ∷ []) o₃ q → Skips x (m .next) 1 t → ParsesArgs x t o₃ q o₄ a
-    → Put o₄ (m .to) (a .count ∷ []) o₅ z → Skips x (a .next) 3 u → ParsesCall x i o p o₅ (record { next = u; to = a .to })
-call-way {x} {i} {o} {o₅ = o₅} {p} {p₁} {q} {s} {t} {u} {z} {m} {a} P S M Z T A C U = record { gives = gives }
+pub call-way : {x : List ℕ} {i : ℕ} {o o₁ o₂ o₃ : List ℕ} {p p₁ s t u : ℕ} {m a : Parsed} → Put o p (0x25 ∷ []) o₁ p₁ → Skips x i 11 s
+    → ParsesTwo x s o₁ p₁ o₂ m → Skips x (m .next) 1 t → ParsesCounted x t o₂ (m .to) o₃ a → Skips x (a .next) 3 u
+    → ParsesCall x i o p o₃ (record { next = u; to = a .to })
+call-way {x} {i} {o} {o₃ = o₃} {p} {p₁} {s} {t} {u} {m} {a} P S M T A U = record { gives = gives }
   where
-    gives : (c d : ℕ) (b : Instr Plain) (j : ℕ) → InstrText x i c d b j → CallIn x i c d b j → Parses (instr b) j o p o₅ (record { next = u; to = a .to })
+    gives : (c d : ℕ) (b : Instr Plain) (j : ℕ) → InstrText x i c d b j → CallIn x i c d b j → Parses (instr b) j o p o₃ (record { next = u; to = a .to })
     gives c d b j h v =
         let callee = two-at M (v .callee) (hop S refl (number-from (v .callee))) in
         let from : v .k + 1 ≤ length x = omega (arith, v .args .stands .ends, v .args .stands .fits) in
         let place : t ≡ v .k + 1 = hop T (callee .ends) from in
         let args = A .gives (v .es) (v .l) (subst (λ i. ArgsText x i (v .es) (v .l)) (sym place) (v .args)) (v .count) in
         let last : u ≡ v .l + 3 = hop U (args .ends) (omega (arith, v .ends, h .stands .fits)) in
-        let total : a .count ≡ length (v .es) = omega (arith, args .count) in
-        let counted = put-anew (put-cons Z (args .puts)) C in
         rw (v .is)
         (record {
-          puts = put-cons P (put-then (bytes 2 (v .m)) (length (v .es) ∷ each expr (v .es)) (callee .puts)
-              (put-same (ap (λ n. n ∷ each expr (v .es)) total) counted));
+          puts = put-cons P (put-then (bytes 2 (v .m)) (length (v .es) ∷ each expr (v .es)) (callee .puts) (args .puts));
           ends = omega (arith, v .ends);
         })
 
@@ -276,6 +282,8 @@ pub ruleset write-ways = (pointed-way, write-way)
 
 pub ruleset select-ways = (select-way)
 
-pub ruleset args-ways = (args-void, args-first, args-next, args-end, args-full)
+pub ruleset args-ways = (args-void, args-first)
 
-pub ruleset call-ways = (call-way)
+pub ruleset more-ways = (more-start, more-next, more-end, more-full)
+
+pub ruleset call-ways = (counted-way, call-way)

@@ -13,7 +13,7 @@ use basics::numbers::READ;
 use basics::numbers::SELECT;
 use basics::numbers::WRITE;
 use writer::bytes::put;
-ghost use Rattle.retable.specs.Laws.Lines.{ParsesPointed, ParsesTarget, ParsesWrite, ParsesSelect, ParsesArgs, ParsesCall};
+ghost use Rattle.retable.specs.Laws.Lines.{ParsesPointed, ParsesTarget, ParsesWrite, ParsesSelect, ParsesMore, ParsesArgs, ParsesCounted, ParsesCall};
 
 // Arguments: how many, where they end in the text, and where their bytes end in the table.
 pub struct Arguments {
@@ -81,20 +81,12 @@ pub fn parse_select(x: &[u8], at: usize, out: &mut [u8], to: usize) -> Parsed
     }
 }
 
-// "e, e, ..": the expressions up to a parenthesis.
-fn parse_args(x: &[u8], at: usize, out: &mut [u8], to: usize) -> Arguments
-    ensures { λ r. ⌜ ParsesArgs (now (x .entry)) at (now (out .entry)) to (now (out .exit)) r ⌝ }
+// ", e, e, ..": the arguments behind the first, up to a parenthesis.
+fn parse_more(x: &[u8], at: usize, out: &mut [u8], to: usize) -> Arguments
+    ensures { λ r. ⌜ ParsesMore (now (x .entry)) at 1 (now (out .entry)) to (now (out .exit)) r ⌝ }
 {
-    if peek(x, at, 0) == b')' {
-        return Arguments {
-            count: 0,
-            next: at,
-            to: to,
-        };
-    }
-    let first = parse_expr(x, at, DEPTH, out, to);
-    let mut i = first.next;
-    let mut p = first.to;
+    let mut i = at;
+    let mut p = to;
     let mut count = 1u8;
     while count < 255 {
         if peek(x, i, 0) != b',' {
@@ -116,15 +108,41 @@ fn parse_args(x: &[u8], at: usize, out: &mut [u8], to: usize) -> Arguments
     }
 }
 
-// "z_call(); p<m>(e, e, ..);": the number of arguments is known behind them.
+// All arguments.
+fn parse_args(x: &[u8], at: usize, out: &mut [u8], to: usize) -> Arguments
+    ensures { λ r. ⌜ ParsesArgs (now (x .entry)) at (now (out .entry)) to (now (out .exit)) r ⌝ }
+{
+    if peek(x, at, 0) == b')' {
+        return Arguments {
+            count: 0,
+            next: at,
+            to: to,
+        };
+    }
+    let first = parse_expr(x, at, DEPTH, out, to);
+    parse_more(x, first.next, out, first.to)
+}
+
+// Their number, which is known behind them, and all arguments.
+fn parse_counted(x: &[u8], at: usize, out: &mut [u8], to: usize) -> Parsed
+    ensures { λ r. ⌜ ParsesCounted (now (x .entry)) at (now (out .entry)) to (now (out .exit)) r ⌝ }
+{
+    let p = put(out, to, 0);
+    let a = parse_args(x, at, out, p);
+    put(out, to, a.count);
+    Parsed {
+        next: a.next,
+        to: a.to,
+    }
+}
+
+// "z_call(); p<m>(e, e, ..);"
 pub fn parse_call(x: &[u8], at: usize, out: &mut [u8], to: usize) -> Parsed
     ensures { λ r. ⌜ ParsesCall (now (x .entry)) at (now (out .entry)) to (now (out .exit)) r ⌝ }
 {
     let p = put(out, to, CALL);
     let m = parse_two(x, skip(x, at, 11), out, p);
-    let q = put(out, m.to, 0);
-    let a = parse_args(x, skip(x, m.next, 1), out, q);
-    put(out, m.to, a.count);
+    let a = parse_counted(x, skip(x, m.next, 1), out, m.to);
     Parsed {
         next: skip(x, a.next, 3),
         to: a.to,

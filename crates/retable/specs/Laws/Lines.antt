@@ -7,7 +7,7 @@ use Rattle.format.specs.Syntax.{Expr, Instr, Plain}
 use Rattle.format.specs.Encode.{expr, each, instr}
 use Rattle.format.specs.Decode.{maxDepth}
 use Rattle.ctext.specs.Laws.ExprText.{ExprText}
-use Rattle.ctext.specs.Laws.ArgText.{NumberText, ArgsText}
+use Rattle.ctext.specs.Laws.ArgText.{NumberText, ArgsText, MoreText}
 use Rattle.ctext.specs.Laws.LineText.{InstrText, TargetIn, WriteIn, CallIn, SelectIn}
 use Rattle.writer.specs.Laws.Put.{Put}
 use Rattle.retable.specs.Laws.Exprs.{Parses}
@@ -41,6 +41,14 @@ pub record Argued (n : ℕ) (es : List Expr) (j : ℕ) (o : List ℕ) (p : ℕ) 
   pub puts : Put o p (each expr es) o′ (r .to)
   pub ends : r .next ≡ j
 
+-- whatever arguments stand there behind n others are written
+pub record ParsesMore (x : List ℕ) (i n : ℕ) (o : List ℕ) (p : ℕ) (o′ : List ℕ) (r : Arguments) : Type 0 where
+  pub gives : (es : List Expr) (j : ℕ) → MoreText x i es j → n + length es < 2 ^ 8 → Argued n es j o p o′ r
+
 -- whatever arguments stand there are written
 pub record ParsesArgs (x : List ℕ) (i : ℕ) (o : List ℕ) (p : ℕ) (o′ : List ℕ) (r : Arguments) : Type 0 where
   pub gives : (es : List Expr) (j : ℕ) → ArgsText x i es j → length es < 2 ^ 8 → Argued 0 es j o p o′ r
+
+-- with their number before them
+pub record ParsesCounted (x : List ℕ) (i : ℕ) (o : List ℕ) (p : ℕ) (o′ : List ℕ) (r : Parsed) : Type 0 where
+  pub gives : (es : List Expr) (j : ℕ) → ArgsText x i es j → length es < 2 ^ 8 → Parses (length es ∷ each expr es) j o p o′ r

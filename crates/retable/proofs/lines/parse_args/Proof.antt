@@ -1,36 +1,19 @@
 -- `retable::lines::parse_args` meets its contract.
 use borrow.Author.Needs.{needs}
-use Prim.Native.Nat.{_-_}
-use Rattle.retable.proofs.Arguing.{ArgsFrom, args-ways}
+use Rattle.retable.proofs.Arguing.{args-ways}
 use Rattle.retable.proofs.lines.parse_args.Statement.{statement}
 use Rattle.retable.proofs.lines.parse_args.Tie as tie
 use Rattle.retable.proofs.exprs.parse_expr.Reads as parse-expr-reads
+use Rattle.retable.proofs.lines.parse_more.Reads as parse-more-reads
 use Rattle.retable.proofs.pieces.peek.Reads as peek-reads
-use Rattle.retable.proofs.pieces.skip.Reads as skip-reads
-
-abbrev Inv-loop : tie.InvT-loop
-Inv-loop x at out₀ to i₀ p₀ count₀ out i p count = ArgsFrom x at out₀ to i count out p
-
-abbrev μ-loop : tie.MeasureT-loop
-μ-loop x at out₀ to i₀ p₀ count₀ out i p count = 255 - count
 
 pub parse-args-spec : {M : Type 1} → statement M
 parse-args-spec =
     tie.close
     (tie.spec
-    Inv-loop
-    μ-loop
-    (λ c κs. search args-ways)
+    (λ c κs. search needs)
     (λ c. search args-ways)
-    (λ c κs. search args-ways)
-    (λ c. search args-ways)
-    (λ c κs. search args-ways)
-    (λ c. search needs)
-    (λ c. search args-ways)
-    (λ c κs. search args-ways)
-    (λ c κs. search args-ways)
-    (λ c. search needs)
-    (λ c. search needs)
-    (λ c. search args-ways)
+    (λ c κs. search needs)
+    (λ c κs. search needs)
     (λ c. search needs)
     (λ c. search args-ways))

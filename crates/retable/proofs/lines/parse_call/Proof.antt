@@ -4,7 +4,7 @@ use Rattle.retable.proofs.Arguing.{call-ways}
 use Rattle.retable.proofs.lines.parse_call.Statement.{statement}
 use Rattle.retable.proofs.lines.parse_call.Tie as tie
 use Rattle.retable.proofs.exprs.parse_two.Reads as parse-two-reads
-use Rattle.retable.proofs.lines.parse_args.Reads as parse-args-reads
+use Rattle.retable.proofs.lines.parse_counted.Reads as parse-counted-reads
 use Rattle.retable.proofs.pieces.skip.Reads as skip-reads
 use Rattle.writer.proofs.bytes.put.Reads as put-reads
 
@@ -12,8 +12,6 @@ pub parse-call-spec : {M : Type 1} → statement M
 parse-call-spec =
     tie.close
     (tie.spec
-    (λ c κs. search needs)
-    (λ c κs. search needs)
     (λ c κs. search needs)
     (λ c κs. search needs)
     (λ c κs. search needs)
