@@ -219,17 +219,8 @@ module _ {x : List ℕ} {i c w : ℕ} {o : List ℕ} {p k : ℕ} {o₁ : List �
 -- one law for each way
 pub ruleset test-ways = (test-way, ends-brace, ends-line, ends-not)
 
-pub ruleset nest-ways = (
-  instr-target,
-  instr-while,
-  instr-if,
-  instr-write,
-  instr-call,
-  instr-select,
-  block-none,
-  from-start,
-  from-past,
-  from-end,
-  from-next,
-  from-stuck,
-)
+pub ruleset instr-ways = (instr-target, instr-while, instr-if, instr-write, instr-call, instr-select)
+
+pub ruleset block-ways = (block-none, from-start, from-past, from-end, from-next)
+
+pub ruleset stuck-ways = (from-stuck)

@@ -1,6 +1,6 @@
 -- The parsers of blocks and instructions meet their contracts.
 use borrow.Author.Needs.{needs}
-use Rattle.retable.proofs.Nesting.{BlockFrom, nest-ways}
+use Rattle.retable.proofs.Nesting.{BlockFrom, instr-ways, block-ways, stuck-ways}
 use lib.ListN.{length}
 use Prim.Native.Nat.{ℕ, _+_, _-_, _<_}
 use borrow.Fn.Kinds.{In}
@@ -89,45 +89,28 @@ pub +parse-block+parse-instr-spec : {M : Type 1} → statement M
     parse-block.Post
     parse-block-Inv-loop
     parse-block-μ-loop
-    (λ c. search nest-ways)
-    (λ c. search nest-ways)
+    (λ c. search block-ways)
+    (λ c. search block-ways)
     (λ c κs. search needs)
     (λ c κs. search needs)
     (λ c. search needs)
-    (λ c. search nest-ways)
+    (λ c. search block-ways)
     (λ c κs. search needs)
     (λ c. search needs)
     (λ c κs. search needs)
     (λ c. search needs)
-    (λ c. search nest-ways)
+    (λ c. search stuck-ways)
     (λ c. search needs)
-    (λ c. search nest-ways)
+    (λ c. search block-ways)
     (λ c. search needs)
-    (λ c. search nest-ways))
-    λ t. parse-instr-lts.spec (
-      peek-reads.Asked,
-      peek-reads.Learnt,
-      parse-target-reads.Asked,
-      parse-target-reads.Learnt,
-      skip-reads.Asked,
-      skip-reads.Learnt,
-      parse-test-reads.Asked,
-      parse-test-reads.Learnt,
-      parse-block-below t,
-      parse-block.Post,
-      parse-write-reads.Asked,
-      parse-write-reads.Learnt,
-      parse-call-reads.Asked,
-      parse-call-reads.Learnt,
-      parse-select-reads.Asked,
-      parse-select-reads.Learnt,
-    )
+    (λ c. search block-ways))
+    λ t. parse-instr-lts.spec (parse-instr-calls t)
     (parse-instr-at t)
     parse-instr.Post
     (λ c κs. search needs)
     (λ c κs. search needs)
     (λ c. search needs)
-    (λ c. search nest-ways)
+    (λ c. search instr-ways)
     (λ c κs. search needs)
     (λ c κs. search needs)
     (λ c. search needs)
@@ -135,7 +118,7 @@ pub +parse-block+parse-instr-spec : {M : Type 1} → statement M
     (λ c. search needs)
     (λ c κs. search needs)
     (λ c. search needs)
-    (λ c. search nest-ways)
+    (λ c. search instr-ways)
     (λ c κs. search needs)
     (λ c κs. search needs)
     (λ c. search needs)
@@ -147,14 +130,14 @@ pub +parse-block+parse-instr-spec : {M : Type 1} → statement M
     (λ c. search needs)
     (λ c κs. search needs)
     (λ c. search needs)
-    (λ c. search nest-ways)
+    (λ c. search instr-ways)
     (λ c κs. search needs)
     (λ c κs. search needs)
     (λ c. search needs)
-    (λ c. search nest-ways)
+    (λ c. search instr-ways)
     (λ c κs. search needs)
     (λ c. search needs)
-    (λ c. search nest-ways)
+    (λ c. search instr-ways)
     (λ c κs. search needs)
     (λ c. search needs)
-    (λ c. search nest-ways)
+    (λ c. search instr-ways)
