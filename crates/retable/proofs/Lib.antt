@@ -12,3 +12,7 @@ pub mod Operators
 pub mod Arguing
 -- instructions and blocks
 pub mod Nesting
+-- locations
+pub mod Framing
+-- heads and locals
+pub mod Heading

@@ -22,7 +22,7 @@ use Rattle.writer.proofs.Puts.{put-then, put-cons}
 use Rattle.retable.specs.Laws.Pieces.{Skips}
 use Rattle.retable.specs.Laws.Exprs.{Parses, ParsesExpr}
 use Rattle.retable.specs.Laws.Lines.{ParsesTarget, ParsesWrite, ParsesSelect, ParsesCall}
-use Rattle.retable.specs.Laws.Blocks.{ParsesTest, ParsesInstr, ParsesBlock}
+use Rattle.retable.specs.Laws.Blocks.{ParsesTest, ParsesIf, ParsesInstr, ParsesBlock}
 use Rattle.retable.specs.declared.exprs.Parsed.{Parsed}
 use Rattle.retable.proofs.Arguing.{hop, expr-at, expr-from}
 
@@ -76,6 +76,28 @@ block-at {d = d} {b} {j} B e h q = B .gives (suc d) b j (omega arith) (block-mov
 block-from : {x : List ℕ} {i c d : ℕ} {b : Block Plain} {j : ℕ} → BlockText x i c d b j → i ≤ length x
 block-from h = omega (arith, h .stands .ends, h .stands .fits)
 
+-- an if
+pub if-way : {x : List ℕ} {i c w : ℕ} {o o₁ o₂ o₃ : List ℕ} {p s t u : ℕ} {e a r : Parsed} → Skips x i 11 s → ParsesTest x s 0x24 o p o₁ e
+    → ParsesBlock x (e .next) c (w + 2) o₁ (e .to) o₂ a → Skips x (a .next) (w + 9) t → ParsesBlock x t c (w + 2) o₂ (a .to) o₃ r
+    → Skips x (r .next) (w + 2) u → ParsesIf x i c w o p o₃ (record { next = u; to = r .to })
+if-way {x} {i} {c} {w} {o} {o₁} {o₂} {o₃} {p} {s} {t} {u} {e} {a} {r} S E A T B U = record { gives = gives }
+  where
+    gives : (d : ℕ) (l : Instr Plain) (j : ℕ) → w ≡ 2 * d → InstrText x i c d l j → IfIn x i c d l j
+        → Parses (instr l) j o p o₃ (record { next = u; to = r .to })
+    gives d l j q h v =
+        let place = hop S refl (expr-from (v .test)) in
+        let test = E .gives (v .e) (v .k) (moved (v .test) (sym place)) (block-from (v .first)) in
+        let one = block-at A q (v .first) (test .ends) in
+        let else : t ≡ v .l + (w + 9) = hop T (one .ends) (omega (arith, block-from (v .second))) in
+        let two = block-at B q (v .second) (else ∙ omega arith) in
+        let last : u ≡ v .m + (w + 2) = hop U (two .ends) (omega (arith, v .ends, h .stands .fits)) in
+        rw (v .is)
+        (record {
+          puts = put-then (0x24 ∷ expr (v .e)) (block (v .b) ++ block (v .f)) (test .puts)
+              (put-then (block (v .b)) (block (v .f)) (one .puts) (two .puts));
+          ends = omega (arith, v .ends);
+        })
+
 -- the first byte
 first-byte : (x : List ℕ) (i : ℕ) {k : ℕ} → k ≡ getD x (i + 0) 0 → k ≡ getD x i 0
 first-byte x i e = rw add-zero at e
@@ -101,26 +123,8 @@ module _ {x : List ℕ} {i c w : ℕ} {o : List ℕ} {p k : ℕ} (b : k ≡ getD
           (record { puts = put-then (0x23 ∷ expr (v .e)) (block (v .b)) (test .puts) (body .puts); ends = omega (arith, v .ends) })
 
   -- if
-  pub instr-if : {o₁ o₂ o₃ : List ℕ} {s t u : ℕ} {e a r : Parsed} → k ≡ 105 → Skips x i 11 s → ParsesTest x s 0x24 o p o₁ e
-      → ParsesBlock x (e .next) c (w + 2) o₁ (e .to) o₂ a → Skips x (a .next) (w + 9) t → ParsesBlock x t c (w + 2) o₂ (a .to) o₃ r
-      → Skips x (r .next) (w + 2) u → ParsesInstr x i c w o p o₃ (record { next = u; to = r .to })
-  instr-if {o₁} {o₂} {o₃} {s} {t} {u} {e} {a} {r} f S E A T B U = record { gives = gives }
-    where
-      gives : (d : ℕ) (l : Instr Plain) (j : ℕ) → w ≡ 2 * d → InstrText x i c d l j → Parses (instr l) j o p o₃ (record { next = u; to = r .to })
-      gives d l j q h =
-          let v : IfIn x i c d l j = if-in h (sym (first-byte x i b) ∙ f) in
-          let place = hop S refl (expr-from (v .test)) in
-          let test = E .gives (v .e) (v .k) (moved (v .test) (sym place)) (block-from (v .first)) in
-          let one = block-at A q (v .first) (test .ends) in
-          let else : t ≡ v .l + (w + 9) = hop T (one .ends) (omega (arith, block-from (v .second))) in
-          let two = block-at B q (v .second) (else ∙ omega arith) in
-          let last : u ≡ v .m + (w + 2) = hop U (two .ends) (omega (arith, v .ends, h .stands .fits)) in
-          rw (v .is)
-          (record {
-            puts = put-then (0x24 ∷ expr (v .e)) (block (v .b) ++ block (v .f)) (test .puts)
-                (put-then (block (v .b)) (block (v .f)) (one .puts) (two .puts));
-            ends = omega (arith, v .ends);
-          })
+  pub instr-if : {o′ : List ℕ} {r : Parsed} → k ≡ 105 → ParsesIf x i c w o p o′ r → ParsesInstr x i c w o p o′ r
+  instr-if e I = record { gives = λ d s j q h. I .gives d s j q h (if-in h (sym (first-byte x i b) ∙ e)) }
 
   module _ {m : ℕ} {o′ : List ℕ} {r : Parsed} (n₁ : k ≡ 120 → ⊥) (n₂ : k ≡ 119 → ⊥) (n₃ : k ≡ 105 → ⊥) (g : m ≡ getD x (i + 2) 0) where
     -- z_write
@@ -220,6 +224,8 @@ module _ {x : List ℕ} {i c w : ℕ} {o : List ℕ} {p k : ℕ} {o₁ : List �
 pub ruleset test-ways = (test-way, ends-brace, ends-line, ends-not)
 
 pub ruleset instr-ways = (instr-target, instr-while, instr-if, instr-write, instr-call, instr-select)
+
+pub ruleset if-ways = (if-way)
 
 pub ruleset block-ways = (block-none, from-start, from-past, from-end, from-next)
 

@@ -8,3 +8,5 @@ pub mod Exprs
 pub mod Lines
 -- instructions and blocks
 pub mod Blocks
+-- lines around the bodies
+pub mod Frames

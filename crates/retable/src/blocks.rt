@@ -15,7 +15,7 @@ use writer::bytes::put;
 ghost use Prim.Native.Nat.{_+_, _*_, _≤_};
 ghost use mathlib.Core.Path.{_≡_};
 ghost use Rattle.ctext.specs.Laws.LineText.{ended};
-ghost use Rattle.retable.specs.Laws.Blocks.{ParsesTest, ParsesInstr, ParsesBlock};
+ghost use Rattle.retable.specs.Laws.Blocks.{ParsesTest, ParsesIf, ParsesInstr, ParsesBlock};
 
 // The test of a while or an if, and the rest of its line: "e)) {".
 fn parse_test(x: &[u8], at: usize, mark: u8, out: &mut [u8], to: usize) -> Parsed
@@ -43,31 +43,42 @@ fn ends(x: &[u8], at: usize, width: usize) -> bool
     false
 }
 
+// "if (z_test(e)) {", a block, "} else {", a block, and "}".
+fn parse_if(x: &[u8], at: usize, depth: u8, width: usize, out: &mut [u8], to: usize) -> Parsed
+    requires { ⌜ (2 ≤ width) × (width + 2 * depth ≤ 62) ⌝ }
+    ensures { λ r. ⌜ ParsesIf (now (x .entry)) at depth width (now (out .entry)) to (now (out .exit)) r ⌝ }
+{
+    let inner = width + 2;
+    let otherwise = width + 9;
+    let e = parse_test(x, skip(x, at, 11), IF, out, to);
+    let b = parse_block(x, e.next, depth, inner, out, e.to);
+    let c = parse_block(x, skip(x, b.next, otherwise), depth, inner, out, b.to);
+    Parsed {
+        next: skip(x, c.next, inner),
+        to: c.to,
+    }
+}
+
 // The instruction at a place, behind its spaces; the blocks in it are at most `depth` deep.
 fn parse_instr(x: &[u8], at: usize, depth: u8, width: usize, out: &mut [u8], to: usize) -> Parsed
     requires { ⌜ (2 ≤ width) × (width + 2 * depth ≤ 62) ⌝ }
     ensures { λ r. ⌜ ParsesInstr (now (x .entry)) at depth width (now (out .entry)) to (now (out .exit)) r ⌝ }
 {
+    let inner = width + 2;
     let first = peek(x, at, 0);
     if first == b'x' {
         return parse_target(x, at, out, to);
     }
     if first == b'w' {
         let e = parse_test(x, skip(x, at, 14), WHILE, out, to);
-        let b = parse_block(x, e.next, depth, width + 2, out, e.to);
+        let b = parse_block(x, e.next, depth, inner, out, e.to);
         return Parsed {
-            next: skip(x, b.next, width + 2),
+            next: skip(x, b.next, inner),
             to: b.to,
         };
     }
     if first == b'i' {
-        let e = parse_test(x, skip(x, at, 11), IF, out, to);
-        let b = parse_block(x, e.next, depth, width + 2, out, e.to);
-        let c = parse_block(x, skip(x, b.next, width + 9), depth, width + 2, out, b.to);
-        return Parsed {
-            next: skip(x, c.next, width + 2),
-            to: c.to,
-        };
+        return parse_if(x, at, depth, width, out, to);
     }
     let third = peek(x, at, 2);
     if third == b'w' {

@@ -3,5 +3,6 @@
 // functions may have a `requires`.
 pub mod blocks;
 pub mod exprs;
+pub mod frames;
 pub mod lines;
 pub mod pieces;

@@ -1,16 +1,19 @@
 -- The parsers of blocks and instructions meet their contracts.
 use borrow.Author.Needs.{needs}
-use Rattle.retable.proofs.Nesting.{BlockFrom, instr-ways, block-ways, stuck-ways}
+use Rattle.retable.proofs.Nesting.{BlockFrom, if-ways, instr-ways, block-ways, stuck-ways}
 use lib.ListN.{length}
-use Prim.Native.Nat.{ℕ, _+_, _-_, _<_}
+use Prim.Native.Nat.{ℕ, _+_, _*_, _-_, _<_}
 use borrow.Fn.Kinds.{In}
 use borrow.Fn.PlainCycle.{Measures, is, falls, and}
 use Rattle.retable.proofs.blocks.parse_block.Reads as parse-block
 use Rattle.retable.proofs.blocks.parse_block.Kinds as parse-block-kinds
-use Rattle.retable.proofs.blocks.+parse_block+parse_instr.Lts-parse_block as parse-block-lts
+use Rattle.retable.proofs.blocks.+parse_block+parse_if+parse_instr.Lts-parse_block as parse-block-lts
+use Rattle.retable.proofs.blocks.parse_if.Reads as parse-if
+use Rattle.retable.proofs.blocks.parse_if.Kinds as parse-if-kinds
+use Rattle.retable.proofs.blocks.+parse_block+parse_if+parse_instr.Lts-parse_if as parse-if-lts
 use Rattle.retable.proofs.blocks.parse_instr.Reads as parse-instr
 use Rattle.retable.proofs.blocks.parse_instr.Kinds as parse-instr-kinds
-use Rattle.retable.proofs.blocks.+parse_block+parse_instr.Lts-parse_instr as parse-instr-lts
+use Rattle.retable.proofs.blocks.+parse_block+parse_if+parse_instr.Lts-parse_instr as parse-instr-lts
 use Rattle.retable.proofs.blocks.ends.Reads as ends-reads
 use Rattle.retable.proofs.blocks.parse_test.Reads as parse-test-reads
 use Rattle.retable.proofs.lines.parse_call.Reads as parse-call-reads
@@ -20,14 +23,17 @@ use Rattle.retable.proofs.lines.parse_write.Reads as parse-write-reads
 use Rattle.retable.proofs.pieces.peek.Reads as peek-reads
 use Rattle.retable.proofs.pieces.skip.Reads as skip-reads
 use Rattle.writer.proofs.bytes.put.Reads as put-reads
-use Rattle.retable.proofs.blocks.+parse_block+parse_instr.{statement}
-use Rattle.retable.proofs.blocks.+parse_block+parse_instr.Tie.{close}
+use Rattle.retable.proofs.blocks.+parse_block+parse_if+parse_instr.{statement}
+use Rattle.retable.proofs.blocks.+parse_block+parse_if+parse_instr.Tie.{close}
 
 abbrev μ-parse-block : Measures 2 parse-block-kinds.ps ℕ
-μ-parse-block κs a = a .1 .1 .0 + a .1 .1 .0
+μ-parse-block κs a = a .1 .1 .0 * 3
+
+abbrev μ-parse-if : Measures 2 parse-if-kinds.ps ℕ
+μ-parse-if κs a = a .1 .1 .0 * 3 + 1
 
 abbrev μ-parse-instr : Measures 2 parse-instr-kinds.ps ℕ
-μ-parse-instr κs a = a .1 .1 .0 + a .1 .1 .0 + 1
+μ-parse-instr κs a = a .1 .1 .0 * 3 + 2
 
 abbrev parse-block-at : ℕ → In 2 parse-block-kinds.ps
 parse-block-at t =
@@ -36,6 +42,13 @@ parse-block-at t =
 abbrev parse-block-below : ℕ → In 2 parse-block-kinds.ps
 parse-block-below t =
     and 2 parse-block-kinds.ps (falls 2 parse-block-kinds.ps _<_ μ-parse-block t) parse-block.Pre
+
+abbrev parse-if-at : ℕ → In 2 parse-if-kinds.ps
+parse-if-at t = and 2 parse-if-kinds.ps (is 2 parse-if-kinds.ps μ-parse-if t) parse-if.Pre
+
+abbrev parse-if-below : ℕ → In 2 parse-if-kinds.ps
+parse-if-below t =
+    and 2 parse-if-kinds.ps (falls 2 parse-if-kinds.ps _<_ μ-parse-if t) parse-if.Pre
 
 abbrev parse-instr-at : ℕ → In 2 parse-instr-kinds.ps
 parse-instr-at t =
@@ -63,6 +76,16 @@ parse-block-calls t = (
   parse-instr.Post,
 )
 
+abbrev parse-if-calls : ℕ → parse-if-lts.Claims
+parse-if-calls t = (
+  skip-reads.Asked,
+  skip-reads.Learnt,
+  parse-test-reads.Asked,
+  parse-test-reads.Learnt,
+  parse-block-below t,
+  parse-block.Post,
+)
+
 abbrev parse-instr-calls : ℕ → parse-instr-lts.Claims
 parse-instr-calls t = (
   peek-reads.Asked,
@@ -75,6 +98,8 @@ parse-instr-calls t = (
   parse-test-reads.Learnt,
   parse-block-below t,
   parse-block.Post,
+  parse-if-below t,
+  parse-if.Post,
   parse-write-reads.Asked,
   parse-write-reads.Learnt,
   parse-call-reads.Asked,
@@ -83,8 +108,9 @@ parse-instr-calls t = (
   parse-select-reads.Learnt,
 )
 
-pub +parse-block+parse-instr-spec : {M : Type 1} → statement M
-+parse-block+parse-instr-spec = close μ-parse-block μ-parse-instr (λ t. parse-block-lts.spec (parse-block-calls t)
+pub +parse-block+parse-if+parse-instr-spec : {M : Type 1} → statement M
++parse-block+parse-if+parse-instr-spec =
+    close μ-parse-block μ-parse-if μ-parse-instr (λ t. parse-block-lts.spec (parse-block-calls t)
     (parse-block-at t)
     parse-block.Post
     parse-block-Inv-loop
@@ -104,30 +130,33 @@ pub +parse-block+parse-instr-spec : {M : Type 1} → statement M
     (λ c. search block-ways)
     (λ c. search needs)
     (λ c. search block-ways))
+    (λ t. parse-if-lts.spec (parse-if-calls t)
+    (parse-if-at t)
+    parse-if.Post
+    (λ c. search needs)
+    (λ c. search needs)
+    (λ c κs. search needs)
+    (λ c κs. search needs)
+    (λ c κs. search needs)
+    (λ c κs. search needs)
+    (λ c κs. search needs)
+    (λ c κs. search needs)
+    (λ c. search needs)
+    (λ c. search if-ways))
     λ t. parse-instr-lts.spec (parse-instr-calls t)
     (parse-instr-at t)
     parse-instr.Post
+    (λ c. search needs)
     (λ c κs. search needs)
     (λ c κs. search needs)
     (λ c. search needs)
     (λ c. search instr-ways)
     (λ c κs. search needs)
     (λ c κs. search needs)
-    (λ c. search needs)
     (λ c κs. search needs)
-    (λ c. search needs)
     (λ c κs. search needs)
     (λ c. search needs)
     (λ c. search instr-ways)
-    (λ c κs. search needs)
-    (λ c κs. search needs)
-    (λ c. search needs)
-    (λ c κs. search needs)
-    (λ c. search needs)
-    (λ c κs. search needs)
-    (λ c. search needs)
-    (λ c κs. search needs)
-    (λ c. search needs)
     (λ c κs. search needs)
     (λ c. search needs)
     (λ c. search instr-ways)
