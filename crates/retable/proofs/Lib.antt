@@ -16,3 +16,5 @@ pub mod Nesting
 pub mod Framing
 -- heads and locals
 pub mod Heading
+-- a whole text
+pub mod Assembling

@@ -10,3 +10,5 @@ pub mod Lines
 pub mod Blocks
 -- lines around the bodies
 pub mod Frames
+-- definitions, and a whole text: read Reparses
+pub mod Whole

@@ -6,3 +6,4 @@ pub mod exprs;
 pub mod frames;
 pub mod lines;
 pub mod pieces;
+pub mod whole;
