@@ -220,7 +220,7 @@ module _ {x o o₁ o₂ : List ℕ} {row row₁ : List ℕ} {q : ℕ} {f : Found
       let stands = stands-put (all .entries) (omega (arith, s .procs .high)) (omega (arith, s .procs .high)) in
       let no-mains : p .mains ≡ [] = none (p .mains) (s .threads .high) in
       let ends : entries ++ each (bytes 2) (p .sizes) ≡ middle (middleOf p) =
-      ap (λ l. entries ++ l) (sym (append-nil (each (bytes 2) (p .sizes)) ) ∙ ap (λ ms. each (bytes 2) (p .sizes) ++ each (bytes 2) ms) (sym no-mains))
+      ap (λ l. entries ++ l) (sym (append-nil (each (bytes 2) (p .sizes))) ∙ ap (λ ms. each (bytes 2) (p .sizes) ++ each (bytes 2) ms) (sym no-mains))
       in
       put-then bodies (middle (middleOf p)) (all .code) (put-same ends (M .gives p s e entries stands))
 

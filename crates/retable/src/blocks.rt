@@ -91,7 +91,14 @@ fn parse_instr(x: &[u8], at: usize, depth: u8, width: usize, out: &mut [u8], to:
 }
 
 // The block at a place, at most `depth` blocks one in the other, whose lines have so many spaces.
-pub fn parse_block(x: &[u8], at: usize, depth: u8, width: usize, out: &mut [u8], to: usize) -> Parsed
+pub fn parse_block(
+    x: &[u8],
+    at: usize,
+    depth: u8,
+    width: usize,
+    out: &mut [u8],
+    to: usize,
+) -> Parsed
     requires { ⌜ (2 ≤ width) × (width + 2 * depth ≤ 64) ⌝ }
     ensures { λ r. ⌜ ParsesBlock (now (x .entry)) at depth width (now (out .entry)) to (now (out .exit)) r ⌝ }
 {
