@@ -1,7 +1,7 @@
 -- What each run call answers and leaves in the lent buffers, for every input. Document 01, "Numbers of refusal": 1 to 8 of the
 -- table, then 11 and 12. "A run answers 0 with its end, its steps, its unused entries and its events, those not written included."
 use Prim.Native.Nat.{ℕ, _*_}
-use mathlib.Core.List.{List, []}
+use mathlib.Core.List.{List, [], map}
 use mathlib.Core.Bool.{Bool, true, false}
 use lib.ListN.{length}
 use lib.Dec.{ltb, leb}
@@ -96,6 +96,22 @@ concurrentOutcome ts cs es p =
 -- the call, on table t and schedule ts, with the lent buffers cs for cells and es for events
 abbrev pub concurrentCall : List ℕ → List ℕ → List ℕ → List ℕ → Outcome
 concurrentCall t ts cs es = runAs concurrent (verdict concurrent t) (concurrentOutcome ts cs es) ts cs es
+
+-- ---- the plain run: request #109
+
+-- "events (0 in their label bytes)"
+abbrev pub unlabelled : Event → Event
+unlabelled e = record { thread = e .thread; way = e .way; place = e .place; index = e .index; value = e .value; label = 0 }
+
+-- "the same end, reason, cells, counts and events" otherwise: the same run
+abbrev pub plainOutcome : List ℕ → List ℕ → List ℕ → Program Plain → Outcome
+plainOutcome ts cs es p =
+    let r : P.Ran = concurrentRun p ts in
+    result (r .how) (r .steps) (r .unused) (r .state .memory) (map unlabelled (r .events)) cs es
+
+-- "It refuses exactly what the first refuses"
+abbrev pub plainCall : List ℕ → List ℕ → List ℕ → List ℕ → Outcome
+plainCall t ts cs es = runAs concurrent (verdict concurrent t) (plainOutcome ts cs es) ts cs es
 
 -- ---- the sequential run
 

@@ -19,7 +19,7 @@ use Rattle.semantics.specs.Step.{Moved}
 use Rattle.semantics.specs.Threads.{used, blocked, first-instr}
 use Rattle.semantics.specs.Copy.{Config, Next, ended, goes, choose}
 use Rattle.semantics.specs.Buffers.{cells, eventBytes}
-use Rattle.semantics.specs.Calls.{Outcome, scheduled, concurrentCall, sequentialCall}
+use Rattle.semantics.specs.Calls.{Outcome, scheduled, concurrentCall, plainCall, sequentialCall}
 
 -- an instruction, then a block
 infixr 55 _then_
@@ -206,6 +206,15 @@ pub labels-of-events :
     × (run (lent 25) ≡ told 0 6 0 3 0 (yes ++ seven) (logged 0 0 0 0 zeroCell 2 ++ lent 12))
     × (run (lent 12) ≡ told 0 6 0 3 0 (yes ++ seven) (lent 12))
 labels-of-events = (refl, refl, refl)
+
+-- THE PLAIN RUN: "the same end, reason, cells, counts and events (0 in their label bytes)"
+pub plain-run :
+    let seven : List ℕ = 1 ∷ 7 ∷ 0 ∷ 0 ∷ 0 ∷ [] in
+    let run : List ℕ → Outcome = plainCall (table concurrent L) (replicate 6 0) (lent 10) in
+    (run (lent 39) ≡ told 0 6 0 3 0 (yes ++ seven) (logged 0 0 0 0 zeroCell 0 ++ logged 0 1 0 1 seven 0 ++ logged 0 1 0 0 yes 0))
+    × (run (lent 25) ≡ told 0 6 0 3 0 (yes ++ seven) (logged 0 0 0 0 zeroCell 0 ++ lent 12))
+    × (plainCall (table concurrent L) (0 ∷ 1 ∷ []) (lent 10) (lent 39) ≡ refused 11 (lent 10) (lent 39))
+plain-run = (refl, refl, refl)
 
 -- x := location 0, of size 1; x[0] := 5; call 1 with x; y := x[0]
 abbrev R : Program Plain
