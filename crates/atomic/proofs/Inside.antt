@@ -110,7 +110,7 @@ before w q (goes a k e b v) = goes a k e b (record {
 })
 
 -- a block without tags
-plain-in : {t : List ℕ} {i d j : ℕ} {b : Block ℕ} → BlockAt t i d b j → BlockIn t i d
+pub plain-in : {t : List ℕ} {i d j : ℕ} {b : Block ℕ} → BlockAt t i d b j → BlockIn t i d
 plain-in {j = j} {b} h = record { block = tag tt b; next = j; there = tag-at tt h; inside = omega (arith, block-inside h); deep = block-deep h }
 
 -- it ends where it was counted to

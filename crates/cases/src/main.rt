@@ -60,6 +60,8 @@ const PRICES: u8 = 8;
 
 const MEND: u8 = 11;
 
+const RUN_PLAIN: u8 = 12;
+
 const GREETING: u8 = 90;
 
 // One more whenever a request, or a line that answers one, changes its form. `zaru/engine.py` and `second/src/batch.rs` have it too.
@@ -115,7 +117,7 @@ fn lend_out(request: Request, table: &[u8], out: &mut [u8]) {
     }
 }
 
-// Runs one of the two machines.
+// Runs one of the machines.
 fn run(
     request: Request,
     table: &[u8],
@@ -125,6 +127,9 @@ fn run(
 ) -> RunAnswer {
     if request.call == RUN_CONCURRENT {
         return machines::run_concurrent(table, schedule, cells, events);
+    }
+    if request.call == RUN_PLAIN {
+        return machines::run_plain(table, schedule, cells, events);
     }
     machines::run_sequential(table, schedule, request.budget, request.h, cells, events)
 }
@@ -266,6 +271,7 @@ fn answer(request: Request, table: &[u8], schedule: &[u8]) -> bool {
         TRANSLATE => translate(request, table),
         RUN_CONCURRENT => run_machine(request, table, schedule),
         RUN_SEQUENTIAL => run_machine(request, table, schedule),
+        RUN_PLAIN => run_machine(request, table, schedule),
         RUN_PROGRAM => run_program(table),
         BENCH => try_orders(request, table),
         PRICES => print::prices(PRICES, prices::prices(table, request.budget)),

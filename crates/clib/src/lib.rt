@@ -12,7 +12,7 @@ ghost use lib.ListN.{set};
 ghost use Rattle.format.specs.Syntax.{concurrent, sequential};
 ghost use Rattle.format.specs.Calls.{readCall};
 ghost use Rattle.translation.specs.Calls.{translateCall};
-ghost use Rattle.semantics.specs.Calls.{concurrentCall, sequentialCall};
+ghost use Rattle.semantics.specs.Calls.{concurrentCall, plainCall, sequentialCall};
 ghost use Rattle.allotments.specs.Bench.{benchCall};
 ghost use Rattle.agreement.specs.Prices.{pricesCall};
 ghost use Rattle.mending.specs.Mending.{kindNumbered, mendCall};
@@ -151,6 +151,23 @@ pub extern "C" fn zaru_run_concurrent(
         (now (answer .entry))) ⌝ }
 {
     let r = machines::run_concurrent(table, schedule, cells, events);
+    store_run(answer, r);
+}
+
+// Runs a concurrent table as the report has it, without labels.
+#[no_mangle]
+pub extern "C" fn zaru_run_plain(
+    table: &[u8],
+    schedule: &[u8],
+    cells: &mut [u8],
+    events: &mut [u8],
+    answer: &mut [u64],
+)
+    ensures { λ _. ⌜ _≡_ {A = Ran} (record { cells = now (cells .exit); events = now (events .exit); answer = now (answer .exit) })
+        (ran (plainCall (now (table .entry)) (now (schedule .entry)) (now (cells .entry)) (now (events .entry)))
+        (now (answer .entry))) ⌝ }
+{
+    let r = machines::run_plain(table, schedule, cells, events);
     store_run(answer, r);
 }
 

@@ -127,19 +127,19 @@ pub ruleset begin-ways = (begins-none, begins-more, begins-main, begins-all)
 -- ---- the first stacks
 
 -- as many as mains
-length-starts : (ps : List (Proc ℕ)) (ms : List ℕ) → length (P.starts ps ms) ≡ length ms
+pub length-starts : (ps : List (Proc ℕ)) (ms : List ℕ) → length (P.starts ps ms) ≡ length ms
 length-starts ps [] = refl
 length-starts ps (m ∷ ms) = ap suc (length-starts ps ms)
 
 -- each is that of its main
-starts-at : (ps : List (Proc ℕ)) (ms : List ℕ) (i : ℕ) {s : Stack ℕ} → at (P.starts ps ms) i ≡ is s
+pub starts-at : (ps : List (Proc ℕ)) (ms : List ℕ) (i : ℕ) {s : Stack ℕ} → at (P.starts ps ms) i ≡ is s
     → (m : ℕ) × (at ms i ≡ is m) × (s ≡ P.begun m (at ps m))
 starts-at ps [] i e = missing e
 starts-at ps (m ∷ ms) zero e = (m, refl, sym (is-inj e))
 starts-at ps (m ∷ ms) (suc i) e = starts-at ps ms i e
 
 -- a procedure is there when it is labelled too
-labels-there : (ps : List (Proc Plain)) (l m : ℕ) {q : Proc Plain} → at ps m ≡ is q → (r : Proc ℕ) × (at (labels l ps) m ≡ is r)
+pub labels-there : (ps : List (Proc Plain)) (l m : ℕ) {q : Proc Plain} → at ps m ≡ is q → (r : Proc ℕ) × (at (labels l ps) m ≡ is r)
 labels-there [] l m e = missing e
 labels-there (p ∷ ps) l zero e = (_, refl)
 labels-there (p ∷ ps) l (suc m) e = labels-there ps (l + suc (count (p .body))) m e

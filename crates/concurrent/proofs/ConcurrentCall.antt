@@ -38,7 +38,7 @@ use Rattle.concurrent.specs.declared.machine.Ran.{Ran}
 use Rattle.semantics.specs.Memory.{Memory}
 use Rattle.semantics.specs.Threads as P
 use Rattle.semantics.specs.Buffers.{cells}
-use Rattle.semantics.specs.Calls.{Outcome, refusal, untouched, maxEntries, scheduled, roomy, runAs, concurrentOutcome, concurrentCall, result}
+use Rattle.semantics.specs.Calls.{Outcome, refusal, untouched, maxEntries, scheduled, roomy, runAs, concurrentOutcome, result}
 use Rattle.engine.specs.Work.{frameWords, threadWords, programWords, flat, Bases, sizesAt, Starts, Writes}
 use Rattle.atomic.specs.Threaded.{threadFrames}
 use Rattle.concurrent.specs.Concurrent.{scheduledBelow, SaysScheduled, Entries, MainsAt, Begins, Starting, RanAs, Runs, Accepted, Outcomes}
@@ -72,7 +72,7 @@ module _ {t : List ℕ} {P M T c : ℕ} (a : Accepted t P M T c) where
       W .gives (a .program) formed (sym (a .procs)) (a .sound .labels) .0
 
   -- where its mains stand
-  mains-at : length t - trailerSize - 2 * T ≡ recordsAt (a .program) + recordSize * length (a .program .procs) + 2 * length (a .program .sizes)
+  pub mains-at : length t - trailerSize - 2 * T ≡ recordsAt (a .program) + recordSize * length (a .program .procs) + 2 * length (a .program .sizes)
   mains-at = omega (arith, trailer-at concurrent (a .program) (a .same), length-table concurrent (a .program) (a .same), a .threads)
 
   -- the main of thread k
@@ -117,7 +117,7 @@ module _ {t : List ℕ} {P M T c : ℕ} (a : Accepted t P M T c) where
       rw (place, a .places) (sizes-stand t (0 + length bodies + length records) (p .sizes) (front sizes mains numbers) low)
 
 -- zeros
-zeros : (n k : ℕ) → _≡_ {A = ℕ} (getD (replicate n 0) k 0) 0
+pub zeros : (n k : ℕ) → _≡_ {A = ℕ} (getD (replicate n 0) k 0) 0
 zeros n k = by-test (ltb k n)
     (λ e. getD-replicate n k 0 0 (ltb-true k n e))
     (λ e. List·getD-eq-default (replicate n 0) 0 (omega (arith, ltb-false k n e, length-replicate {A = ℕ} n 0)))
@@ -296,10 +296,18 @@ module _ (ts cs es : List ℕ) (go : Program Plain → Outcome) (p : Program Pla
   as-ran : scheduled concurrent p ts ≡ true → roomy p cs ≡ true → runAs concurrent (accepted p) go ts cs es ≡ go p
   as-ran e f = rw (e, f, runAs)
 
-module _ (t : List ℕ) (h : Bytes t) (ts cs es : List ℕ) where
+-- what a call leaves
+abbrev left : RunAnswer → List ℕ → List ℕ → Outcome
+left a cs es = record { answer = a; cells = cs; events = es }
+
+-- of the first engine or of another one, whose runs of accepted tables leave `go`
+module _ (t : List ℕ) (h : Bytes t) (ts cs es : List ℕ) (go : Program Plain → Outcome) where
+  -- what the call is to leave
+  abbrev call : Outcome
+  call = runAs concurrent (verdict concurrent t) go ts cs es
+
   -- 1 to 8
-  pub call-refused : {r : ReadAnswer} {a : RunAnswer} → r ≡ readCall concurrent t → (r .number ≡ 0 → ⊥) → a ≡ refusal (r .number)
-      → _≡_ {A = Outcome} (record { answer = a; cells = cs; events = es }) (concurrentCall t ts cs es)
+  pub call-refused : {r : ReadAnswer} {a : RunAnswer} → r ≡ readCall concurrent t → (r .number ≡ 0 → ⊥) → a ≡ refusal (r .number) → left a cs es ≡ call
   call-refused q z e = rw (read-refused t h q z, e)
 
   module _ {r : ReadAnswer} {b : Bool} (q : r ≡ readCall concurrent t) (z : r .number ≡ 0) (s : SaysScheduled (r .threads) ts b) where
@@ -308,11 +316,10 @@ module _ (t : List ℕ) (h : Bytes t) (ts cs es : List ℕ) where
     asked-of A = ap (λ n. scheduledBelow n ts) (sym (A .threads)) ∙ sym (s .same)
 
     -- 11: "schedule over 4,096 entries, or (concurrent) an entry not below T"
-    pub call-unscheduled : {a : RunAnswer} → not b ≡ true → a ≡ refusal 11
-        → _≡_ {A = Outcome} (record { answer = a; cells = cs; events = es }) (concurrentCall t ts cs es)
+    pub call-unscheduled : {a : RunAnswer} → not b ≡ true → a ≡ refusal 11 → left a cs es ≡ call
     call-unscheduled n e =
         let A = read-accepted t h q z in
-        rw (A .read, e) (sym (as-unscheduled ts cs es (concurrentOutcome ts cs es) (A .program) (asked-of A ∙ not-passed b n)))
+        rw (A .read, e) (sym (as-unscheduled ts cs es go (A .program) (asked-of A ∙ not-passed b n)))
 
     module _ (k : not b ≡ false) where
       -- the entries of the schedule
@@ -320,20 +327,19 @@ module _ (t : List ℕ) (h : Bytes t) (ts cs es : List ℕ) where
       call-entries = entries-of (r .threads) ts (sym (s .same) ∙ not-failed b k)
 
       -- 12: "cell buffer shorter than 5 bytes a cell"
-      pub call-short : {a : RunAnswer} → length cs < cellSize * r .cells → a ≡ refusal 12
-          → _≡_ {A = Outcome} (record { answer = a; cells = cs; events = es }) (concurrentCall t ts cs es)
+      pub call-short : {a : RunAnswer} → length cs < cellSize * r .cells → a ≡ refusal 12 → left a cs es ≡ call
       call-short m e =
           let A = read-accepted t h q z in
           let short : roomy (A .program) cs ≡ false = rw (← A .cells) (lt-leb (cellSize * r .cells) (length cs) m) in
-          rw (A .read, e) (sym (as-short ts cs es (concurrentOutcome ts cs es) (A .program) (asked-of A ∙ not-failed b k) short))
+          rw (A .read, e) (sym (as-short ts cs es go (A .program) (asked-of A ∙ not-failed b k) short))
 
       -- the run
       pub call-ran : {a : RunAnswer} {cs′ es′ : List ℕ} → cellSize * r .cells ≤ length cs
-          → Outcomes t (r .procedures) (r .locations) (r .threads) (r .cells) ts cs es a cs′ es′
-          → _≡_ {A = Outcome} (record { answer = a; cells = cs′; events = es′ }) (concurrentCall t ts cs es)
+          → ((A : Accepted t (r .procedures) (r .locations) (r .threads) (r .cells)) → Entries (r .threads) ts → cellSize * r .cells ≤ length cs
+          → left a cs′ es′ ≡ go (A .program))
+          → left a cs′ es′ ≡ call
       call-ran m O =
           let A = read-accepted t h q z in
           let room : roomy (A .program) cs ≡ true = rw (← A .cells) (le-leb (cellSize * r .cells) (length cs) m) in
-          O .same A call-entries m
-          ∙ sym (ap (λ (v : Verdict). runAs concurrent v (concurrentOutcome ts cs es) ts cs es) (A .read)
-          ∙ as-ran ts cs es (concurrentOutcome ts cs es) (A .program) (asked-of A ∙ not-failed b k) room)
+          O A call-entries m
+          ∙ sym (ap (λ (v : Verdict). runAs concurrent v go ts cs es) (A .read) ∙ as-ran ts cs es go (A .program) (asked-of A ∙ not-failed b k) room)

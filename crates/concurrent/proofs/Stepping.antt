@@ -45,26 +45,26 @@ use Rattle.atomic.specs.Laws.Threading.{threaded-on, threaded-back, threaded-ca
 
 module _ (p : Program ℕ) (t : ℕ) (z : P.State) {f : Frame ℕ} {s : Stack ℕ} (e : at (z .threads) t ≡ is (f ∷ s)) where
   -- what the code of the uppermost frame does, the thread does
-  step-is : (r : Moved ℕ) → P.code (p .procs) t (f .code) (f .proc) (f .env) s (z .memory) ≡ has r
+  pub step-is : (r : Moved ℕ) → P.code (p .procs) t (f .code) (f .proc) (f .env) s (z .memory) ≡ has r
       → P.threadStep p t z ≡ has (record { state = record { threads = set (z .threads) t (r .stack); memory = r .memory }; events = r .events })
   step-is r g = rw (e, g)
 
   -- and where it blocks, the thread does
-  step-blocks : {why : Reason} → P.code (p .procs) t (f .code) (f .proc) (f .env) s (z .memory) ≡ lacks why → P.threadStep p t z ≡ lacks why
+  pub step-blocks : {why : Reason} → P.code (p .procs) t (f .code) (f .proc) (f .env) s (z .memory) ≡ lacks why → P.threadStep p t z ≡ lacks why
   step-blocks g = rw (e, g)
 
 -- a finished thread blocks
-step-finished : (p : Program ℕ) (t : ℕ) (z : P.State) → at (z .threads) t ≡ is [] → P.threadStep p t z ≡ lacks FinishedThread
+pub step-finished : (p : Program ℕ) (t : ℕ) (z : P.State) → at (z .threads) t ≡ is [] → P.threadStep p t z ≡ lacks FinishedThread
 step-finished p t z e = rw e
 
 -- the body of procedure m
-body-of : (ps : List (Proc ℕ)) (m : ℕ) {q : Proc ℕ} → at ps m ≡ is q → bodyOf ps m ≡ q .body
+pub body-of : (ps : List (Proc ℕ)) (m : ℕ) {q : Proc ℕ} → at ps m ≡ is q → bodyOf ps m ≡ q .body
 body-of [] m e = missing e
 body-of (p ∷ ps) zero e = rw (is-inj e)
 body-of (p ∷ ps) (suc m) e = body-of ps m e
 
 -- a frame that was entered has all locals of its procedure
-entered-long : (q : Proc ℕ) (vs : List Value) → q .params ≤ q .locals → length vs ≡ q .params
+pub entered-long : (q : Proc ℕ) (vs : List Value) → q .params ≤ q .locals → length vs ≡ q .params
     → length (map is vs ++ replicate (q .locals - length vs) nothing) ≡ q .locals
 entered-long q vs h e =
     let left : Env = replicate (q .locals - length vs) nothing in

@@ -43,7 +43,7 @@ use Rattle.concurrent.proofs.TurningAsked.{Means, asked}
 -- ---- the step that was decided
 
 -- its local or its cell is there
-step-fits : (t : List ℕ) (i : ℕ) (a : Atomic) (k : Act) (j : ℕ) → ActAt t i (length (a .env)) k j → (u : Step) → Right (a .env) (a .memory) k j u
+pub step-fits : (t : List ℕ) (i : ℕ) (a : Atomic) (k : Act) (j : ℕ) → ActAt t i (length (a .env)) k j → (u : Step) → Right (a .env) (a .memory) k j u
     → StepFits a u
 step-fits t i a k j h (S.Assign x v m) r = target-below t i (length (a .env)) k j h (r .1)
 step-fits t i a k j h (S.Read x l z v m) r = target-below t i (length (a .env)) k j h (r .1)
@@ -55,7 +55,7 @@ step-fits t i a k j h (S.Select c e m) r = tt
 step-fits t i a k j h (S.Blocked why) r = tt
 
 -- it ends there
-step-past : (ρ : Env) (η : Memory) (k : Act) (j : ℕ) (u : Step) → 1 ≤ j → Right ρ η k j u → Past (endOf u - 1) u
+pub step-past : (ρ : Env) (η : Memory) (k : Act) (j : ℕ) (u : Step) → 1 ≤ j → Right ρ η k j u → Past (endOf u - 1) u
 step-past ρ η k j (S.Assign x v m) l r = omega (arith, r .0)
 step-past ρ η k j (S.Read x p z v m) l r = omega (arith, r .0)
 step-past ρ η k j (S.Write p z c v m) l r = omega (arith, r .0)
@@ -73,7 +73,7 @@ framed-front ρ σ f = record {
 }
 
 -- the frame of a call: its arguments, and all other words cleared
-framed-called : {ls ls′ : List ℕ} {fb : ℕ} (vs : List Value) (n : ℕ) → Framed ls fb (map is vs) → length vs ≤ n → n ≤ frameWords
+pub framed-called : {ls ls′ : List ℕ} {fb : ℕ} (vs : List Value) (n : ℕ) → Framed ls fb (map is vs) → length vs ≤ n → n ≤ frameWords
     → fb + frameWords ≤ length ls
     → Clears ls ls′ (fb + length vs) (fb + frameWords) → Framed ls′ fb (map is vs ++ replicate (n - length vs) nothing)
 framed-called {ls} {ls′} {fb} vs n f h l r c =
@@ -87,7 +87,7 @@ framed-called {ls} {ls′} {fb} vs n f h l r c =
     (subst (Framed ls′ fb) parts (framed-entered vs f (omega arith) r c))
 
 -- a call's count of arguments
-call-count : (t : List ℕ) (i n : ℕ) (k : Act) (j : ℕ) {q : ℕ} → ActAt t i n k j → calleeOf k ≡ is q
+pub call-count : (t : List ℕ) (i n : ℕ) (k : Act) (j : ℕ) {q : ℕ} → ActAt t i n k j → calleeOf k ≡ is q
     → (i + 4 ≤ length t) × (getD t (i + 3) 0 ≡ length (argsOf k))
 call-count t i n (calls m es) j h e = (h .inside, sym (h .args .count))
 call-count t i n (assigns x v) j h e = missing e
@@ -97,7 +97,7 @@ call-count t i n (tests v) j h e = missing e
 call-count t i n returns j h e = missing e
 
 -- all steps but a return, a test and a call
-abbrev Plainly : Step → Type 0
+abbrev pub Plainly : Step → Type 0
 Plainly u = OneOf (1 ∷ 2 ∷ 3 ∷ 6 ∷ 7 ∷ []) (tagOf the-type u)
 
 module _ {t : List ℕ} {thread label fb : ℕ} {bs : List ℕ} {i : ℕ} {ls cs o : List ℕ} {n : ℕ} where

@@ -36,7 +36,7 @@ use Rattle.concurrent.specs.Laws.Leading.{Leads, leads}
 use Rattle.concurrent.proofs.TurningAtomic.{turn-inside}
 
 -- the first instruction of code, if it is decided
-code-instr : (p : Program Plain) (thread m a : ℕ) (i : Instr ℕ) (c : Block ℕ) (x : Atomic) (s : Stack ℕ) {k : Act} → actOf i ≡ is k
+pub code-instr : (p : Program Plain) (thread m a : ℕ) (i : Instr ℕ) (c : Block ℕ) (x : Atomic) (s : Stack ℕ) {k : Act} → actOf i ≡ is k
     → codeOf p thread m (step a i c) x s ≡ F.instr (labelled p .procs) thread a m (x .env) a i c s (x .memory)
 code-instr p thread m a (assign x e) c y s q = refl
 code-instr p thread m a (write y o e) c z s q = refl
@@ -48,7 +48,7 @@ code-instr p thread m a (atomic b) c x s q = missing q
 code-instr p thread m a (select x y) c z s q = missing q
 
 -- what is not an atomic block is an act
-plain-act : {t : List ℕ} {i d : ℕ} (m : ℕ) (s : Instr ℕ) {j : ℕ} → InstrAt t i d s j → (getD t i 0 ≡ 0x26 → ⊥)
+pub plain-act : {t : List ℕ} {i d : ℕ} (m : ℕ) (s : Instr ℕ) {j : ℕ} → InstrAt t i d s j → (getD t i 0 ≡ 0x26 → ⊥)
     → allowedI (bodyIn concurrent m) s ≡ true → (k : Act) × (actOf s ≡ is k)
 plain-act m (assign x e) h z w = (assigns x e, refl)
 plain-act m (write y o e) h z w = (writes y o e, refl)
@@ -60,7 +60,7 @@ plain-act m (atomic b) h z w = absurd (z (S′.first (h .stands)))
 plain-act m (select x y) h z w = absurd (never w)
 
 -- its arguments are those of the instruction, and few
-act-args : (p : Program Plain) (X : ℕ) → ((q : ℕ) (r : Proc ℕ) → at (labelled p .procs) q ≡ is r → (r .params ≤ r .locals) × (r .locals ≤ maxLocals))
+pub act-args : (p : Program Plain) (X : ℕ) → ((q : ℕ) (r : Proc ℕ) → at (labelled p .procs) q ≡ is r → (r .params ≤ r .locals) × (r .locals ≤ maxLocals))
     → (s : Instr ℕ) (k : Act) → actOf s ≡ is k → namedI (labelled p) X s ≡ true → (argsOf k ≡ argsIn s) × (length (argsOf k) ≤ frameWords)
 act-args p X few (assign x e) k q n = rw (← is-inj q) (refl, omega arith)
 act-args p X few (write y o e) k q n = rw (← is-inj q) (refl, omega arith)
@@ -76,7 +76,7 @@ act-args p X few (atomic b) k q n = missing q
 act-args p X few (select x y) k q n = missing q
 
 -- it ends behind where it begins
-act-past : (t : List ℕ) (i n : ℕ) (s : Instr ℕ) (k : Act) {j : ℕ} → actOf s ≡ is k → ActAt t i n k j → i < j
+pub act-past : (t : List ℕ) (i n : ℕ) (s : Instr ℕ) (k : Act) {j : ℕ} → actOf s ≡ is k → ActAt t i n k j → i < j
 act-past t i n (assign x e) k {j} q h = let w = subst (λ k. ActAt t i n k j) (sym (is-inj q)) h in omega (arith, expr-inside (w .source))
 act-past t i n (write y o e) k {j} q h =
     let w = subst (λ k. ActAt t i n k j) (sym (is-inj q)) h in

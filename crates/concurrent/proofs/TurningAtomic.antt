@@ -32,11 +32,11 @@ use Rattle.atomic.proofs.Inside.{came, stopped}
 use Rattle.atomic.proofs.InsideBlock.{bare, same-later, chain-none}
 
 -- what an atomic block leaves, before code c of procedure m and above the frames s
-abbrev leaves : ℕ → Block ℕ → Stack ℕ → Atomic → Try (Moved ℕ)
+abbrev pub leaves : ℕ → Block ℕ → Stack ℕ → Atomic → Try (Moved ℕ)
 leaves m c s r = has (record { stack = record { proc = m; env = r .env; code = c } ∷ s; memory = r .memory; events = r .events })
 
 -- a block that is a little less deep
-deeper : {t : List ℕ} {i : ℕ} {b : Block ℕ} {j : ℕ} → BlockAt t i (maxNesting - 1) b j → BlockAt t i maxNesting b j
+pub deeper : {t : List ℕ} {i : ℕ} {b : Block ℕ} {j : ℕ} → BlockAt t i (maxNesting - 1) b j → BlockAt t i maxNesting b j
 deeper h = record { stands = h .stands; fits = (omega (arith, h .fits .0), h .fits .1) }
 
 module _ {t : List ℕ} {thread label fb : ℕ} {bs : List ℕ} {i : ℕ} {ls cs o : List ℕ} {n : ℕ} where

@@ -39,7 +39,7 @@ struct Ran {
 }
 
 // Whether all threads are finished.
-fn finished(depths: &[usize; THREADS], threads: usize) -> bool
+pub fn finished(depths: &[usize; THREADS], threads: usize) -> bool
     requires { ⌜ threads ≤ mostThreads ⌝ }
     ensures { λ r. ⌜ AllDone (now (depths .entry)) threads r ⌝ }
 {

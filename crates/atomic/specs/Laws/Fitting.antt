@@ -78,7 +78,7 @@ module _ (t : List ℕ) (thread label i d j : ℕ) (p : Program ℕ) (X m : ℕ)
   Fitting (S.Blocked r) = Simple thread label j s a (S.Blocked r)
 
 -- the blocks of an if
-if-blocks : {t : List ℕ} {i d j : ℕ} {e : Expr} {b c : Block ℕ} → InstrAt t i d (if e b c) j
+pub if-blocks : {t : List ℕ} {i d j : ℕ} {e : Expr} {b c : Block ℕ} → InstrAt t i d (if e b c) j
     → (l : ℕ) × BlockAt t (i + 1 + length (expr e)) d b l × BlockAt t l d c j
 if-blocks {t} {i} {d} {j} {e} {b} {c} h =
     let w : IfAt t i d (if e b c) j = if-here h (first (h .stands)) in

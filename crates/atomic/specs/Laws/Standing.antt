@@ -128,7 +128,7 @@ module _ {A : Type 0} where
     nesting-label l (step a i b) = rw (nestingI-labelI l i, nesting-label (l + countI i) b)
 
   -- so a labelled block fits where the block fits
-  fits-label : (l n : ℕ) (b : Block A) → BlockFits n b → BlockFits n (label l b)
+  pub fits-label : (l n : ℕ) (b : Block A) → BlockFits n b → BlockFits n (label l b)
   fits-label l n b h = (rw (nesting-label l b) (h .0), says-label l b (h .1))
 
 -- ---- what a body has, the code inside has

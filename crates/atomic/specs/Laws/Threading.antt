@@ -41,7 +41,7 @@ beside-two ws i v w = record {
 }
 
 -- what stands there is stored again
-set-same : {A : Type 0} (xs : List A) (i : ℕ) {x : A} → at xs i ≡ is x → set xs i x ≡ xs
+pub set-same : {A : Type 0} (xs : List A) (i : ℕ) {x : A} → at xs i ≡ is x → set xs i x ≡ xs
 set-same [] i e = missing e
 set-same (y ∷ xs) zero e = rw (is-inj e)
 set-same (y ∷ xs) (suc i) e = ap (y ∷_) (set-same xs i e)

@@ -1,6 +1,7 @@
 -- `machines::run_concurrent` meets its contract.
 use borrow.Author.Needs.{needs}
 use native.Mathlib.Omega.{arith}
+use Rattle.semantics.specs.Calls.{concurrentOutcome}
 use Rattle.reader.proofs.Verdicts.{slice-bytes}
 use Rattle.concurrent.proofs.ConcurrentCall.{accepted-cells, read-accepted, call-refused, call-unscheduled, call-entries, call-short, call-ran}
 use Rattle.machines.proofs.run_concurrent.Statement.{statement}
@@ -17,7 +18,7 @@ run-concurrent-spec =
     let known = read .before .before .before .before in
     let a = known .before .args in
     let bytes = slice-bytes (a .table .now) (known .shared-slice-known .given) in
-    call-refused (a .table .now) bytes (a .schedule .now) (a .cells .now) (a .events .now) (read .read-concurrent .ensures)
+    call-refused (a .table .now) bytes (a .schedule .now) (a .cells .now) (a .events .now) (concurrentOutcome (a .schedule .now) (a .cells .now) (a .events .now)) (read .read-concurrent .ensures)
     (c .before .if1 .taken) (c .refused .ensures))
     (λ c κs. search needs)
     (λ c κs. search needs)
@@ -27,7 +28,7 @@ run-concurrent-spec =
     let known = read .before .before .before .before in
     let a = known .before .args in
     let bytes = slice-bytes (a .table .now) (known .shared-slice-known .given) in
-    call-unscheduled (a .table .now) bytes (a .schedule .now) (a .cells .now) (a .events .now) (read .read-concurrent .ensures)
+    call-unscheduled (a .table .now) bytes (a .schedule .now) (a .cells .now) (a .events .now) (concurrentOutcome (a .schedule .now) (a .cells .now) (a .events .now)) (read .read-concurrent .ensures)
     (first .if1 .left) (c .before .before .scheduled .ensures) (c .before .if2 .taken) (c .refused2 .ensures))
     (λ c.
     let first = c .before .before .before in
@@ -46,7 +47,7 @@ run-concurrent-spec =
     let known = read .before .before .before .before in
     let a = known .before .args in
     let bytes = slice-bytes (a .table .now) (known .shared-slice-known .given) in
-    call-short (a .table .now) bytes (a .schedule .now) (a .cells .now) (a .events .now) (read .read-concurrent .ensures) (first .if1 .left)
+    call-short (a .table .now) bytes (a .schedule .now) (a .cells .now) (a .events .now) (concurrentOutcome (a .schedule .now) (a .cells .now) (a .events .now)) (read .read-concurrent .ensures) (first .if1 .left)
     (listed .scheduled .ensures) (second .if2 .left) (c .before .if3 .taken) (c .refused3 .ensures))
     (λ c κs.
     let second = c .before .before .before .before in
@@ -57,7 +58,7 @@ run-concurrent-spec =
     let a = known .before .args in
     let bytes = slice-bytes (a .table .now) (known .shared-slice-known .given) in (
       read-accepted (a .table .now) bytes (read .read-concurrent .ensures) (first .if1 .left),
-      call-entries (a .table .now) bytes (a .schedule .now) (a .cells .now) (a .events .now) (read .read-concurrent .ensures) (first .if1 .left)
+      call-entries (a .table .now) bytes (a .schedule .now) (a .cells .now) (a .events .now) (concurrentOutcome (a .schedule .now) (a .cells .now) (a .events .now)) (read .read-concurrent .ensures) (first .if1 .left)
           (listed .scheduled .ensures) (second .if2 .left),
     ))
     (λ c. search needs)
@@ -72,5 +73,5 @@ run-concurrent-spec =
     let known = read .before .before .before .before in
     let a = known .before .args in
     let bytes = slice-bytes (a .table .now) (known .shared-slice-known .given) in
-    call-ran (a .table .now) bytes (a .schedule .now) (a .cells .now) (a .events .now) (read .read-concurrent .ensures) (first .if1 .left)
-    (listed .scheduled .ensures) (second .if2 .left) (third .if3 .left) (ran .run .ensures)))
+    call-ran (a .table .now) bytes (a .schedule .now) (a .cells .now) (a .events .now) (concurrentOutcome (a .schedule .now) (a .cells .now) (a .events .now)) (read .read-concurrent .ensures) (first .if1 .left)
+    (listed .scheduled .ensures) (second .if2 .left) (third .if3 .left) (ran .run .ensures .same)))
