@@ -1,13 +1,17 @@
 -- One law for each way to read bytes and numbers.
-use Prim.Native.Nat.{ℕ, zero, suc, _+_, _*_, _-_, _^_, _≤_, _<_}
+use Prim.Native.Nat.{ℕ, zero, suc, _+_, _*_, _-_, _/_, _%_, _^_, _≤_, _<_}
 use native.Mathlib.Omega.{arith}
 use mathlib.Core.Path.{_≡_, refl, sym, ap, subst, _∙_}
-use mathlib.Core.List.{List, [], _∷_}
+use mathlib.Core.List.{List, [], _∷_, _++_}
+use mathlib.Core.Bool.{true, false}
 use lib.ListN.{length, getD, List·getD-eq-default}
-use Rattle.value.specs.Laws.Lists.{Each}
+use lib.Dec.{ltb}
+use borrow.Author.Tests.{ltb-true}
+use Rattle.value.specs.Laws.Tests.{by-test}
+use Rattle.value.specs.Laws.Lists.{Each, each-append}
 use Rattle.format.specs.Laws.Stands.{Stands, first, others, inside}
-use Rattle.ctext.specs.Pieces.{decimal}
-use Rattle.ctext.specs.Laws.Numbers.{Digit, digits-are, value, value-digits, Stops}
+use Rattle.ctext.specs.Pieces.{digits, decimal}
+use Rattle.ctext.specs.Laws.Numbers.{Digit, value, value-digits, Stops}
 use Rattle.retable.specs.Laws.Pieces.{ReadsNumber}
 use Rattle.retable.specs.declared.pieces.Numbered.{Numbered}
 
@@ -22,6 +26,15 @@ pub peek-short : (x : List ℕ) (i n : ℕ) → length x - i ≤ n → 0 ≡ get
 peek-short x i n l = sym (List·getD-eq-default x 0 {n = i + n} (omega arith))
 
 -- ---- a number
+
+-- digits are
+digits-are : (k n : ℕ) → Each Digit (digits k n)
+unfolding digits
+digits-are zero n = tt
+digits-are (suc k) n =
+    by-test (ltb n 10)
+    (λ e. rw (e, digits) (record { least = omega arith; most = omega (arith, ltb-true n 10 e) }, tt))
+    (λ e. rw (e, digits) (each-append Digit (digits k (n / 10)) _ (digits-are k (n / 10)) (record { least = omega arith; most = omega arith }, tt)))
 
 -- whatever digits stand from i on are read, behind those that came to a
 pub record ReadsDigits (x : List ℕ) (i a : ℕ) (r : Numbered) : Type 0 where

@@ -22,7 +22,7 @@ pub record Digit (c : ℕ) : Type 0 where
   pub most : c < 58
 
 -- all digits are
-pub digits-are : (k n : ℕ) → Each Digit (digits k n)
+digits-are : (k n : ℕ) → Each Digit (digits k n)
 unfolding digits
 digits-are zero n = tt
 digits-are (suc k) n =
