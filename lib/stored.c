@@ -31,7 +31,10 @@ static struct call {
     {"", 0, 0, NULL, 0},
     {"zaru_bench", ZARU_BENCH_NUMBERS, ZARU_STACK_BENCH, NULL, 0},
     {"zaru_prices", ZARU_PRICES_NUMBERS, ZARU_STACK_PRICES, NULL, 0},
+    {"zaru_c_text", ZARU_TEXT_NUMBERS, ZARU_STACK_C_TEXT, NULL, 0},
+    {"zaru_from_c_text", ZARU_TEXT_NUMBERS, ZARU_STACK_FROM_C_TEXT, NULL, 0},
     [MEND] = {"zaru_mend", ZARU_MEND_NUMBERS, ZARU_STACK_MEND, NULL, 0},
+    {"zaru_run_plain", ZARU_RUN_NUMBERS, ZARU_STACK_RUN_PLAIN, NULL, 0},
 };
 enum { CALLS = sizeof calls / sizeof *calls };
 
@@ -40,13 +43,29 @@ static int is_call(unsigned op)
     return op < CALLS && calls[op].numbers > 0;
 }
 
+/* Which buffers a call writes. The mender writes its list of changes where others write events, and its table. */
+static int writes_out(unsigned op)
+{
+    return op == 3 || op == 9 || op == 10;
+}
+
+static int writes_cells(unsigned op)
+{
+    return op == 4 || op == 5 || op == 7 || op == 12;
+}
+
+static int writes_events(unsigned op)
+{
+    return op == 4 || op == 5 || op == MEND || op == 12;
+}
+
 /* One case: what is asked for, the lent buffers, and the answer's numbers. */
 static struct {
     unsigned op, shown;
     const uint8_t *table, *schedule;
     size_t table_length, schedule_length, h, cells_length, events_length, out_length;
     uint64_t budget;
-    uint8_t cells[45056], events[4096 * ZARU_EVENT], out[70000], copy[66000];
+    uint8_t cells[45056], events[4096 * ZARU_EVENT], out[ZARU_LONGEST_TEXT + 97], copy[66000];
     uint64_t answer[ZARU_BENCH_NUMBERS];
 } job;
 
@@ -102,11 +121,21 @@ static void *work(void *unused)
         zaru_run_sequential(job.table, job.table_length, job.schedule, job.schedule_length, job.budget, job.h, job.cells,
                             job.cells_length, job.events, job.events_length, job.answer, ZARU_RUN_NUMBERS);
         break;
+    case 12:
+        zaru_run_plain(job.table, job.table_length, job.schedule, job.schedule_length, job.cells, job.cells_length, job.events,
+                       job.events_length, job.answer, ZARU_RUN_NUMBERS);
+        break;
     case 7:
         zaru_bench(job.table, job.table_length, job.budget, job.h, job.cells, job.cells_length, job.answer, ZARU_BENCH_NUMBERS);
         break;
     case 8:
         zaru_prices(job.table, job.table_length, job.budget, job.answer, ZARU_PRICES_NUMBERS);
+        break;
+    case 9:
+        zaru_c_text(job.table, job.table_length, job.out, job.out_length, job.answer, ZARU_TEXT_NUMBERS);
+        break;
+    case 10:
+        zaru_from_c_text(job.table, job.table_length, job.out, job.out_length, job.answer, ZARU_TEXT_NUMBERS);
         break;
     case MEND:
         zaru_mend(job.copy, job.table_length, job.h, job.events, job.events_length, job.answer, ZARU_MEND_NUMBERS);
@@ -169,13 +198,13 @@ static void write_line(char *line)
     line += sprintf(line, "%u", job.op);
     for (int i = 0; i < calls[job.op].numbers; i += 1)
         line += sprintf(line, " %llu", (unsigned long long)job.answer[i]);
-    if (job.op == 3)
+    if (writes_out(job.op))
         line += sprintf(line, " %016llx", (unsigned long long)hash(job.out, job.out_length));
     if (job.op == MEND)
         line += sprintf(line, " %016llx", (unsigned long long)hash(job.copy, job.table_length));
-    else if (job.op >= 4 && job.op != 8)
+    if (writes_cells(job.op))
         line += sprintf(line, " %016llx", (unsigned long long)hash(job.cells, job.cells_length));
-    if (job.op == 4 || job.op == 5 || job.op == MEND)
+    if (writes_events(job.op))
         sprintf(line, " %016llx", (unsigned long long)hash(job.events, job.events_length));
 }
 
@@ -219,11 +248,18 @@ static const uint8_t *take_case(const uint8_t *header)
 /* How many bytes of lent buffers follow the line of this case. */
 static size_t shown_length(void)
 {
-    if (job.shown == 0 || !is_call(job.op) || job.op < 3 || job.op == 8)
+    size_t length = 0;
+    if (job.shown == 0)
         return 0;
+    if (writes_out(job.op))
+        length += job.out_length;
     if (job.op == MEND)
-        return job.table_length + job.events_length;
-    return job.op == 3 ? job.out_length : job.op == 7 ? job.cells_length : job.cells_length + job.events_length;
+        length += job.table_length;
+    if (writes_cells(job.op))
+        length += job.cells_length;
+    if (writes_events(job.op))
+        length += job.events_length;
+    return length;
 }
 
 /* Makes the call of the case, and holds its answer against the stored line. */

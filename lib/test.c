@@ -143,6 +143,22 @@ static size_t order_of(const uint64_t *answer, uint8_t threads, uint8_t *order)
     return length;
 }
 
+/* The plain run of B is its run, with 0 as each event's label. */
+static void plain_run(void)
+{
+    uint64_t answer[ZARU_RUN_NUMBERS], plain[ZARU_RUN_NUMBERS];
+    uint8_t cells[5], plain_cells[5], events[4 * ZARU_EVENT], plain_events[4 * ZARU_EVENT];
+    zaru_run_concurrent(B, sizeof B, LOST, sizeof LOST, cells, 5, events, sizeof events, answer, ZARU_RUN_NUMBERS);
+    zaru_run_plain(B, sizeof B, LOST, sizeof LOST, plain_cells, 5, plain_events, sizeof plain_events, plain, ZARU_RUN_NUMBERS);
+    expect("the same numbers", (uint64_t)memcmp(plain, answer, sizeof answer), 0);
+    expect("the same cells", (uint64_t)memcmp(plain_cells, cells, sizeof cells), 0);
+    for (int i = 0; i < 4; i += 1) {
+        expect("an event with a label", events[i * ZARU_EVENT + 11] != 0, 1);
+        events[i * ZARU_EVENT + 11] = 0;
+    }
+    expect("the same events but for labels", (uint64_t)memcmp(plain_events, events, sizeof events), 0);
+}
+
 static void benches(void)
 {
     uint64_t answer[ZARU_BENCH_NUMBERS];
@@ -239,13 +255,46 @@ static void mends(void)
     expect("under 16 bytes", answer[0], 1);
 }
 
+static uint8_t text[ZARU_LONGEST_TEXT];
+
+/* A's copy as C text and back; a text with a byte more, or with another one, is refused. */
+static void texts(void)
+{
+    uint64_t answer[ZARU_TEXT_NUMBERS];
+    uint8_t back[200];
+    zaru_translate(A, sizeof A, copy, sizeof copy, answer, ZARU_TRANSLATE_NUMBERS);
+    size_t length = (size_t)answer[1];
+    memset(text, 0xEE, sizeof text);
+    zaru_c_text(copy, length, text, 6238, answer, ZARU_TEXT_NUMBERS);
+    expect("6,238 bytes are too few", answer[0], 10);
+    untouched("refused text", text, 0, sizeof text);
+    zaru_c_text(copy, length, text, sizeof text, answer, ZARU_TEXT_NUMBERS);
+    expect("length of the text of A's copy", answer[1], 6239);
+    untouched("after the text", text, 6239, sizeof text);
+    memset(back, 0xEE, sizeof back);
+    zaru_from_c_text(text, 6239, back, sizeof back, answer, ZARU_TEXT_NUMBERS);
+    expect("the text is read", answer[0], 0);
+    expect("as a table of that length", answer[1], length);
+    expect("and of those bytes", (uint64_t)memcmp(back, copy, length), 0);
+    untouched("after the table", back, length, sizeof back);
+    zaru_from_c_text(text, 6240, back, sizeof back, answer, ZARU_TEXT_NUMBERS);
+    expect("a byte too many", answer[0], 1);
+    text[100] ^= 1;
+    zaru_from_c_text(text, 6239, back, 0, answer, ZARU_TEXT_NUMBERS);
+    expect("another byte, judged before the buffer", answer[0], 1);
+    zaru_c_text(A, sizeof A, text, sizeof text, answer, ZARU_TEXT_NUMBERS);
+    expect("A is no sequential table", answer[0], 1);
+}
+
 int main(void)
 {
     reads();
     runs(translations());
+    plain_run();
     benches();
     prices();
     mends();
+    texts();
     if (failures == 0)
         printf("the C library answers as the paper says\n");
     return failures != 0;

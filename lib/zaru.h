@@ -31,7 +31,7 @@ enum {
 };
 
 /* How many numbers the answers have. */
-enum { ZARU_READ_NUMBERS = 6, ZARU_TRANSLATE_NUMBERS = 2, ZARU_RUN_NUMBERS = 6, ZARU_BENCH_NUMBERS = 22, ZARU_PRICES_NUMBERS = 3, ZARU_MEND_NUMBERS = 3 };
+enum { ZARU_READ_NUMBERS = 6, ZARU_TRANSLATE_NUMBERS = 2, ZARU_TEXT_NUMBERS = 2, ZARU_RUN_NUMBERS = 6, ZARU_BENCH_NUMBERS = 22, ZARU_PRICES_NUMBERS = 3, ZARU_MEND_NUMBERS = 3 };
 
 /* The places of the bench's counts in its answer, and the most allotments that it tries. */
 enum { ZARU_BENCH_FIRST_COUNT = 3, ZARU_BENCH_COUNTS = 19, ZARU_MOST_ALLOTMENTS = 1000000 };
@@ -43,16 +43,22 @@ enum { ZARU_CONCURRENT = 0, ZARU_SEQUENTIAL = 1, ZARU_CHANGE = 6, ZARU_LONGEST_L
 #define ZARU_BUDGET UINT64_C(140000000)
 #define ZARU_LONGEST_COPY 65536
 
+/* The longest C text of a sequential table. */
+#define ZARU_LONGEST_TEXT 2720503
+
 /* The bytes of stack that each call needs, measured and not proved: lib/stored.c makes each call on a thread that has exactly so many, on
  * every stored case, the deepest programs among them, and at least 8 KB are left. On a smaller stack the process ends by a fault in the
  * guard page: frames are touched page by page. The main thread has enough as a rule; another gets it by pthread_attr_setstacksize. */
 #define ZARU_STACK_READ (32 * 1024)
 #define ZARU_STACK_TRANSLATE (48 * 1024)
 #define ZARU_STACK_RUN_CONCURRENT (112 * 1024)
+#define ZARU_STACK_RUN_PLAIN (112 * 1024)
 #define ZARU_STACK_RUN_SEQUENTIAL (352 * 1024)
 #define ZARU_STACK_BENCH (108 * 1024)
 #define ZARU_STACK_PRICES (40 * 1024)
 #define ZARU_STACK_MEND (32 * 1024)
+#define ZARU_STACK_C_TEXT (32 * 1024)
+#define ZARU_STACK_FROM_C_TEXT (112 * 1024)
 
 /* answer: number, procedures, locations, threads, labels (sequential: 0), cells. */
 void zaru_read_concurrent(const uint8_t *table, size_t table_length, uint64_t *answer, size_t answer_length);
@@ -62,15 +68,25 @@ void zaru_read_sequential(const uint8_t *table, size_t table_length, uint64_t *a
 void zaru_translate(const uint8_t *table, size_t table_length, uint8_t *out, size_t out_length, uint64_t *answer,
                     size_t answer_length);
 
+/* A sequential table as C11 text (docs/C-TEXT.md), and back: text and table are one to one.
+ * answer: number, length of what was written to `out`. Printing refuses by 1 to 8 as the reader, then by 10: `out` is too short. Reading refuses
+ * every text that is not the one of an accepted table by 1, then by 10. A refusal writes nothing. */
+void zaru_c_text(const uint8_t *table, size_t table_length, uint8_t *out, size_t out_length, uint64_t *answer, size_t answer_length);
+void zaru_from_c_text(const uint8_t *text, size_t text_length, uint8_t *out, size_t out_length, uint64_t *answer,
+                      size_t answer_length);
+
 /* The bytes of a cell and of an event. An event is thread (1 byte), 0 read or 1 write (1), location (2), index (2), value (5: as a cell),
  * label of the step (2), numbers low byte first; the sequential run has the number of the procedure it is in as the label. */
 #define ZARU_CELL 5
 #define ZARU_EVENT 13
 
-/* answer: number, end, steps, unused entries, events (those not written included), reason. Events that fit whole are written. */
+/* answer: number, end, steps, unused entries, events (those not written included), reason. Events that fit whole are written. The plain run is the
+ * concurrent one as the report has it, by the code that remains: it gives the same numbers, cells and events, but 0 as their label. */
 void zaru_run_concurrent(const uint8_t *table, size_t table_length, const uint8_t *schedule, size_t schedule_length,
                          uint8_t *cells, size_t cells_length, uint8_t *events, size_t events_length, uint64_t *answer,
                          size_t answer_length);
+void zaru_run_plain(const uint8_t *table, size_t table_length, const uint8_t *schedule, size_t schedule_length, uint8_t *cells,
+                    size_t cells_length, uint8_t *events, size_t events_length, uint64_t *answer, size_t answer_length);
 void zaru_run_sequential(const uint8_t *table, size_t table_length, const uint8_t *schedule, size_t schedule_length,
                          uint64_t budget, size_t h, uint8_t *cells, size_t cells_length, uint8_t *events,
                          size_t events_length, uint64_t *answer, size_t answer_length);

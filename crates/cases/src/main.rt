@@ -11,9 +11,9 @@
 // The bench has its rounds in the budget's place and the most steps of a count in h's. The mender has the kind wanted in h's place (0
 // concurrent, 1 sequential), and its list of changes is the lent buffer for events; it mends a copy of the table, whose hash comes first.
 //
-// The prices have their label in the budget's place; no buffer is lent to them, so that their line has no hash.
+// The prices have their label in the budget's place; no buffer is lent to them, so that their line has no hash. A text to be read stands in the table's place.
 //
-// What can be called: the calls below by 1 to 8 and 11, and the greeting by 90 (hexadecimal 5A, far from the calls that may still come). A
+// What can be called: the calls below by 1 to 12, and the greeting by 90 (hexadecimal 5A, far from the calls that may still come). A
 // greeting's line has the version of requests and lines, so that the command `zaru` does not read the lines of another program.
 mod buffers;
 mod print;
@@ -24,6 +24,7 @@ use basics::numbers::ENTRIES;
 use basics::numbers::EVENT;
 use figures::input::LINE;
 use semantics::RunAnswer;
+use translation::WriteAnswer;
 
 const HEADER: usize = 36;
 
@@ -38,6 +39,9 @@ const LONGEST_CELLS: usize = COPY_CELLS + 4096;
 const LONGEST_EVENTS: usize = EVENT * ENTRIES;
 
 const LONGEST_OUT: usize = 70000;
+
+// The longest text of a table has 2,720,503 bytes.
+const LONGEST_TEXT: usize = 2720600;
 
 // No batch has more requests: the loop over them ends.
 const MOST_REQUESTS: u32 = 1000000;
@@ -58,6 +62,10 @@ const BENCH: u8 = 7;
 
 const PRICES: u8 = 8;
 
+const PRINT: u8 = 9;
+
+const READ_TEXT: u8 = 10;
+
 const MEND: u8 = 11;
 
 const RUN_PLAIN: u8 = 12;
@@ -65,7 +73,7 @@ const RUN_PLAIN: u8 = 12;
 const GREETING: u8 = 90;
 
 // One more whenever a request, or a line that answers one, changes its form. `zaru/engine.py` and `second/src/batch.rs` have it too.
-const VERSION: u64 = 6;
+const VERSION: u64 = 8;
 
 // What is asked for, beside the table and the schedule.
 struct Request {
@@ -99,21 +107,30 @@ fn request_of(header: &[u8; HEADER]) -> Request {
     }
 }
 
-// Translates into a lent buffer.
-fn answer_translate(shown: bool, table: &[u8], out: &mut [u8]) {
+// One of the calls that write into one lent buffer: a translation, a table as text, or a text as table.
+fn write(call: u8, input: &[u8], out: &mut [u8]) -> WriteAnswer {
+    match call {
+        PRINT => printer::print(input, out),
+        READ_TEXT => fromtext::read_text(input, out),
+        _ => translator::translate(input, out),
+    }
+}
+
+// Writes into a lent buffer.
+fn answer_write(call: u8, shown: bool, input: &[u8], out: &mut [u8]) {
     buffers::fill(out);
-    let r = translator::translate(table, out);
-    print::translation(TRANSLATE, r);
+    let r = write(call, input, out);
+    print::writing(call, r);
     print::hash(out);
     print::end_line();
     print::show(shown, out);
 }
 
-// Lends the first bytes of a buffer to a translation.
-fn lend_out(request: Request, table: &[u8], out: &mut [u8]) {
+// Lends the first bytes of a buffer to such a call.
+fn lend_out(request: Request, input: &[u8], out: &mut [u8]) {
     let n = request.out;
     if n <= out.len() {
-        answer_translate(request.shown, table, &mut out[..n]);
+        answer_write(request.call, request.shown, input, &mut out[..n]);
     }
 }
 
@@ -181,8 +198,15 @@ fn lend_cells(
     }
 }
 
-fn translate(request: Request, table: &[u8]) {
+// With room for a table.
+fn write_table(request: Request, input: &[u8]) {
     let mut out = [0u8; LONGEST_OUT];
+    lend_out(request, input, &mut out);
+}
+
+// With room for a text.
+fn write_text(request: Request, table: &[u8]) {
+    let mut out = [0u8; LONGEST_TEXT];
     lend_out(request, table, &mut out);
 }
 
@@ -268,7 +292,9 @@ fn answer(request: Request, table: &[u8], schedule: &[u8]) -> bool {
     match call {
         READ_CONCURRENT => print::read(READ_CONCURRENT, reader::read_concurrent(table)),
         READ_SEQUENTIAL => print::read(READ_SEQUENTIAL, reader::read_sequential(table)),
-        TRANSLATE => translate(request, table),
+        TRANSLATE => write_table(request, table),
+        PRINT => write_text(request, table),
+        READ_TEXT => write_table(request, table),
         RUN_CONCURRENT => run_machine(request, table, schedule),
         RUN_SEQUENTIAL => run_machine(request, table, schedule),
         RUN_PLAIN => run_machine(request, table, schedule),
@@ -317,6 +343,24 @@ fn answer_request(
     answer_part(request, table, length, schedule, entries)
 }
 
+// Reads what follows a header, with this room for the table, and answers the request.
+fn take_request(header: &[u8; HEADER], table: &mut [u8]) -> bool {
+    let mut schedule = [0u8; LONGEST_SCHEDULE];
+    answer_request(
+        request_of(header),
+        bytes::four_bytes(header, 4) as usize,
+        bytes::four_bytes(header, 8) as usize,
+        table,
+        &mut schedule,
+    )
+}
+
+// A text stands in the table's place: only then is there room for the longest one, since it is cleared for each request.
+fn text_request(header: &[u8; HEADER]) -> bool {
+    let mut text = [0u8; LONGEST_TEXT];
+    take_request(header, &mut text)
+}
+
 // Reads a request and answers it; false at the end of the batch, or where it is cut off.
 fn next_request() -> bool {
     let mut header = [0u8; HEADER];
@@ -324,15 +368,11 @@ fn next_request() -> bool {
     if got < HEADER {
         return false;
     }
+    if header[0] == READ_TEXT {
+        return text_request(&header);
+    }
     let mut table = [0u8; LONGEST_TABLE];
-    let mut schedule = [0u8; LONGEST_SCHEDULE];
-    answer_request(
-        request_of(&header),
-        bytes::four_bytes(&header, 4) as usize,
-        bytes::four_bytes(&header, 8) as usize,
-        &mut table,
-        &mut schedule,
-    )
+    take_request(&header, &mut table)
 }
 
 fn main() {

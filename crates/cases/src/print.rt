@@ -39,8 +39,8 @@ pub fn read(call: u8, r: ReadAnswer) {
     end_line();
 }
 
-// A translation's answer.
-pub fn translation(call: u8, r: WriteAnswer) {
+// The answer of a call that writes into one buffer.
+pub fn writing(call: u8, r: WriteAnswer) {
     io::print_decimal(1, call as u64);
     number(r.number as u64);
     number(r.length as u64);

@@ -1,5 +1,5 @@
 // The calls for programs in C: a slice is a pointer and a length, and the numbers of an answer go into a lent array, each where the
-// array has a place for it. May use `reader`, `translator`, `machines`, `bench`, `prices`, `mender` and the types that they answer. Read specs/Numbers.antt first.
+// array has a place for it. May use `reader`, `translator`, `machines`, `bench`, `prices`, `mender`, `printer`, `fromtext` and the types that they answer. Read specs/Numbers.antt first.
 use agreement::PricesAnswer;
 use allotments::BenchAnswer;
 use format::ReadAnswer;
@@ -12,6 +12,7 @@ ghost use lib.ListN.{set};
 ghost use Rattle.format.specs.Syntax.{concurrent, sequential};
 ghost use Rattle.format.specs.Calls.{readCall};
 ghost use Rattle.translation.specs.Calls.{translateCall};
+ghost use Rattle.ctext.specs.Calls.{printCall, readTextCall};
 ghost use Rattle.semantics.specs.Calls.{concurrentCall, plainCall, sequentialCall};
 ghost use Rattle.allotments.specs.Bench.{benchCall};
 ghost use Rattle.agreement.specs.Prices.{pricesCall};
@@ -134,6 +135,26 @@ pub extern "C" fn zaru_translate(table: &[u8], out: &mut [u8], answer: &mut [u64
         (now (table .entry)) (now (out .entry))) (now (answer .entry))) ⌝ }
 {
     let r = translator::translate(table, out);
+    store_write(answer, r);
+}
+
+// Prints a sequential table as C text.
+#[no_mangle]
+pub extern "C" fn zaru_c_text(table: &[u8], out: &mut [u8], answer: &mut [u64])
+    ensures { λ _. ⌜ _≡_ {A = Translated} (record { out = now (out .exit); answer = now (answer .exit) }) (translated (printCall
+        (now (table .entry)) (now (out .entry))) (now (answer .entry))) ⌝ }
+{
+    let r = printer::print(table, out);
+    store_write(answer, r);
+}
+
+// Reads such a text.
+#[no_mangle]
+pub extern "C" fn zaru_from_c_text(text: &[u8], out: &mut [u8], answer: &mut [u64])
+    ensures { λ _. ⌜ _≡_ {A = Translated} (record { out = now (out .exit); answer = now (answer .exit) }) (translated (readTextCall
+        (now (text .entry)) (now (out .entry))) (now (answer .entry))) ⌝ }
+{
+    let r = fromtext::read_text(text, out);
     store_write(answer, r);
 }
 
