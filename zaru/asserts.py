@@ -45,9 +45,9 @@ class Assertion:
     place: int = 0
     among: int = 0
 
-    def failed(self) -> str:
+    def failed(self, has_label: bool = True) -> str:
         which = f", number {self.place} in the block," if self.among > 1 else ""
-        return f"the assertion at label {self.label}{which} failed"
+        return f"the assertion{f' at label {self.label}' if has_label else ''}{which} failed"
 
     @property
     def is_atomic(self) -> bool:

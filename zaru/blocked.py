@@ -47,12 +47,13 @@ class Why:
     # The assertion that failed, if it was one.
     assertion: Optional[Assertion] = None
 
-    def sentence(self) -> str:
+    def sentence(self, has_labels: bool = True) -> str:
         after = f"blocked after {plural(self.steps, 'step')}: thread {self.thread}"
         if self.label == 0:
             return f"{after} is finished"
         inside = ", inside the atomic block" if self.is_atomic else ""
-        return f"{after} at label {self.label}{inside}: {self.words}"
+        words = self.assertion.failed(has_labels) if self.assertion else self.words
+        return f"{after}{f' at label {self.label}' if has_labels else ''}{inside}: {words}"
 
 
 def why_at(program: t.Program, copy: bytes, schedule: bytes, run: Run, label: int) -> Why:

@@ -7,7 +7,7 @@ from argparse import Namespace
 from dataclasses import dataclass
 from typing import Iterator, List, Tuple
 
-from zaru import arguments, bench, blocked, cost, engine, files, mended, objects, picture, ran, trace
+from zaru import arguments, bench, blocked, cost, engine, files, mended, objects, picture, plain, ran, trace
 from zaru.accepted import READ_OPS, accepted_program
 from zaru.arguments import UsageError
 from zaru.copy_names import copy_names
@@ -111,11 +111,13 @@ def run(words: Namespace) -> List[str]:
 
 
 def traced(words: Namespace) -> List[str]:
+    if words.json and words.plain:
+        raise UsageError("--plain has no --json")
     one, schedule = program_and_order(words, LONGEST_ORDER)
     teller, course = Teller(one.program, one.names), course_of(one.program, one.table, schedule)
     if words.json:
         return [objects.written(objects.trace(course, teller))]
-    return trace.lines_of(teller, course)
+    return plain.lines_of(teller, course, one.table) if words.plain else trace.lines_of(teller, course)
 
 
 def costs(words: Namespace) -> List[str]:

@@ -18,10 +18,12 @@ from typing import List, NamedTuple, Sequence, Tuple
 from zaru.built import newer_source
 
 READ_CONCURRENT, READ_SEQUENTIAL, TRANSLATE, RUN_CONCURRENT, RUN_SEQUENTIAL, RUN_LINE, BENCH, PRICES = range(1, 9)
-MEND = 11
+MEND, RUN_PLAIN = 11, 12
 GREETING = 90
+# The calls that run a table; the plain engine's has the form of the concurrent one's.
+RUNS = (RUN_CONCURRENT, RUN_SEQUENTIAL, RUN_PLAIN)
 # The version of requests and lines; crates/cases/src/main.rt has it too.
-VERSION = 6
+VERSION = 7
 
 HEADER = 36
 # What the program is ready for.
@@ -74,7 +76,7 @@ class Request:
     def header(self) -> bytes:
         lengths = [(len(self.table), 4), (len(self.schedule), 4), (self.budget, 8), (self.h, 4)]
         lengths += [(self.cells, 4), (self.events, 4), (self.out, 4)]
-        wants_bytes = self.op in (TRANSLATE, RUN_CONCURRENT, RUN_SEQUENTIAL, BENCH, MEND)
+        wants_bytes = self.op in (TRANSLATE, BENCH, MEND, *RUNS)
         numbers = b"".join(number.to_bytes(length, "little") for number, length in lengths)
         return bytes([self.op, wants_bytes, 0, 0]) + numbers
 
@@ -86,7 +88,7 @@ class Request:
             return self.cells
         if self.op == MEND:
             return len(self.table) + self.events
-        return self.cells + self.events if self.op in (RUN_CONCURRENT, RUN_SEQUENTIAL) else 0
+        return self.cells + self.events if self.op in RUNS else 0
 
 
 @dataclass(frozen=True)

@@ -8,11 +8,15 @@ copy's memory has them.
 
 from __future__ import annotations
 
-from typing import List, NamedTuple, Optional, Sequence
+from typing import List, Mapping, NamedTuple, Optional, Sequence, Union
 
 from zaru import table as t
 from zaru.fault import Fault
 from zaru.values import FALSE, NUMBER, TRUE, Event, location_bytes
+
+
+# The values of locals by their numbers.
+Locals = Union[Sequence[bytes], Mapping[int, bytes]]
 
 
 class Done(NamedTuple):
@@ -34,7 +38,7 @@ def number_in(value: bytes) -> int:
     return int.from_bytes(value[1:5], "little", signed=True)
 
 
-def evaluate(expression: t.Expression, local_values: Sequence[bytes]) -> bytes:
+def evaluate(expression: t.Expression, local_values: Locals) -> bytes:
     """The value of an expression that has one, 5 bytes."""
     if isinstance(expression, t.Number):
         return number_bytes(expression.value)
@@ -47,7 +51,7 @@ def evaluate(expression: t.Expression, local_values: Sequence[bytes]) -> bytes:
     return operated(expression, local_values)
 
 
-def operated(expression: t.Operation, local_values: Sequence[bytes]) -> bytes:
+def operated(expression: t.Operation, local_values: Locals) -> bytes:
     mark = expression.mark
     first = evaluate(expression.operands[0], local_values)
     if mark == t.NOT:

@@ -93,16 +93,20 @@ it (in an atomic block, the block's), and what was read or written where. At mos
         (TABLE, ORDER, ORDER_FILE, flag("--events", "list the shared reads and writes"), JSON),
     ),
     "trace": Command(
-        "zaru trace TABLE ORDER.. [--order FILE] [--json]",
+        "zaru trace TABLE ORDER.. [--order FILE] [--plain] [--json]",
         commands.traced,
         f"""
 Prints a line for each step of a run: its thread, its label, the instruction, what it set, where a test or call led, and
 what it read and wrote, each with the label that the proved program has in its record of it. Then it says how the run
 ended and, if it was blocked, where and why. Of an instruction it names the parts that can block so: which of several it
 was is not known.
+
+With --plain the run is that of the plain engine, as it is worked on paper (docs/TRAINING.md): of each step the report's rule,
+and then the thread's frames, the one that runs first. A frame is a procedure, its locals that are set, and below them
+the rows of instructions still to do, the innermost first; `..` stands for what is inside an instruction.
 An order has at most {LONGEST_ORDER} entries here.
 """,
-        (TABLE, ORDER, ORDER_FILE, JSON),
+        (TABLE, ORDER, ORDER_FILE, flag("--plain", "the report's machine: rules, frames and rows"), JSON),
     ),
     "cost": Command(
         "zaru cost TABLE ORDER.. [--order FILE]",
@@ -250,7 +254,7 @@ zaru: concurrent programs, their sequential copies, and what both do in a given 
   zaru read c|s TABLE               is the table accepted? its counts
   zaru translate TABLE -o COPY      writes its sequential copy
   zaru run TABLE ORDER..            runs program and copy in this order of threads; --events
-  zaru trace TABLE ORDER..          the same, a line for each step
+  zaru trace TABLE ORDER..          the same, a line for each step; --plain: rules, frames and rows
   zaru cost TABLE ORDER..           the copy's steps, a line for each step of the program
   zaru picture TABLE ORDER.. -o F   draws the run: F.svg or F.html
   zaru bench TABLE ROUNDS STEPS     tries round-robin orders: the first that blocks; -o F draws it
