@@ -31,7 +31,7 @@ use: kit
 	@tools/need python3 python3
 	@tools/prove cases run
 	python3 -m unittest discover --quiet --start-directory zaru/tests
-	tools/check-tour README.md examples/README.md docs/READING.md docs/JSON.md
+	tools/check-tour README.md examples/README.md docs/READING.md docs/JSON.md docs/TRAINING.md
 	tools/check-docs --edits README.md docs/*.md
 	tools/check-run
 
