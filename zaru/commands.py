@@ -7,7 +7,7 @@ from argparse import Namespace
 from dataclasses import dataclass
 from typing import Iterator, List, Tuple
 
-from zaru import arguments, bench, blocked, cost, engine, files, mended, objects, picture, plain, ran, trace
+from zaru import arguments, bench, blocked, c_text, cost, engine, files, mended, objects, picture, plain, ran, trace
 from zaru.accepted import READ_OPS, accepted_program
 from zaru.arguments import UsageError
 from zaru.copy_names import copy_names
@@ -178,6 +178,23 @@ def assemble(words: Namespace) -> List[str]:
     table = files.assembled(words.text).table
     accepted_program(decode(table).kind, table)
     return written_table(words.output, table)
+
+
+def to_c(words: Namespace) -> List[str]:
+    source = source_of(words.table)
+    kind = CONCURRENT if c_text.is_concurrent(source.table) else SEQUENTIAL
+    table = engine.translate(source.table) if kind == CONCURRENT else source.table
+    text = c_text.printed(table)
+    locations = accepted(kind, source).names.locations
+    write_file(words.output, text)
+    if words.output == "-":
+        return []
+    return [f"{words.output}: {len(text):,} bytes, of a table of {len(table):,}", *c_text.named(locations)]
+
+
+def from_c(words: Namespace) -> List[str]:
+    hold_table_name(words.output)
+    return written_table(words.output, engine.read_c(files.c_file(words.text)))
 
 
 def mend_output(words: Namespace) -> str:

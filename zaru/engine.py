@@ -18,16 +18,19 @@ from typing import List, NamedTuple, Sequence, Tuple
 from zaru.built import newer_source
 
 READ_CONCURRENT, READ_SEQUENTIAL, TRANSLATE, RUN_CONCURRENT, RUN_SEQUENTIAL, RUN_LINE, BENCH, PRICES = range(1, 9)
-MEND, RUN_PLAIN = 11, 12
+PRINT_C, READ_C, MEND, RUN_PLAIN = range(9, 13)
 GREETING = 90
 # The calls that run a table; the plain engine's has the form of the concurrent one's.
 RUNS = (RUN_CONCURRENT, RUN_SEQUENTIAL, RUN_PLAIN)
+# The calls that write a table or a text into the out buffer.
+WRITERS = (TRANSLATE, PRINT_C, READ_C)
 # The version of requests and lines; crates/cases/src/main.rt has it too.
-VERSION = 7
+VERSION = 8
 
 HEADER = 36
 # What the program is ready for.
 LONGEST_TABLE = 66_000
+LONGEST_TEXT = 2_720_600
 LONGEST_SCHEDULE = 5_000
 # The bytes of a cell and of an event.
 CELL, EVENT = 5, 13
@@ -35,6 +38,8 @@ CELL, EVENT = 5, 13
 CELL_ROOM = CELL * 8_192
 EVENT_ROOM = EVENT * 4_096
 COPY_ROOM = 65_536
+# The longest C text of a table.
+TEXT_ROOM = 2_720_503
 # A change of the mender's list: its place (4 bytes), the old and the new byte. There are at most as many as the trailer has bytes.
 CHANGE = 6
 CHANGE_ROOM = CHANGE * 16
@@ -61,7 +66,7 @@ class Request:
     """A call, with the lengths of the buffers that are lent to it.
 
     The bench has its rounds as the budget and its steps as h, the call for prices its label as the budget. The mender has the
-    kind as h and its list of changes as the events; the table itself is lent to it.
+    kind as h and its list of changes as the events; the table itself is lent to it. The text reader has its text as the table.
     """
 
     op: int
@@ -76,13 +81,13 @@ class Request:
     def header(self) -> bytes:
         lengths = [(len(self.table), 4), (len(self.schedule), 4), (self.budget, 8), (self.h, 4)]
         lengths += [(self.cells, 4), (self.events, 4), (self.out, 4)]
-        wants_bytes = self.op in (TRANSLATE, BENCH, MEND, *RUNS)
+        wants_bytes = self.op in (BENCH, MEND, *RUNS, *WRITERS)
         numbers = b"".join(number.to_bytes(length, "little") for number, length in lengths)
         return bytes([self.op, wants_bytes, 0, 0]) + numbers
 
     def lent(self) -> int:
         """How many bytes of lent buffers come back."""
-        if self.op == TRANSLATE:
+        if self.op in WRITERS:
             return self.out
         if self.op == BENCH:
             return self.cells
@@ -266,9 +271,26 @@ def read(op: int, table: bytes) -> Shape:
     return shape_of(ask([Request(op, table)])[0])
 
 
+def written(answer: Answer) -> bytes:
+    """What a call has written into the out buffer."""
+    length = accepted(answer).number(1)
+    if not 0 < length <= len(answer.lent):
+        raise unexpected(answer)
+    return answer.lent[:length]
+
+
 def translate(table: bytes) -> bytes:
-    answer = accepted(ask([Request(TRANSLATE, table, out=COPY_ROOM)])[0])
-    return answer.lent[: answer.number(1)]
+    return written(ask([Request(TRANSLATE, table, out=COPY_ROOM)])[0])
+
+
+def print_c(table: bytes) -> bytes:
+    """A sequential table as C text."""
+    return written(ask([Request(PRINT_C, table, out=TEXT_ROOM)])[0])
+
+
+def read_c(text: bytes) -> bytes:
+    """The table of a C text."""
+    return written(ask([Request(READ_C, text, out=COPY_ROOM)])[0])
 
 
 def bench(table: bytes, rounds: int, steps: int) -> Bench:

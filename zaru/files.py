@@ -114,6 +114,14 @@ def table_file(name: str) -> bytes:
     return source_of(name).table
 
 
+def c_file(name: str) -> bytes:
+    """The bytes of a C text."""
+    text = read_file(name)
+    if len(text) > engine.LONGEST_TEXT:
+        raise TextError(f"{name}: {len(text):,} bytes; no text of a table is longer than {engine.TEXT_ROOM:,} bytes")
+    return text
+
+
 def is_same_file(one: str, other: str) -> bool:
     """Do both names lead to one file that is there? Standard input and output do not."""
     if "-" in (one, other) or not (os.path.exists(one) and os.path.exists(other)):

@@ -2,7 +2,7 @@
 
 from __future__ import annotations
 
-from typing import List
+from typing import Dict, List
 
 REFUSALS = {
     1: "under 16 bytes; wrong kind marks, distance or length; distance over length - 16",
@@ -26,19 +26,30 @@ REFUSALS = {
     15: "mender: more than one choice of the three counts makes an acceptable table of that length",
 }
 
-# What can be done where a table cannot be mended.
-AFTER_MENDING = {
-    1: "a table has 16 bytes of trailer and more before them: what is missing cannot be made anew; read the medium again",
-    2: "a concurrent table has at most 16,384 bytes, a sequential one 65,536: if it is a sequential one, say s; "
-    "if something stands behind the table, cut it off",
-    14: "more than the last sixteen bytes is damaged, bytes are missing or too many, or it is a table of the other kind: "
-    "compare its length with another copy's, and try the other kind",
-    15: "the last sizes could be threads, or the first threads sizes: the bytes that are left do not tell. "
-    "Take the numbers of locations and threads from another copy, its text or its sheet",
+# Where a number means something else to a command.
+OWN: Dict[str, Dict[int, str]] = {"from-c": {1: "text that is not ours: the C text of no accepted sequential table"}}
+
+# What can be done where a command refuses by a number.
+ADVICE: Dict[str, Dict[int, str]] = {
+    "mend": {
+        1: "a table has 16 bytes of trailer and more before them: what is missing cannot be made anew; read the medium again",
+        2: "a concurrent table has at most 16,384 bytes, a sequential one 65,536: if it is a sequential one, say s; "
+        "if something stands behind the table, cut it off",
+        14: "more than the last sixteen bytes is damaged, bytes are missing or too many, or it is a table of the other kind: "
+        "compare its length with another copy's, and try the other kind",
+        15: "the last sizes could be threads, or the first threads sizes: the bytes that are left do not tell. "
+        "Take the numbers of locations and threads from another copy, its text or its sheet",
+    },
+    "from-c": {
+        1: "it must be, byte by byte, a text that `zaru c` printed: an editor may have changed blanks or line ends; "
+        "docs/C-TEXT.md has the rules",
+    },
 }
 
 
 def describe(number: int, command: str = "") -> List[str]:
-    """The number in the paper's words; of a table that cannot be mended also what can be done."""
-    told = [f"refused {number}: {REFUSALS[number]}" if number in REFUSALS else f"refused {number}"]
-    return told + ([AFTER_MENDING[number]] if command == "mend" and number in AFTER_MENDING else [])
+    """The number in the paper's words; of some commands also what can be done."""
+    words = {**REFUSALS, **OWN.get(command, {})}
+    told = [f"refused {number}: {words[number]}" if number in words else f"refused {number}"]
+    advice = ADVICE.get(command, {})
+    return told + ([advice[number]] if number in advice else [])

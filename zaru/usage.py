@@ -225,6 +225,32 @@ program may have `select chosen from waiting`, with two locations. docs/TEXT.md 
 """,
         (word("text", help="a file of text; - is standard input"), output("TABLE", WRITTEN)),
     ),
+    "c": Command(
+        "zaru c TABLE -o TEXT.c",
+        commands.to_c,
+        """
+Writes a sequential table as C11 text; of a concurrent table its copy. docs/C-TEXT.md has the rules of the text, byte by byte.
+
+m0, m1, .. are the cells of its locations, p0, p1, .. its procedures: in a copy p3 simulates label 3. The text calls four
+functions that are not in it. share/run.c has them for a run in a given order:
+
+    cc TEXT.c share/run.c -o program
+    printf '\\0\\0\\1\\1' | ./program BUDGET H
+
+share/eva.c has them for a value analysis that looks at all orders at once (docs/RANGE-TOOL.md). After `make install` both
+files are in PREFIX/share/zaru.
+""",
+        (TABLE, output("TEXT.c", WRITTEN)),
+    ),
+    "from-c": Command(
+        "zaru from-c TEXT.c -o TABLE",
+        commands.from_c,
+        """
+Reads a C text that `zaru c` printed and writes its table. The table is the one that was printed, byte by byte. Every other
+text is refused by 1, also one that differs in a single blank.
+""",
+        (word("text", metavar="TEXT.c", help="a file of C text; - is standard input"), output("TABLE", WRITTEN)),
+    ),
     "mend": Command(
         "zaru mend c|s TABLE -o NEW | --in-place",
         commands.mend,
@@ -261,6 +287,8 @@ zaru: concurrent programs, their sequential copies, and what both do in a given 
   zaru copy COPY ORDER..            runs a sequential table alone; --budget N, --h N
   zaru show c|s TABLE               the table as text, with its labels and their prices
   zaru asm TEXT -o TABLE            text to table
+  zaru c TABLE -o TEXT.c            the table, or its copy, as C text for other tools
+  zaru from-c TEXT.c -o TABLE       such a text to its table
   zaru mend c|s TABLE -o NEW        writes a lost trailer anew; --in-place
   zaru help [COMMAND]               more about a command; zaru --version
 

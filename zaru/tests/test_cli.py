@@ -267,7 +267,7 @@ class WithoutEngine(Command):
         overview = self.zaru("help")
         self.assertEqual((overview.status, overview.err), (0, ""))
         self.assertEqual(self.zaru("--help"), overview)
-        for command in "read translate run trace cost picture bench copy show asm mend help".split():
+        for command in "read translate run trace cost picture bench copy show asm c from-c mend help".split():
             self.assertIn(f"  zaru {command} ", overview.out)
             told = self.zaru("help", command)
             self.assertTrue(told.out.startswith(f"usage: zaru {command}"), told)

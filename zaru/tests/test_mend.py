@@ -10,7 +10,7 @@ from test_cli import GREETS, Command, Result
 from zaru import engine, mended
 from zaru import table as t
 from zaru.engine import Change, Mended
-from zaru.refusals import AFTER_MENDING, REFUSALS
+from zaru.refusals import ADVICE, REFUSALS
 
 # Two empty procedures, a location of size 1 and the main 1: or no location, and the mains 1 and 1.
 SEVERAL = bytes.fromhex("00 00 000000000000 000001000000 0100 0100 4350 0200 0100 0100 10000000 22000000")
@@ -78,7 +78,7 @@ class WithEngine(Command):
 
     def refused(self, number: int, *words: str, given: bytes = b"") -> None:
         before = self.listed()
-        told = f"refused {number}: {REFUSALS[number]}\n{AFTER_MENDING[number]}\n"
+        told = f"refused {number}: {REFUSALS[number]}\n{ADVICE['mend'][number]}\n"
         self.assertEqual(self.zaru("mend", *words, "-o", "new", given=given), Result(1, "", told))
         self.assertEqual(self.listed(), before)
 
