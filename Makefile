@@ -1,5 +1,5 @@
 # Two commands: `make demo` runs the main job, `make test` proves and tests everything.
-.PHONY: demo test kit second cases zaru use lib bench look install installed more-edits
+.PHONY: demo test kit second cases zaru use lib bench look eva install installed more-edits
 
 kit:
 	@tools/need rt
@@ -26,9 +26,11 @@ cases: second
 zaru: kit
 	@tools/prove cases
 
-# the command line: its own tests; the documents: what they name and what they paste; the run program on all its stored inputs
+# the command line: its own tests, which compile C texts; the documents: what they name and what they paste; the run program on all its stored
+# inputs
 use: kit
 	@tools/need python3 python3
+	@tools/need cc build-essential
 	@tools/prove cases run
 	python3 -m unittest discover --quiet --start-directory zaru/tests
 	tools/check-tour README.md examples/README.md docs/READING.md docs/JSON.md docs/TRAINING.md
@@ -39,7 +41,7 @@ use: kit
 lib: kit
 	tools/check-lib
 
-# the command, its engine, the C library, its header and its pkg-config file, below PREFIX (and that below DESTDIR, if it is set)
+# the command, its engine, the C library, its header, its pkg-config file and the hooks for C texts, below PREFIX (and that below DESTDIR, if it is set)
 PREFIX ?= /usr/local
 install: zaru lib
 	tools/install "$(PREFIX)"
@@ -59,6 +61,13 @@ look: zaru
 	@tools/need python3 python3
 	@tools/need chromium chromium
 	tools/look
+
+# not part of the test: what the value analysis Eva says of copies as C text, against what docs/RANGE-TOOL.md says
+eva: zaru
+	@tools/need python3 python3
+	@tools/need cc build-essential
+	@tools/need frama-c frama-c-base
+	tools/check-tour docs/RANGE-TOOL.md
 
 # not part of the test, for their time: further wrong definitions and programs that the prover must refuse
 more-edits: kit
