@@ -178,7 +178,7 @@ fn rule(
             after_test(t, at, truth, next, top, rows, heights, ends);
             Stepped::To(count)
         }
-        // [call]
+        // [call]; that the procedure runs in no frame is so by rule 7
         Step::Call { procedure, next } => {
             let above = base + FRAME;
             locals::clear(words, above + table::byte(t, at + 3), above + FRAME);
