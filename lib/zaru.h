@@ -52,13 +52,13 @@ enum { ZARU_CONCURRENT = 0, ZARU_SEQUENTIAL = 1, ZARU_CHANGE = 6, ZARU_LONGEST_L
 #define ZARU_STACK_READ (32 * 1024)
 #define ZARU_STACK_TRANSLATE (48 * 1024)
 #define ZARU_STACK_RUN_CONCURRENT (112 * 1024)
-#define ZARU_STACK_RUN_PLAIN (112 * 1024)
+#define ZARU_STACK_RUN_PLAIN (144 * 1024)
 #define ZARU_STACK_RUN_SEQUENTIAL (352 * 1024)
 #define ZARU_STACK_BENCH (108 * 1024)
 #define ZARU_STACK_PRICES (40 * 1024)
 #define ZARU_STACK_MEND (32 * 1024)
-#define ZARU_STACK_C_TEXT (32 * 1024)
-#define ZARU_STACK_FROM_C_TEXT (112 * 1024)
+#define ZARU_STACK_C_TEXT (48 * 1024)
+#define ZARU_STACK_FROM_C_TEXT (128 * 1024)
 
 /* answer: number, procedures, locations, threads, labels (sequential: 0), cells. */
 void zaru_read_concurrent(const uint8_t *table, size_t table_length, uint64_t *answer, size_t answer_length);
