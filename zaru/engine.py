@@ -30,7 +30,7 @@ VERSION = 8
 HEADER = 36
 # What the program is ready for.
 LONGEST_TABLE = 66_000
-LONGEST_TEXT = 2_720_600
+LONGEST_TEXT = 524_288
 LONGEST_SCHEDULE = 5_000
 # The bytes of a cell and of an event.
 CELL, EVENT = 5, 13
@@ -38,8 +38,8 @@ CELL, EVENT = 5, 13
 CELL_ROOM = CELL * 8_192
 EVENT_ROOM = EVENT * 4_096
 COPY_ROOM = 65_536
-# The longest C text of a table.
-TEXT_ROOM = 2_720_503
+# Room for a C text: there are longer ones, of up to 2,720,503 bytes, which the C library prints and reads.
+TEXT_ROOM = LONGEST_TEXT
 # A change of the mender's list: its place (4 bytes), the old and the new byte. There are at most as many as the trailer has bytes.
 CHANGE = 6
 CHANGE_ROOM = CHANGE * 16
@@ -285,7 +285,10 @@ def translate(table: bytes) -> bytes:
 
 def print_c(table: bytes) -> bytes:
     """A sequential table as C text."""
-    return written(ask([Request(PRINT_C, table, out=TEXT_ROOM)])[0])
+    answer = ask([Request(PRINT_C, table, out=TEXT_ROOM)])[0]
+    if answer.number(0) == 10:
+        raise EngineError(f"the text has more than {TEXT_ROOM:,} bytes, the most that this command prints: zaru_c_text of the C library prints it")
+    return written(answer)
 
 
 def read_c(text: bytes) -> bytes:

@@ -118,7 +118,7 @@ def c_file(name: str) -> bytes:
     """The bytes of a C text."""
     text = read_file(name)
     if len(text) > engine.LONGEST_TEXT:
-        raise TextError(f"{name}: {len(text):,} bytes; no text of a table is longer than {engine.TEXT_ROOM:,} bytes")
+        raise TextError(f"{name}: {len(text):,} bytes; this command reads texts of up to {engine.LONGEST_TEXT:,}, zaru_from_c_text of the C library all")
     return text
 
 

@@ -8,7 +8,6 @@
 //! mender is told by h which kind is wanted (0 concurrent, 1 sequential); it mends the table itself,
 //! and the event buffer is its list of changes. The text reader has its text in the table's place.
 
-use crate::c_text;
 use crate::calls::*;
 use crate::line::line;
 use crate::machine::EVENT;
@@ -48,9 +47,8 @@ pub const LONGEST_CELLS: u32 = 45_000;
 /// An event for each entry of the longest schedule that is run.
 pub const LONGEST_EVENTS: u32 = EVENT as u32 * 4_096;
 pub const LONGEST_OUT: u32 = 70_000;
-/// The longest C text and some bytes: what the printer may be lent, and what the text reader may be
-/// given.
-pub const LONGEST_TEXT: usize = c_text::LONGEST + 97;
+/// What the printer may be lent, and what the text reader may be given. There are longer texts.
+pub const LONGEST_TEXT: usize = 524_288;
 
 #[derive(Clone, PartialEq, Eq, Debug, Default)]
 pub struct Case {

@@ -37,8 +37,8 @@ class Names(unittest.TestCase):
 
 class WithoutEngine(Command):
     def test_too_long(self) -> None:
-        result = self.zaru("from-c", "-", "-o", "new", given=bytes(2_720_601), engine="/nowhere/cases")
-        told = "-: 2,720,601 bytes; no text of a table is longer than 2,720,503 bytes\n"
+        result = self.zaru("from-c", "-", "-o", "new", given=bytes(524_289), engine="/nowhere/cases")
+        told = "-: 524,289 bytes; this command reads texts of up to 524,288, zaru_from_c_text of the C library all\n"
         self.assertEqual(result, Result(1, "", told))
 
 

@@ -40,8 +40,8 @@ const LONGEST_EVENTS: usize = EVENT * ENTRIES;
 
 const LONGEST_OUT: usize = 70000;
 
-// The longest text of a table has 2,720,503 bytes.
-const LONGEST_TEXT: usize = 2720600;
+// There are longer texts, of up to 2,720,503 bytes: so large an array is more than the prover can look at.
+const LONGEST_TEXT: usize = 524288;
 
 // No batch has more requests: the loop over them ends.
 const MOST_REQUESTS: u32 = 1000000;
@@ -355,7 +355,7 @@ fn take_request(header: &[u8; HEADER], table: &mut [u8]) -> bool {
     )
 }
 
-// A text stands in the table's place: only then is there room for the longest one, since it is cleared for each request.
+// A text stands in the table's place: only then is there room for one, since it is cleared for each request.
 fn text_request(header: &[u8; HEADER]) -> bool {
     let mut text = [0u8; LONGEST_TEXT];
     take_request(header, &mut text)

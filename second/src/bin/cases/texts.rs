@@ -2,8 +2,9 @@
 
 use crate::maker::*;
 use crate::Batch;
+use second::batch::LONGEST_TEXT;
 use second::builder::table;
-use second::c_text::{text, LONGEST};
+use second::c_text::text;
 use second::program::Kind;
 use second::random::{damaged, program_of, Random, Scale};
 use second::samples::{judged, Judged};
@@ -22,13 +23,14 @@ fn rooms(length: usize) -> [u32; 4] {
     [0, length - 1, length, length + 5]
 }
 
-/// Programs by hand, the longest text, and tables of each refusal.
+/// Programs by hand, a text too long for its buffer, and tables of each refusal.
 pub fn printed_tables(batch: &mut Batch) {
     for (name, program) in printed() {
         let table = table(&program);
         let length = text(&program).len();
         for room in rooms(length) {
-            if table.len() < 600 || room == length as u32 {
+            let lent = room as usize <= LONGEST_TEXT;
+            if lent && (table.len() < 600 || room == length as u32) {
                 batch.add(print_case(&table, room));
             }
         }
@@ -36,7 +38,7 @@ pub fn printed_tables(batch: &mut Batch) {
             batch.add(shown(print_case(&table, length as u32 + 5)));
         }
     }
-    batch.add(print_case(&table(&longest()), LONGEST as u32));
+    batch.add(print_case(&table(&longest()), LONGEST_TEXT as u32));
     for Judged { table, .. } in judged() {
         if table.len() < 1_000 {
             match verdict(&table, Kind::Sequential) {
