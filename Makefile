@@ -19,6 +19,7 @@ second:
 cases: second
 	@mkdir -p target/cases
 	cd second && cargo run --release --offline --quiet --bin cases -- ../target/cases/stdin ../target/cases/stdout 2>/dev/null
+	cmp second/src/prelude.h share/prelude.h
 	cmp target/cases/stdin crates/cases/stdin
 	cmp target/cases/stdout crates/cases/stdout
 

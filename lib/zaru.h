@@ -1,4 +1,4 @@
-/* Zarukohen for C: read, translate, run and mend tables, try their orders, and tell what their steps cost. The calls are proved: on a stack that is large enough (below)
+/* Zarukohen for C: read, translate, run and mend tables, print them as C text and read that, try their orders, and tell what their steps cost. The calls are proved: on a stack that is large enough (below)
  * none traps or runs without end, whatever the bytes, and each determines every number of its answer and every byte of the lent buffers.
  * docs/CONTRACTS.md says in words what each promises.
  *
