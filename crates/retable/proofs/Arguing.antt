@@ -22,7 +22,7 @@ use Rattle.retable.specs.Laws.Exprs.{Parses, ParsesByte, ParsesTwo, Pars
 use Rattle.retable.specs.Laws.Lines.{ParsesPointed, ParsesTarget, ParsesWrite, ParsesSelect, ParsesCall, Argued, ParsesMore, ParsesArgs, ParsesCounted}
 use Rattle.retable.specs.declared.pieces.Numbered.{Numbered}
 use Rattle.retable.specs.declared.exprs.Parsed.{Parsed}
-use Rattle.retable.specs.declared.lines.Arguments.{Arguments}
+use Rattle.retable.specs.declared.statements.Arguments.{Arguments}
 
 -- ---- from what stands at a place
 

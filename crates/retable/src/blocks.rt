@@ -1,12 +1,12 @@
 // Instructions and blocks of a text, as the bytes of a table: the two parsers call each other, the allowed depth falling.
 use super::exprs::Parsed;
 use super::exprs::parse_expr;
-use super::lines::parse_call;
-use super::lines::parse_select;
-use super::lines::parse_target;
-use super::lines::parse_write;
 use super::pieces::peek;
 use super::pieces::skip;
+use super::statements::parse_call;
+use super::statements::parse_select;
+use super::statements::parse_target;
+use super::statements::parse_write;
 use basics::numbers::DEPTH;
 use basics::numbers::END;
 use basics::numbers::IF;

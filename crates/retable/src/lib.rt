@@ -4,6 +4,6 @@
 pub mod blocks;
 pub mod exprs;
 pub mod frames;
-pub mod lines;
 pub mod pieces;
+pub mod statements;
 pub mod whole;

@@ -12,7 +12,7 @@ use Rattle.ctext.specs.Laws.LineText.{InstrText, TargetIn, WriteIn, CallIn, Sel
 use Rattle.writer.specs.Laws.Put.{Put}
 use Rattle.retable.specs.Laws.Exprs.{Parses}
 use Rattle.retable.specs.declared.exprs.Parsed.{Parsed}
-use Rattle.retable.specs.declared.lines.Arguments.{Arguments}
+use Rattle.retable.specs.declared.statements.Arguments.{Arguments}
 
 module _ (x : List ℕ) (i : ℕ) (o : List ℕ) (p : ℕ) (o′ : List ℕ) (r : Parsed) where
   -- a local, and an expression

@@ -16,10 +16,10 @@ use Rattle.retable.proofs.blocks.parse_instr.Kinds as parse-instr-kinds
 use Rattle.retable.proofs.blocks.+parse_block+parse_if+parse_instr.Lts-parse_instr as parse-instr-lts
 use Rattle.retable.proofs.blocks.ends.Reads as ends-reads
 use Rattle.retable.proofs.blocks.parse_test.Reads as parse-test-reads
-use Rattle.retable.proofs.lines.parse_call.Reads as parse-call-reads
-use Rattle.retable.proofs.lines.parse_select.Reads as parse-select-reads
-use Rattle.retable.proofs.lines.parse_target.Reads as parse-target-reads
-use Rattle.retable.proofs.lines.parse_write.Reads as parse-write-reads
+use Rattle.retable.proofs.statements.parse_call.Reads as parse-call-reads
+use Rattle.retable.proofs.statements.parse_select.Reads as parse-select-reads
+use Rattle.retable.proofs.statements.parse_target.Reads as parse-target-reads
+use Rattle.retable.proofs.statements.parse_write.Reads as parse-write-reads
 use Rattle.retable.proofs.pieces.peek.Reads as peek-reads
 use Rattle.retable.proofs.pieces.skip.Reads as skip-reads
 use Rattle.writer.proofs.bytes.put.Reads as put-reads

@@ -1,10 +1,10 @@
--- `retable::lines::parse_target` meets its contract.
+-- `retable::statements::parse_target` meets its contract.
 use borrow.Author.Needs.{needs}
 use Rattle.retable.proofs.Arguing.{target-ways}
-use Rattle.retable.proofs.lines.parse_target.Statement.{statement}
-use Rattle.retable.proofs.lines.parse_target.Tie as tie
+use Rattle.retable.proofs.statements.parse_target.Statement.{statement}
+use Rattle.retable.proofs.statements.parse_target.Tie as tie
 use Rattle.retable.proofs.exprs.parse_expr.Reads as parse-expr-reads
-use Rattle.retable.proofs.lines.parse_pointed.Reads as parse-pointed-reads
+use Rattle.retable.proofs.statements.parse_pointed.Reads as parse-pointed-reads
 use Rattle.retable.proofs.pieces.number.Reads as number-reads
 use Rattle.retable.proofs.pieces.peek.Reads as peek-reads
 use Rattle.retable.proofs.pieces.skip.Reads as skip-reads

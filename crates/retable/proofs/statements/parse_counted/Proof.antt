@@ -1,9 +1,9 @@
--- `retable::lines::parse_counted` meets its contract.
+-- `retable::statements::parse_counted` meets its contract.
 use borrow.Author.Needs.{needs}
 use Rattle.retable.proofs.Arguing.{call-ways}
-use Rattle.retable.proofs.lines.parse_counted.Statement.{statement}
-use Rattle.retable.proofs.lines.parse_counted.Tie as tie
-use Rattle.retable.proofs.lines.parse_args.Reads as parse-args-reads
+use Rattle.retable.proofs.statements.parse_counted.Statement.{statement}
+use Rattle.retable.proofs.statements.parse_counted.Tie as tie
+use Rattle.retable.proofs.statements.parse_args.Reads as parse-args-reads
 use Rattle.writer.proofs.bytes.put.Reads as put-reads
 
 pub parse-counted-spec : {M : Type 1} → statement M

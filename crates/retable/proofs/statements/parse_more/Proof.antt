@@ -1,9 +1,9 @@
--- `retable::lines::parse_more` meets its contract.
+-- `retable::statements::parse_more` meets its contract.
 use borrow.Author.Needs.{needs}
 use Prim.Native.Nat.{_-_}
 use Rattle.retable.proofs.Arguing.{MoreFrom, more-ways}
-use Rattle.retable.proofs.lines.parse_more.Statement.{statement}
-use Rattle.retable.proofs.lines.parse_more.Tie as tie
+use Rattle.retable.proofs.statements.parse_more.Statement.{statement}
+use Rattle.retable.proofs.statements.parse_more.Tie as tie
 use Rattle.retable.proofs.exprs.parse_expr.Reads as parse-expr-reads
 use Rattle.retable.proofs.pieces.peek.Reads as peek-reads
 use Rattle.retable.proofs.pieces.skip.Reads as skip-reads
