@@ -1,5 +1,7 @@
 -- The sequential program of a concurrent one, and what the translator's call answers: definitions and laws, no code.
 
+-- where the locals of each procedure begin, in both modes
+pub mod Placement
 -- where the copy keeps what
 pub mod Layout
 -- the code of one label: report RR-2017-03, figures 3 to 11
@@ -10,5 +12,7 @@ pub mod Translate
 pub mod Calls
 -- a translation worked by hand
 pub mod Example
--- what these are worth: read the end of Laws.Copy
+-- programs of request 107, placed
+pub mod Worked
+-- what these are worth: read the end of Laws.Copy, and Laws.Placing.Best
 pub mod Laws

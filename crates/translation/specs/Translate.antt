@@ -8,7 +8,9 @@ use Rattle.format.specs.Syntax.{constant, local, one, two}
 use Rattle.format.specs.Syntax.{Instr, assign, write, read, while, if, call, atomic, select, Block, end, step, Proc, Program, Plain}
 use Rattle.format.specs.Labels.{first, labelled, counts}
 pub use Rattle.format.specs.Labels.{bodyOf, beginOf, endsOf, begins}
-use Rattle.translation.specs.Layout.{Layout, layout, sizes}
+use Rattle.translation.specs.declared.Mode.{Mode}
+use Rattle.translation.specs.declared.Mode.the-variants.{Own}
+use Rattle.translation.specs.Layout.{Layout, layoutIn, sizesIn, layout, sizes}
 use Rattle.translation.specs.Code.{_then_, tmp, moved, num, loc, code, returns}
 
 -- ---- a procedure for each label, in label order
@@ -88,14 +90,34 @@ interleavings G begin mains L =
     (assign terminated (constant (Truth false)) then
     loop G mains L))
 
--- procedure 0
-abbrev pub zeroth : {A : Type 0} → Program A → Proc Plain
-zeroth q = record { params = 0; locals = 4; body = interleavings (layout q) (begins q) (q .mains) (counts (q .procs)) }
+-- the copy, with its locations in layout G and of sizes Z: "Sequential tables have T = 0"
+module _ {A : Type 0} (G : Layout) (Z : List ℕ) (q : Program A) where
+  -- procedure 0
+  abbrev pub zerothBy : Proc Plain
+  zerothBy = record { params = 0; locals = 4; body = interleavings G (begins q) (q .mains) (counts (q .procs)) }
 
--- those after it
-abbrev pub later : {A : Type 0} → Program A → List (Proc Plain)
-later q = simulations (layout q) (begins q) (endsOf q) 0 (labelled q .procs)
+  -- those after it
+  abbrev pub laterBy : List (Proc Plain)
+  laterBy = simulations G (begins q) (endsOf q) 0 (labelled q .procs)
 
--- the copy: "Sequential tables have T = 0"
-abbrev pub translate : {A : Type 0} → Program A → Program Plain
-translate q = record { procs = zeroth q ∷ later q; sizes = sizes q; mains = [] }
+  -- all of it
+  abbrev pub translateBy : Program Plain
+  translateBy = record { procs = zerothBy ∷ laterBy; sizes = Z; mains = [] }
+
+-- the copy in a mode
+abbrev pub translateIn : {A : Type 0} → Mode → Program A → Program Plain
+translateIn mode q = translateBy (layoutIn mode q) (sizesIn mode q) q
+
+-- in the old mode
+module _ {A : Type 0} (q : Program A) where
+  -- procedure 0
+  abbrev pub zeroth : Proc Plain
+  zeroth = zerothBy (layout q) (sizes q) q
+
+  -- those after it
+  abbrev pub later : List (Proc Plain)
+  later = laterBy (layout q) (sizes q) q
+
+  -- all of it
+  abbrev pub translate : Program Plain
+  translate = translateIn Own q
