@@ -10,7 +10,8 @@ use Rattle.format.specs.Syntax.{concurrent, sequential}
 use Rattle.format.specs.Encode.{table}
 use Rattle.format.specs.Rules.{Verdict, refused, accepted, verdict, limits}
 use Rattle.translation.specs.declared.WriteAnswer.{WriteAnswer}
-use Rattle.translation.specs.Translate.{translate}
+use Rattle.translation.specs.declared.Mode.{Mode}
+use Rattle.translation.specs.Translate.{translateIn}
 
 -- "A refusal returns its number and zeros"
 abbrev pub refusal : ℕ → WriteAnswer
@@ -39,11 +40,11 @@ writesTable new out = elim (ltb (limits sequential .bytes) (length new)) [
   | false ↦ writes new out
 ]
 
--- by the verdict on the concurrent table
-abbrev pub translateAs : Verdict → List ℕ → Written
-translateAs (refused n) out = record { answer = refusal n; out = out }
-translateAs (accepted p) out = writesTable (table sequential (translate p)) out
+-- by the verdict on the concurrent table; request #107: "Numbers 9 and 10 use the chosen mode's length"
+abbrev pub translateAs : Mode → Verdict → List ℕ → Written
+translateAs mode (refused n) out = record { answer = refusal n; out = out }
+translateAs mode (accepted p) out = writesTable (table sequential (translateIn mode p)) out
 
--- the call, on concurrent table t with the lent buffer out
-abbrev pub translateCall : List ℕ → List ℕ → Written
-translateCall t out = translateAs (verdict concurrent t) out
+-- the call, in a mode, on concurrent table t with the lent buffer out
+abbrev pub translateCall : Mode → List ℕ → List ℕ → Written
+translateCall mode t out = translateAs mode (verdict concurrent t) out

@@ -1,8 +1,7 @@
 -- The layout by its properties, which are all that the agreement of the copy uses: its locations are above the program's
--- (Private), apart (Apart), and as long as the threads are many (Rows).
+-- (Private), apart as far as one thread uses them together (Apart), and as long as the threads are many (Rows).
 use Prim.Native.Nat.{ℕ, suc, _+_, _≤_, _<_}
 use native.Mathlib.Omega.{arith}
-use native.Mathlib.Decide.{ℕ-discrete, decLt}
 use mathlib.Core.Path.{_≡_, _∙_}
 use mathlib.Core.Logic.{_≢_}
 use mathlib.Core.List.{List, _∷_}
@@ -10,9 +9,11 @@ use lib.ListN.{length, replicate}
 use Rattle.value.specs.Maybe.{is}
 use Rattle.value.specs.Lists.{at}
 use Rattle.value.specs.Laws.Lists.{at-after, at-replicate}
-use Rattle.format.specs.Syntax.{Program, Plain}
-use Rattle.translation.specs.Layout.{Layout, layout, localsOf, before, sizes}
-use Rattle.translation.specs.Laws.Procs.{before-next}
+use Rattle.format.specs.Syntax.{Proc, Program, Plain}
+use Rattle.translation.specs.Placement.{localsAt}
+use Rattle.translation.specs.Layout.{Layout, layoutBy, sizesBy}
+use Rattle.translation.specs.Laws.Placing.Apart.{Along}
+use Rattle.translation.specs.Laws.Placing.Modes.{Placed}
 
 -- the copy's own locations are not recorded
 pub record Private (h : ℕ) (G : Layout) : Type 0 where
@@ -21,9 +22,9 @@ pub record Private (h : ℕ) (G : Layout) : Type 0 where
   pub from : (m : ℕ) → h ≤ G .from m
   pub home : (m x : ℕ) → h ≤ G .home m x
 
--- The copy's own locations are apart: N procedures, of which m has L m locals.
-pub record Apart (G : Layout) (N : ℕ) (L : ℕ → ℕ) : Type 0 where
-  pub home-home : (m x k y : ℕ) → m < N → k < N → x < L m → y < L k → G .home m x ≡ G .home k y → (m ≡ k) × (x ≡ y)
+-- The copy's own locations are apart, the homes of locals on each call path: N procedures, of which m has L m locals.
+pub record Apart (ps : List (Proc Plain)) (G : Layout) (N : ℕ) (L : ℕ → ℕ) : Type 0 where
+  pub home-home : (m x k y : ℕ) → m < N → k < N → Along ps m k → x < L m → y < L k → G .home m x ≡ G .home k y → (m ≡ k) × (x ≡ y)
   pub home-from : (m x k : ℕ) → k < N → G .home m x ≢ G .from k
   pub home-pct : (m x : ℕ) → G .home m x ≢ G .pct
   pub from-from : (m k : ℕ) → G .from m ≡ G .from k → m ≡ k
@@ -39,15 +40,16 @@ pub record Rows (G : Layout) (N : ℕ) (L : ℕ → ℕ) (T : ℕ) (Z : List ℕ
   pub from : (m : ℕ) → m < N → at Z (G .from m) ≡ is T
   pub home : (m x : ℕ) → m < N → x < L m → at Z (G .home m x) ≡ is T
 
-module _ (p : Program Plain) where
+-- the copy of p, where its locals are placed so
+module _ (p : Program Plain) (start : ℕ → ℕ) (R : ℕ) (D : Placed (p .procs) start R) where
   -- it keeps what is its own above the program's locations
-  pub private : Private (length (p .sizes)) (layout p)
+  pub private : Private (length (p .sizes)) (layoutBy start p)
   private = record { ptid = omega arith; pct = omega arith; from = λ m. omega arith; home = λ m x. omega arith }
 
   -- it keeps nothing in two places at once
-  pub apart : Apart (layout p) (length (p .procs)) (λ m. localsOf (at (p .procs) m))
+  pub apart : Apart (p .procs) (layoutBy start p) (length (p .procs)) (localsAt (p .procs))
   apart = record {
-    home-home = λ m x k y inN inN′ lo lo′ e. same m x k y lo lo′ e;
+    home-home = λ m x k y inN inN′ a lo lo′ e. D .apart .apart m x k y inN inN′ a lo lo′ (omega arith);
     home-from = λ m x k inN e. absurd (omega arith);
     home-pct = λ m x e. absurd (omega arith);
     from-from = λ m k e. omega arith;
@@ -56,40 +58,24 @@ module _ (p : Program Plain) where
     from-ptid = λ m e. absurd (omega arith);
     pct-ptid = λ e. absurd (omega arith);
   }
-    where
-      same : (m x k y : ℕ) → x < localsOf (at (p .procs) m) → y < localsOf (at (p .procs) k) → layout p .home m x ≡ layout p .home k y
-          → (m ≡ k) × (x ≡ y)
-      same m x k y lo lo′ e = elim (ℕ-discrete m k) [
-        | yes q ↦ (q, let e′ : layout p .home k x ≡ layout p .home k y = rw q at e in omega arith)
-        | no ne ↦ elim (decLt m k) [
-          | yes l ↦
-              let b : before (p .procs) m + localsOf (at (p .procs) m) ≤ before (p .procs) k = before-next (p .procs) m k l in
-              absurd (omega arith)
-          | no nl ↦
-              let b : before (p .procs) k + localsOf (at (p .procs) k) ≤ before (p .procs) m = before-next (p .procs) k m (omega arith) in
-              absurd (omega arith)
-        ]
-      ]
 
   -- and has a cell for each thread
-  pub rows : Rows (layout p) (length (p .procs)) (λ m. localsOf (at (p .procs) m)) (length (p .mains)) (sizes p)
+  pub rows : Rows (layoutBy start p) (length (p .procs)) (localsAt (p .procs)) (length (p .mains)) (sizesBy R p)
   rows = record {
-    ptid = own (layout p .ptid) 0 (omega arith);
-    pct = own (layout p .pct) 1 (omega arith) ∙ at-replicate K 0 T (omega arith);
-    from = λ m inN. own (layout p .from m) (suc (suc m)) (omega arith) ∙ at-replicate K (suc m) T (omega arith);
+    ptid = own (layoutBy start p .ptid) 0 (omega arith);
+    pct = own (layoutBy start p .pct) 1 (omega arith) ∙ at-replicate K 0 T (omega arith);
+    from = λ m inN. own (layoutBy start p .from m) (suc (suc m)) (omega arith) ∙ at-replicate K (suc m) T (omega arith);
     home = λ m x inN lo.
-        let b : before (p .procs) m + localsOf (at (p .procs) m) ≤ before (p .procs) (length (p .procs)) =
-        before-next (p .procs) m (length (p .procs)) inN
-        in
-        own (layout p .home m x) (suc (1 + length (p .procs) + before (p .procs) m + x)) (omega arith)
-        ∙ at-replicate K (1 + length (p .procs) + before (p .procs) m + x) T (omega arith);
+        let b : start m + localsAt (p .procs) m ≤ R = D .ends m inN in
+        own (layoutBy start p .home m x) (suc (1 + length (p .procs) + start m + x)) (omega arith)
+        ∙ at-replicate K (1 + length (p .procs) + start m + x) T (omega arith);
   }
     where
       K : ℕ
-      K = 1 + length (p .procs) + before (p .procs) (length (p .procs))
+      K = 1 + length (p .procs) + R
 
       T : ℕ
       T = length (p .mains)
 
-      own : (l k : ℕ) → l ≡ length (p .sizes) + k → at (sizes p) l ≡ at (1 ∷ replicate K T) k
+      own : (l k : ℕ) → l ≡ length (p .sizes) + k → at (sizesBy R p) l ≡ at (1 ∷ replicate K T) k
       own l k e = rw e (at-after (p .sizes) (1 ∷ replicate K T) k)

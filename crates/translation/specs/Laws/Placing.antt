@@ -1,4 +1,4 @@
--- What the placements of locals are worth: read Best and Layouts.
+-- What the placements of locals are worth: read Best and Modes.
 
 -- the largest of some numbers, and callers
 pub mod Largest
@@ -12,7 +12,7 @@ pub mod Apart
 pub mod Shortest
 -- all of it, of every program that rule 7 lets pass
 pub mod Best
--- the layouts of both modes, by the properties that demand 3 needs
-pub mod Layouts
+-- both modes keep what demand 3 needs of a placement
+pub mod Modes
 -- the length of the copy's table in both modes
 pub mod Lengths
