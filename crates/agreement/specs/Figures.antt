@@ -31,13 +31,13 @@ figures r c = record {
   reason = reasonOf (r .how);
 }
 
--- of an accepted program: 9, then 11. "It lends buffers that are large enough and gives the copy demand 3's budget."
+-- of an accepted program: 9, then 11. "It lends buffers that are large enough and gives the copy demand 3's budget." The copy is the old mode's.
 abbrev pub figuresOf : Program Plain → List ℕ → Figures
 figuresOf p ts = elim (ltb (limits sequential .bytes) (length (table sequential (translate p)))) [
   | true ↦ refusal 9
   | false ↦ elim (scheduled concurrent p ts) [
     | false ↦ refusal 11
-    | true ↦ figures (programRun p ts) (copyRun budget p ts)
+    | true ↦ figures (programRun p ts) (copyRun (translate p) budget p ts)
   ]
 ]
 

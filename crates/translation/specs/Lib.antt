@@ -12,7 +12,7 @@ pub mod Translate
 pub mod Calls
 -- a translation worked by hand
 pub mod Example
--- programs of request 107, placed
+-- programs of request 107, placed in both modes
 pub mod Worked
 -- what these are worth: read the end of Laws.Copy, and Laws.Placing.Best
 pub mod Laws

@@ -15,7 +15,6 @@ use Rattle.value.specs.Laws.Tests.{by-test}
 use Rattle.value.specs.Laws.Lists.{In, here, there, each-in, in-at}
 use Rattle.format.specs.Syntax.{Proc, Program, Plain}
 use Rattle.format.specs.Labels.{labelled}
-use Rattle.translation.specs.Translate.{translate}
 use Rattle.semantics.specs.Memory.{Event}
 use Rattle.semantics.specs.Threads as P
 use Rattle.semantics.specs.Copy as C
@@ -150,31 +149,28 @@ module _ (h : ℕ) (procs : List (Proc Plain)) where
           after (suc i) p q = ih d i u v p q
 
 -- THE VISITS ARE THE LOOP HEADS OF THE COPY'S RUN: where a run with a budget of so many steps, at most n, comes to a loop head.
-pub visits-exactly : (n : ℕ) (p : Program Plain) (ts : List ℕ) (v : Visit) → In v (visitsOf n p ts) ↔ ((v .steps ≤ n) ×
-    (copyRun (v .steps) p ts .steps ≡ v .steps) × (copyRun (v .steps) p ts .config ≡ v .config) × (atHead (v .config .stack) ≡ true))
-visits-exactly n p ts v = (so, of)
+pub visits-exactly : (q : Program Plain) (n : ℕ) (p : Program Plain) (ts : List ℕ) (v : Visit) → In v (visitsOf q n p ts) ↔ ((v .steps ≤ n) ×
+    (copyRun q (v .steps) p ts .steps ≡ v .steps) × (copyRun q (v .steps) p ts .config ≡ v .config) × (atHead (v .config .stack) ≡ true))
+visits-exactly q n p ts v = (so, of)
   where
-    q : Program Plain
-    q = translate p
-
-    so : In v (visitsOf n p ts) → (v .steps ≤ n) × (copyRun (v .steps) p ts .steps ≡ v .steps) × (copyRun (v .steps) p ts .config ≡ v .config) ×
+    so : In v (visitsOf q n p ts) → (v .steps ≤ n) × (copyRun q (v .steps) p ts .steps ≡ v .steps) × (copyRun q (v .steps) p ts .config ≡ v .config) ×
         (atHead (v .config .stack) ≡ true)
     so i =
         let r = reached (length (p .sizes)) (q .procs) n 0 (C.start q ts) v i in
         let s : v .steps ≡ r .0 = omega (arith, r .1 .after) in
         (omega (arith, r .1 .within), rw s (r .1 .steps ∙ s), rw s (r .1 .config), r .1 .head)
 
-    of : (v .steps ≤ n) × (copyRun (v .steps) p ts .steps ≡ v .steps) × (copyRun (v .steps) p ts .config ≡ v .config) ×
+    of : (v .steps ≤ n) × (copyRun q (v .steps) p ts .steps ≡ v .steps) × (copyRun q (v .steps) p ts .config ≡ v .config) ×
         (atHead (v .config .stack) ≡ true)
-        → In v (visitsOf n p ts)
+        → In v (visitsOf q n p ts)
     of g = visited (length (p .sizes)) (q .procs) n 0 (C.start q ts) v (v .steps)
         (record { within = g .0; after = omega arith; steps = g .1; config = g .2; head = g .3 })
 
 -- THEY ARE IN ORDER.
-pub visits-rise : (n : ℕ) (p : Program Plain) (ts : List ℕ) (k : ℕ) (u v : Visit) → at (visitsOf n p ts) k ≡ is u
-    → at (visitsOf n p ts) (suc k) ≡ is v
+pub visits-rise : (q : Program Plain) (n : ℕ) (p : Program Plain) (ts : List ℕ) (k : ℕ) (u v : Visit) → at (visitsOf q n p ts) k ≡ is u
+    → at (visitsOf q n p ts) (suc k) ≡ is v
     → u .steps < v .steps
-visits-rise n p ts k u v e f = let q : Program Plain = translate p in rising (length (p .sizes)) (q .procs) n 0 (C.start q ts) k u v e f
+visits-rise q n p ts k u v e f = rising (length (p .sizes)) (q .procs) n 0 (C.start q ts) k u v e f
 
 -- ---- prices
 

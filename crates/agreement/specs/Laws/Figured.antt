@@ -15,12 +15,13 @@ use Rattle.format.specs.Encode.{table}
 use Rattle.format.specs.Rules.{Verdict, refused, accepted, verdict, limits}
 use Rattle.format.specs.Laws.Bytes.{Bytes}
 use Rattle.format.specs.Laws.Refusals.{refused-within}
+use Rattle.translation.specs.declared.Mode.the-variants.{Own}
 use Rattle.translation.specs.Translate.{translate}
 use Rattle.semantics.specs.Threads as P
 use Rattle.semantics.specs.Copy as C
 use Rattle.semantics.specs.Calls.{endNumber, reasonOf, scheduled, maxEntries}
 use Rattle.agreement.specs.declared.Figures.{Figures}
-use Rattle.agreement.specs.Agreement.{programRun, copyRun, budget, headSteps, Closing, Agree, Demand3}
+use Rattle.agreement.specs.Agreement.{programRun, copyRun, budget, headSteps, Closing, AgreeIn, Demand3}
 use Rattle.agreement.specs.Figures.{figures, figuresOf, figuresCall}
 use Rattle.agreement.specs.Laws.Accepted.{demand3}
 
@@ -35,15 +36,15 @@ Steps copy head P.spent = ⊥
 -- what the figures say of the program p of the table t
 pub record Figured (t ts : List ℕ) (f : Figures) (p : Program Plain) : Type 0 where
   pub reads : verdict concurrent t ≡ accepted p
-  pub agree : Agree t p ts budget
+  pub agree : AgreeIn Own t p ts budget
   -- the line tells the program's run
-  pub told : f ≡ figures (programRun p ts) (copyRun budget p ts)
+  pub told : f ≡ figures (programRun p ts) (copyRun (translate p) budget p ts)
   -- the copy ends the same way, for the same reason, and so never at its budget
-  pub end : f .end ≡ endNumber (copyRun budget p ts .how)
-  pub reason : f .reason ≡ reasonOf (copyRun budget p ts .how)
-  pub never : copyRun budget p ts .how ≡ P.spent → ⊥
+  pub end : f .end ≡ endNumber (copyRun (translate p) budget p ts .how)
+  pub reason : f .reason ≡ reasonOf (copyRun (translate p) budget p ts .how)
+  pub never : copyRun (translate p) budget p ts .how ≡ P.spent → ⊥
   -- with the same shared events, where the run is not blocked
-  pub events : ((why : Reason) → programRun p ts .how ≡ P.blocked why → ⊥) → f .events ≡ length (copyRun budget p ts .config .events)
+  pub events : ((why : Reason) → programRun p ts .how ≡ P.blocked why → ⊥) → f .events ≡ length (copyRun (translate p) budget p ts .config .events)
   pub steps : Steps (f .copy) (headSteps p ts) (programRun p ts .how)
 
 -- the copy's steps, from its end
@@ -62,11 +63,11 @@ closing-events p ts r c (P.blocked why) h n = absurd (n why refl)
 closing-events p ts r c P.spent h n = absurd h
 
 -- the figures of a program that agrees with its copy
-figured : (t ts : List ℕ) (p : Program Plain) → verdict concurrent t ≡ accepted p → Agree t p ts budget
-    → Figured t ts (figures (programRun p ts) (copyRun budget p ts)) p
+figured : (t ts : List ℕ) (p : Program Plain) → verdict concurrent t ≡ accepted p → AgreeIn Own t p ts budget
+    → Figured t ts (figures (programRun p ts) (copyRun (translate p) budget p ts)) p
 figured t ts p reads agree =
     let r : P.Ran = programRun p ts in
-    let c : C.Ran = copyRun budget p ts in
+    let c : C.Ran = copyRun (translate p) budget p ts in
     record {
       reads = reads;
       agree = agree;
@@ -88,8 +89,8 @@ through t ts p bytes reads zero =
     by-test (scheduled concurrent p ts)
     (λ b.
     let two = both-passed (leb (length ts) maxEntries) (all (λ t. ltb t (length (p .mains))) ts) b in
-    let agree : Agree t p ts budget
-    = demand3 t p ts budget bytes reads (ltb-false _ _ a) (leb-true _ _ (two .0))
+    let agree : AgreeIn Own t p ts budget
+    = demand3 Own t p ts budget bytes reads (ltb-false _ _ a) (leb-true _ _ (two .0))
     (all? (λ t. lt? t (length (p .mains))) ts .so (two .1)) (omega arith) in
     rw (a, b, figuresOf) (figured t ts p reads agree))
     (λ b. let z : _≡_ {A = ℕ} 11 0 = rw (a, b, figuresOf) at zero in absurd (omega arith))

@@ -18,6 +18,7 @@ use Rattle.format.specs.Encode.{table}
 use Rattle.format.specs.Rules.{Verdict, refused, accepted, verdict, limits}
 use Rattle.format.specs.Laws.Accepted.{accepted-exactly}
 use Rattle.translation.specs.declared.WriteAnswer.{WriteAnswer}
+use Rattle.translation.specs.declared.Mode.the-variants.{Own}
 use Rattle.translation.specs.Translate.{translate}
 use Rattle.translation.specs.Calls.{writes, writesTable, translateCall}
 use Rattle.translation.specs.Laws.Called.{Copied, call-copies}
@@ -63,7 +64,7 @@ copy-answers t ts cs es h bytes room = as-enough sequential t ts cs es (sequenti
 
 -- ---- the figures
 
-module _ (t ts out : List ℕ) {o : List ℕ} {w : WriteAnswer} (W : record { answer = w; out = o } ≡ translateCall t out) where
+module _ (t ts out : List ℕ) {o : List ℕ} {w : WriteAnswer} (W : record { answer = w; out = o } ≡ translateCall Own t out) where
   -- a table that is not translated: 1 to 9, since the copy has room
   pub told-unwritten : limits sequential .bytes ≤ length out → (w .number ≡ 0 → ⊥) → refusal (w .number) ≡ figuresCall t ts
   told-unwritten room z = by (verdict concurrent t) refl
@@ -82,15 +83,15 @@ module _ (t ts out : List ℕ) {o : List ℕ} {w : WriteAnswer} (W : record { an
 
   module _ (bytes : Bytes t) (written : w .number ≡ 0) where
     -- the copy's table
-    pub told-copy : (p : Program Plain) × Copied t out (w .length) p
+    pub told-copy : (p : Program Plain) × Copied Own t out (w .length) p
     told-copy =
-        let n : translateCall t out .answer .length ≡ w .length = sym (ap (λ x. x .answer .length) W) in
-        rw n at (call-copies t out bytes (sym (ap (λ x. x .answer .number) W) ∙ written))
+        let n : translateCall Own t out .answer .length ≡ w .length = sym (ap (λ x. x .answer .length) W) in
+        rw n at (call-copies Own t out bytes (sym (ap (λ x. x .answer .number) W) ∙ written))
 
     -- it lies in the buffer
     pub told-fits : limits sequential .bytes ≤ length out → w .length ≤ length o
     told-fits room =
-        let c : Copied t out (w .length) (told-copy .0) = told-copy .1 in
+        let c : Copied Own t out (w .length) (told-copy .0) = told-copy .1 in
         omega (arith, c .count, c .short, ap (λ x. length (x .out)) W ∙ c .length)
 
     -- a program that is not run: 11, since its cells have room
@@ -98,7 +99,7 @@ module _ (t ts out : List ℕ) {o : List ℕ} {w : WriteAnswer} (W : record { an
     unfolding programAnswer
     told-not-run {r} R z =
         let p : Program Plain = told-copy .0 in
-        let c : Copied t out (w .length) p = told-copy .1 in
+        let c : Copied Own t out (w .length) p = told-copy .1 in
         by-test (scheduled concurrent p ts)
         (λ a. absurd (z (ap (λ x. x .number) R ∙ rw (c .reads, a, answerAs))))
         (λ a.
@@ -113,7 +114,7 @@ module _ (t ts out : List ℕ) {o : List ℕ} {w : WriteAnswer} (W : record { an
     unfolding programAnswer copyAnswer
     told-both {r} {s} {a} R z A S =
         let p : Program Plain = told-copy .0 in
-        let c : Copied t out (w .length) p = told-copy .1 in
+        let c : Copied Own t out (w .length) p = told-copy .1 in
         let back : verdict sequential (take (w .length) o) ≡ accepted (translate p)
         = ap (λ x. verdict sequential (take (w .length) (x .out))) W ∙ c .back in
         let h : a .locations ≡ length (p .sizes) = ap (λ x. x .locations) A ∙ rw (c .reads) in

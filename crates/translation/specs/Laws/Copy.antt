@@ -170,4 +170,5 @@ pub copy-accepted : (mode : Mode) (t : List ℕ) → Bytes t → (q : Program Pl
 copy-accepted mode t h q e short =
     let sound : Sound concurrent q = accepted-exactly concurrent t h q .0 e .1 in
     accepted-of sequential (translateIn mode q)
-    (copy-sound q sound (startIn mode (q .procs)) (rowOf mode (q .procs)) (sound-placed mode q sound) (row-short mode (q .procs) (sound .calls)) short)
+    (copy-sound q sound (startIn mode (q .procs)) (rowOf mode (q .procs)) (sound-placed mode q sound)
+    (row-short mode (q .procs) (sound .calls)) short)

@@ -21,8 +21,8 @@ use Rattle.translation.specs.Placement.{rowOf}
 use Rattle.translation.specs.Layout.{Layout, sizesBy, layoutIn}
 use Rattle.translation.specs.Code.{_then_, num, loc, tid, tmp, aux, moved, shift, variables, put, pc, load, loadAll}
 use Rattle.translation.specs.Code.{assigns, reads, writes, tests, passes, calls, returns, insideI, inside, code}
-use Rattle.translation.specs.Translate.{each, heldBy, simulations, begins, endsOf, stmt, terminated, forEach, switch, round, loop, interleavings}
-use Rattle.translation.specs.Translate.{translateBy, translateIn}
+use Rattle.translation.specs.Translate.{each, heldBy, simulations, begins, endsOf, stmt, terminated, forEach, switch, round, loop}
+use Rattle.translation.specs.Translate.{interleavings, translateBy, translateIn}
 use Rattle.translation.specs.Laws.Placing.Shortest.{shared-shorter}
 
 -- the bytes of a block
