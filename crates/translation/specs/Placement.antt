@@ -40,7 +40,9 @@ module _ {A : Type 0} (ps : List (Proc A)) where
   abbrev pub localsAt : ℕ → ℕ
   localsAt m = localsOf (at ps m)
 
-  -- the procedures whose bodies call m, as written: dead code and atomic blocks too, and whether or not a thread comes there
+  -- the procedures whose bodies call m, as written:
+  -- in dead code and atomic blocks too,
+  -- and whether or not a thread ever comes there
   unfoldable pub callers : ℕ → List ℕ
   callers m = those (λ q. any (λ c. eqb c m) (calleesOf ps q)) (upto 0 (length ps))
 

@@ -1,18 +1,22 @@
 -- Programs of request 107, placed in both modes: C, K, one whose procedure nobody calls, and the edge of number 9.
 use Prim.Native.Nat.{ℕ, zero, suc}
+use native.Mathlib.Omega.{arith}
 use mathlib.Core.Path.{_≡_, refl}
 use mathlib.Core.Bool.{true}
 use mathlib.Core.List.{List, [], _∷_, map}
 use lib.ListN.{length}
 use Rattle.value.specs.Values.{not, add}
 use Rattle.value.specs.declared.Value.the-variants.{Truth}
+use Rattle.value.specs.Laws.Lists.{here}
 use Rattle.format.specs.Syntax.{Expr, constant, local, one, two, assign, write, call, atomic, Block, end, step, Proc, Program, Plain}
 use Rattle.format.specs.Syntax.{concurrent, sequential}
 use Rattle.format.specs.Encode.{table}
+use Rattle.format.specs.Laws.Calls.{direct}
 use Rattle.translation.specs.declared.Mode.the-variants.{Own, Shared}
 use Rattle.translation.specs.Placement.{largest, callers, byRounds, startIn, rowOf}
 use Rattle.translation.specs.Code.{_then_, num}
 use Rattle.translation.specs.Translate.{translateIn}
+use Rattle.translation.specs.Laws.Placing.Apart.{down, Apart, from}
 
 -- a procedure of so many parameters and locals
 abbrev proc : ℕ → ℕ → Block Plain → Proc Plain
@@ -41,6 +45,12 @@ pub placed-c :
     × (length (table sequential (translateIn Shared C)) ≡ 563)
 unfolding byRounds largest callers
 placed-c = (refl, refl, refl, refl, refl, refl, refl)
+
+-- with all procedures at 0, two of one call path would overlap: that is no placement
+pub overlap-c : Apart (C .procs) (from (C .procs) (λ m. 0)) → ⊥
+overlap-c a =
+    let e : _≡_ {A = ℕ} 0 1 = a .apart 0 0 1 0 (omega arith) (omega arith) (down (direct here)) (omega arith) (omega arith) refl .0 in
+    absurd (omega arith)
 
 -- K: the only call stands inside an atomic block, and counts
 abbrev K : List (Proc Plain)
