@@ -10,7 +10,7 @@ use Rattle.format.specs.Labels.{first, labelled, counts}
 pub use Rattle.format.specs.Labels.{bodyOf, beginOf, endsOf, begins}
 use Rattle.translation.specs.declared.Mode.{Mode}
 use Rattle.translation.specs.declared.Mode.the-variants.{Own}
-use Rattle.translation.specs.Layout.{Layout, layoutIn, sizesIn, layout, sizes}
+use Rattle.translation.specs.Layout.{Layout, layoutIn, sizesIn, layout}
 use Rattle.translation.specs.Code.{_then_, tmp, moved, num, loc, code, returns}
 
 -- ---- a procedure for each label, in label order
@@ -90,8 +90,8 @@ interleavings G begin mains L =
     (assign terminated (constant (Truth false)) then
     loop G mains L))
 
--- the copy, with its locations in layout G and of sizes Z: "Sequential tables have T = 0"
-module _ {A : Type 0} (G : Layout) (Z : List ℕ) (q : Program A) where
+-- the copy in layout G
+module _ {A : Type 0} (G : Layout) (q : Program A) where
   -- procedure 0
   abbrev pub zerothBy : Proc Plain
   zerothBy = record { params = 0; locals = 4; body = interleavings G (begins q) (q .mains) (counts (q .procs)) }
@@ -100,9 +100,9 @@ module _ {A : Type 0} (G : Layout) (Z : List ℕ) (q : Program A) where
   abbrev pub laterBy : List (Proc Plain)
   laterBy = simulations G (begins q) (endsOf q) 0 (labelled q .procs)
 
-  -- all of it
-  abbrev pub translateBy : Program Plain
-  translateBy = record { procs = zerothBy ∷ laterBy; sizes = Z; mains = [] }
+-- all of it, with locations of sizes Z: "Sequential tables have T = 0"
+abbrev pub translateBy : {A : Type 0} → Layout → List ℕ → Program A → Program Plain
+translateBy G Z q = record { procs = zerothBy G q ∷ laterBy G q; sizes = Z; mains = [] }
 
 -- the copy in a mode
 abbrev pub translateIn : {A : Type 0} → Mode → Program A → Program Plain
@@ -112,11 +112,11 @@ translateIn mode q = translateBy (layoutIn mode q) (sizesIn mode q) q
 module _ {A : Type 0} (q : Program A) where
   -- procedure 0
   abbrev pub zeroth : Proc Plain
-  zeroth = zerothBy (layout q) (sizes q) q
+  zeroth = zerothBy (layout q) q
 
   -- those after it
   abbrev pub later : List (Proc Plain)
-  later = laterBy (layout q) (sizes q) q
+  later = laterBy (layout q) q
 
   -- all of it
   abbrev pub translate : Program Plain

@@ -46,7 +46,7 @@ module _ (q : Program Plain) (sound : Sound concurrent q) (start : ℕ → ℕ) 
 
   -- its procedures for labels
   abbrev later : List (Proc Plain)
-  later = laterBy G (sizesBy R q) q
+  later = laterBy G q
 
   -- ---- what the pieces ask of the copy
 
@@ -159,7 +159,7 @@ module _ (q : Program Plain) (sound : Sound concurrent q) (start : ℕ → ℕ) 
         (pass-both (first-right .allowed) (bodies-allowed copy 1 later sims));
     named = (first-right .named, bodies-named copy later sims);
     labels = tt;
-    calls = no-cycle copy (zerothBy G (sizesBy R q) q) later sims (first-right .calls);
+    calls = no-cycle copy (zerothBy G q) later sims (first-right .calls);
     set = set-first? copy .so (pass-both (first-right .set) (bodies-set copy later sims));
   }
 
