@@ -9,7 +9,7 @@ use marks::mark_calls;
 use scan::tokens::byte_at;
 use translation::Mode;
 ghost use mathlib.Core.Path.{_≡_};
-ghost use Prim.Native.Nat.{_+_, _*_, _<_, _≤_};
+ghost use Prim.Native.Nat.{_+_, _*_, max, _<_, _≤_};
 ghost use lib.ListN.{length, getD};
 ghost use Rattle.format.specs.Encode.{recordSize};
 ghost use Rattle.format.specs.Rules.{limits};
@@ -17,7 +17,7 @@ ghost use Rattle.format.specs.Syntax.{concurrent};
 ghost use Rattle.translation.specs.declared.Mode.the-variants.{Own, Shared};
 ghost use Rattle.places.specs.Placed.{Source, PlacesOf};
 ghost use Rattle.places.specs.Laws.Marking.{Marked};
-ghost use Rattle.places.specs.Laws.Raising.{Low, Raises, Round, Longest};
+ghost use Rattle.places.specs.Laws.Raising.{endAt, raisedTo, Low, Raises, Round, Longest};
 
 // Where the locals of each procedure begin, and how many locations there are for locals.
 pub struct Places {
@@ -52,7 +52,35 @@ fn in_order(t: &[u8], procedures: usize, records: usize) -> Places
     }
 }
 
-// Each procedure that q calls begins at `end` or later.
+// Where a procedure's locals end.
+fn end_of(t: &[u8], procedures: usize, records: usize, starts: &[u16; PROCEDURES], m: usize) -> u16
+    requires { ⌜ Source (now t) procedures records × Low (now t) procedures records (now starts) × (m < procedures) ⌝ }
+    ensures { λ r. ⌜ r ≡ endAt (now (t .entry)) records (now (starts .entry)) m ⌝ }
+{
+    starts[m] + locals_of(t, records, m)
+}
+
+// The larger of two numbers.
+fn larger(a: u16, b: u16) -> u16
+    ensures { λ r. ⌜ r ≡ max a b ⌝ }
+{
+    if a < b {
+        return b;
+    }
+    a
+}
+
+// Where a procedure begins: not before `end`, if the mark says that a caller's locals end there.
+fn raised(mark: u8, start: u16, end: u16) -> u16
+    ensures { λ r. ⌜ r ≡ raisedTo mark start end ⌝ }
+{
+    if mark == 0 {
+        return start;
+    }
+    larger(start, end)
+}
+
+// No procedure that q calls begins before `end`.
 fn raise_callees(
     marks: &[u8; MARKS],
     procedures: usize,
@@ -60,21 +88,17 @@ fn raise_callees(
     end: u16,
     starts: &mut [u16; PROCEDURES],
 )
-    requires { ⌜ (procedures ≤ limits concurrent .procs) × (q < procedures) ⌝ }
+    requires { ⌜ (procedures ≤ limits concurrent .procs) × (q < procedures) × (length (now starts) ≡ limits concurrent .procs) ⌝ }
     ensures { λ r. ⌜ Raises (now (marks .entry)) procedures q end (now (starts .entry)) (now (starts .exit)) ⌝ }
 {
     let mut m = 0;
     while m < procedures {
-        if marks[PROCEDURES * q + m] != 0 {
-            if starts[m] < end {
-                starts[m] = end;
-            }
-        }
+        starts[m] = raised(marks[PROCEDURES * q + m], starts[m], end);
         m += 1;
     }
 }
 
-// Each procedure begins where its callers' locals end by now, or later.
+// No procedure begins before its callers' locals end, as these begin by now.
 fn raise_all(
     t: &[u8],
     procedures: usize,
@@ -87,7 +111,7 @@ fn raise_all(
 {
     let mut q = 0;
     while q < procedures {
-        let end = starts[q] + locals_of(t, records, q);
+        let end = end_of(t, procedures, records, starts, q);
         raise_callees(marks, procedures, q, end, starts);
         q += 1;
     }
@@ -101,10 +125,7 @@ fn longest(t: &[u8], procedures: usize, records: usize, starts: &[u16; PROCEDURE
     let mut row = 0;
     let mut m = 0;
     while m < procedures {
-        let end = starts[m] + locals_of(t, records, m);
-        if row < end {
-            row = end;
-        }
+        row = larger(row, end_of(t, procedures, records, starts, m));
         m += 1;
     }
     row

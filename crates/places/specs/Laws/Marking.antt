@@ -4,7 +4,6 @@ use native.Mathlib.Omega.{arith}
 use mathlib.Core.Path.{_≡_, refl, sym, ap, _∙_}
 use mathlib.Core.Logic.{_≢_}
 use mathlib.Core.List.{List, [], _∷_, _++_}
-use mathlib.Core.Bool.{true, false}
 use lib.ListN.{length, getD, set, replicate, length-set}
 use lib.Seq.{getD-set-same, getD-set-other}
 use lib.Dec.{eqb, ltb}
@@ -14,9 +13,9 @@ use Rattle.value.specs.Laws.Tests.{by-test}
 use Rattle.value.specs.Laws.Lists.{In, here, there}
 use Rattle.format.specs.Syntax.{Program, Plain, concurrent}
 use Rattle.format.specs.Encode.{recordSize}
-use Rattle.format.specs.Rules.{limits, callees, calleesOf}
+use Rattle.format.specs.Rules.{limits, calleesOf}
 use Rattle.format.specs.Laws.Accepted.{sound-formed}
-use Rattle.format.specs.Laws.Calls.{Calls, calls-below}
+use Rattle.format.specs.Laws.Calls.{Calls}
 use Rattle.format.specs.Laws.Names.{all-names?}
 use Rattle.format.specs.Laws.TablePlaces.{bodyAt}
 use Rattle.scan.specs.declared.tokens.Token.{Token}
@@ -44,6 +43,7 @@ markedBy q marks ks = marking q (callsIn ks) marks
 
 -- no mark yet
 pub record Clear (marks : List ℕ) : Type 0 where
+  pub long : length marks ≡ limits concurrent .procs * limits concurrent .procs
   pub none : (i : ℕ) → getD marks i 0 ≡ 0
 
 -- the calls of the procedures before k are marked, and nothing else
@@ -76,7 +76,7 @@ room-of s = record { few = omega (arith, s .few); room = s .inside; size = omega
 
 -- ---- one call
 
-module _ {q : ℕ} {marks : List ℕ} {k : Token} {m n : ℕ} where
+module _ (q : ℕ) (marks : List ℕ) {k : Token} {m n : ℕ} where
   -- of a procedure
   pub mark-one : k ≡ T.Call m n → m < limits concurrent .procs → set marks (limits concurrent .procs * q + m) 1 ≡ marking q (callIn k) marks
   unfolding marking
@@ -95,22 +95,22 @@ unfolding marking
 marking-append q [] ys marks = refl
 marking-append q (c ∷ xs) ys marks = marking-append q xs ys _
 
-module _ {t : List ℕ} {e q : ℕ} {marks : List ℕ} {i : ℕ} where
+module _ {t : List ℕ} {e : ℕ} (q : ℕ) (marks : List ℕ) {i : ℕ} where
   -- no token yet
   pub walk-start : From t e (markedBy q marks) i (markedBy q marks) i
   walk-start = from-start
 
   -- one more
-  pub walk-next : {k n : ℕ} {a : Token} {now new : List ℕ} → From t e (markedBy q marks) i (markedBy q now) k → k < e → a ≡ tokenAt t k
+  pub walk-next : {k n : ℕ} {a : Token} (now : List ℕ) {new : List ℕ} → From t e (markedBy q marks) i (markedBy q now) k → k < e → a ≡ tokenAt t k
       → new ≡ marking q (callIn a) now → n ≡ k + sizeAt t k → From t e (markedBy q marks) i (markedBy q new) n
   unfolding markedBy
-  walk-next {k} {n} {a} {now} {new} f l at-k put z =
+  walk-next {k} {n} {a} now {new} f l at-k put z =
       rw z (from-next (markedBy q new) f l (λ ks. marking-append q (callIn (tokenAt t k)) (callsIn ks) now ∙ rw (put, at-k)))
 
   -- all of them
-  pub walk-end : {k : ℕ} {now : List ℕ} → From t e (markedBy q marks) i (markedBy q now) k → e ≤ k → Scans t e (markedBy q marks) i now
+  pub walk-end : {k : ℕ} (now : List ℕ) → From t e (markedBy q marks) i (markedBy q now) k → e ≤ k → Scans t e (markedBy q marks) i now
   unfolding markedBy marking
-  walk-end f l = from-end f l refl
+  walk-end now f l = from-end f l refl
 
 -- ---- what is marked
 
@@ -149,7 +149,7 @@ module _ (q : ℕ) where
   marking-called : {c : ℕ} (cs marks : List ℕ) → In c cs → c < limits concurrent .procs → spot q c < length marks
       → getD (marking q cs marks) (spot q c) 0 ≢ 0
   unfolding marking
-  marking-called {c} (c ∷ cs) marks here l room =
+  marking-called (c ∷ cs) marks here l room =
       rw (lt-ltb c (limits concurrent .procs) l)
       (marking-keeps cs (set marks (spot q c) 1) (spot q c) (λ e. omega (arith, e, getD-set-same marks (spot q c) 1 0 room)))
   marking-called {c} (d ∷ cs) marks (there i) l room = by-test (ltb d (limits concurrent .procs))
@@ -168,20 +168,21 @@ module _ (q : ℕ) where
 
 -- ---- the loop over procedures
 
+-- nothing but zeros
+pub zeros : (n i : ℕ) → getD {A = ℕ} (replicate n 0) i 0 ≡ 0
+zeros zero i = refl
+zeros (suc n) zero = refl
+zeros (suc n) (suc i) = zeros n i
+
 -- all begin clear
-pub clear : (n : ℕ) → Clear (replicate n 0)
-clear n = record { none = all n }
-  where
-    all : (n i : ℕ) → getD {A = ℕ} (replicate n 0) i 0 ≡ 0
-    all zero i = refl
-    all (suc n) zero = refl
-    all (suc n) (suc i) = all n i
+pub clear : Clear (replicate (limits concurrent .procs * limits concurrent .procs) 0)
+clear = record { long = refl; none = zeros (limits concurrent .procs * limits concurrent .procs) }
 
 module _ {t : List ℕ} {P R : ℕ} {marks : List ℕ} where
   -- none yet
-  pub marks-start : Clear marks → length marks ≡ limits concurrent .procs * limits concurrent .procs → Marking t P R 0 marks
-  marks-start c long = record {
-    long = long;
+  pub marks-start : Clear marks → Marking t P R 0 marks
+  marks-start c = record {
+    long = c .long;
     inside = omega arith;
     gives = λ p o. record { called = λ q m l. absurd (omega arith); only = λ q m l h. absurd (h (c .none (spot q m))) };
   }

@@ -1,5 +1,5 @@
 -- Starts that are raised round by round: a call raises the callee's start to where the caller's locals end.
-use Prim.Native.Nat.{ℕ, zero, suc, _+_, _*_, _≤_, _<_}
+use Prim.Native.Nat.{ℕ, zero, suc, _+_, _*_, max, _≤_, _<_}
 use native.Mathlib.Omega.{arith}
 use native.Mathlib.Numerals.{add-one}
 use mathlib.Core.Path.{_≡_, refl, sym, ap, _∙_}
@@ -8,7 +8,10 @@ use mathlib.Core.List.{List, [], _∷_}
 use lib.ListN.{length, getD, set, replicate, length-set}
 use lib.Seq.{getD-set-same, getD-set-other}
 use lib.Dec.{eqb}
-use borrow.Author.Tests.{eqb-true, eqb-false}
+use borrow.Author.Tests.{eqb-true, eqb-false, ne-eqb}
+use mir.Syntax.{w16}
+use mir.Val.{Fits}
+use Rattle.value.specs.Maybe.{pick}
 use Rattle.value.specs.Lists.{at, upto}
 use Rattle.value.specs.Laws.Tests.{by-test}
 use Rattle.format.specs.Syntax.{Proc, Program, Plain, concurrent}
@@ -20,15 +23,24 @@ use Rattle.translation.specs.Placement.{localsOf, before, localsAt, byRounds, s
 use Rattle.translation.specs.Laws.Procs.{before-most}
 use Rattle.translation.specs.Laws.Placing.Largest.{largest-is, upto-in}
 use Rattle.translation.specs.Laws.Placing.Rounds.{shared-after}
-use Rattle.translation.specs.Laws.Placing.Passes.{Between, between-start, between-pass, between-end}
+use Rattle.translation.specs.Laws.Placing.Passes.{Between, between-pass, between-end}
 use Rattle.translation.specs.Laws.Placing.Shortest.{in-row, shared-shorter}
-use Rattle.scan.specs.Laws.Laid.{procOf, proc-at, locals-at}
+use Rattle.scan.specs.Laws.Laid.{proc-at, locals-at}
 use Rattle.scan.specs.Laws.CallEnds.{calls-there}
-use Rattle.places.specs.Placed.{Of, Source, PlacesIn, PlacesOf}
-use Rattle.places.specs.declared.Places.{Places}
-use Rattle.places.specs.Laws.Marking.{spot, Marked, named-of, clear}
+use Rattle.places.specs.Placed.{Of, Source, PlacesOf}
+use Rattle.places.specs.Laws.Marking.{spot, Marked, named-of, zeros, clear}
 
--- ---- what the code keeps
+-- ---- what the code finds
+
+-- where procedure m's locals end, by its record
+unfoldable pub endAt : List ℕ → ℕ → List ℕ → ℕ → ℕ
+endAt t R s m = getD s m 0 + getD t (R + recordSize * m + 1) 0
+
+-- where a procedure begins behind a caller's end, if there is a mark
+unfoldable pub raisedTo : ℕ → ℕ → ℕ → ℕ
+raisedTo mark start end = pick (eqb mark 0) start (max start end)
+
+-- ---- what it keeps
 
 -- starts that are not above the shared ones
 pub record Low (t : List ℕ) (P R : ℕ) (s : List ℕ) : Type 0 where
@@ -38,7 +50,7 @@ pub record Low (t : List ℕ) (P R : ℕ) (s : List ℕ) : Type 0 where
 
 -- the starts of the procedures before k that q calls are raised to e, and no others
 pub record Raising (marks : List ℕ) (P q e : ℕ) (s : List ℕ) (k : ℕ) (new : List ℕ) : Type 0 where
-  pub long : length new ≡ length s
+  pub long : length new ≡ limits concurrent .procs
   pub kept : (m : ℕ) → getD s m 0 ≤ getD new m 0
   pub called : (m : ℕ) → m < k → getD marks (spot q m) 0 ≢ 0 → e ≤ getD new m 0
   pub bound : (most : ℕ → ℕ) → ((m : ℕ) → getD s m 0 ≤ most m) → ((m : ℕ) → m < P → getD marks (spot q m) 0 ≢ 0 → e ≤ most m)
@@ -89,6 +101,11 @@ module _ {t : List ℕ} {P R : ℕ} (p : Program Plain) (o : Of t P R p) where
   locals-here : {m x : ℕ} → m < P → x ≡ getD t (R + recordSize * m + 1) 0 → x ≡ localsAt (p .procs) m
   locals-here l e = e ∙ locals-at (named-of o .laid) l ∙ sym (ap localsOf (proc-at (named-of o .laid) l))
 
+  -- where they end
+  end-here : (s : List ℕ) {m e : ℕ} → m < P → e ≡ endAt t R s m → e ≡ getD s m 0 + localsAt (p .procs) m
+  unfolding endAt
+  end-here s {m} {e} l is = omega (arith, is, locals-here l refl)
+
   -- no shared start is large
   shared-small : {m : ℕ} → m < P → shared (p .procs) m ≤ limits concurrent .procs * maxLocals
   shared-small {m} l =
@@ -100,54 +117,64 @@ module _ {t : List ℕ} {P R : ℕ} (p : Program Plain) (o : Of t P R p) where
         o .sound .procs .high,
       )
 
+-- the end, as the code finds it
+pub ends-here : (t : List ℕ) (R : ℕ) (s : List ℕ) (m : ℕ) {x : ℕ} → x ≡ getD t (R + recordSize * m + 1) 0 → getD s m 0 + x ≡ endAt t R s m
+unfolding endAt
+ends-here t R s m e = rw e
+
+-- which is small
+pub end-fits : {t : List ℕ} {P R : ℕ} {s : List ℕ} {m x : ℕ} → Low t P R s → m < P → x < 256 → Fits w16 (getD s m 0 + x)
+end-fits {m = m} low l b = record { fits = omega (arith, low .small m l) }
+
 -- ---- one caller
 
--- all begin at 0
-zeros : (n m : ℕ) → getD {A = ℕ} (replicate n 0) m 0 ≡ 0
-zeros n m = clear n .none m
+module _ (mark start end : ℕ) where
+  -- without a mark
+  pub raised-none : mark ≡ 0 → start ≡ raisedTo mark start end
+  unfolding raisedTo
+  raised-none e = rw e
+
+  -- with one
+  pub raised-max : {v : ℕ} → mark ≢ 0 → v ≡ max start end → v ≡ raisedTo mark start end
+  unfolding raisedTo
+  raised-max n e = rw (ne-eqb mark 0 n) e
 
 module _ {marks : List ℕ} {P q e : ℕ} {s : List ℕ} where
   -- nothing yet
-  pub raise-start : Raising marks P q e s 0 s
-  raise-start = record { long = refl; kept = λ m. omega arith; called = λ m l. absurd (omega arith); bound = λ most h g. h }
+  pub raise-start : length s ≡ limits concurrent .procs → Raising marks P q e s 0 s
+  raise-start long = record { long = long; kept = λ m. omega arith; called = λ m l. absurd (omega arith); bound = λ most h g. h }
 
   module _ {k : ℕ} {new : List ℕ} (r : Raising marks P q e s k new) where
-    -- a callee that begins before
-    pub raise-put : k < P → k < length new → getD marks (spot q k) 0 ≢ 0 → getD new k 0 < e → Raising marks P q e s (k + 1) (set new k e)
-    raise-put below room mark less = record {
-      long = length-set new k e ∙ r .long;
-      kept = λ m. at-each (λ x. getD s m 0 ≤ x) m (λ same. rw same (omega (arith, rw same at (r .kept m)))) (λ _. r .kept m);
-      called = λ m l h. at-each (λ x. e ≤ x) m (λ _. omega arith) (λ n. r .called m (omega arith) h);
-      bound = λ most h g m. at-each (λ x. x ≤ most m) m (λ same. rw same (g k below mark)) (λ _. r .bound most h g m);
+    -- one procedure more
+    pub raise-next : {v : ℕ} → P ≤ limits concurrent .procs → k < P → v ≡ raisedTo (getD marks (spot q k) 0) (getD new k 0) e
+        → Raising marks P q e s (k + 1) (set new k v)
+    unfolding raisedTo
+    raise-next {v} few below is = record {
+      long = length-set new k v ∙ r .long;
+      kept = λ m. at-each (λ x. getD s m 0 ≤ x) m (λ same. rw same (omega (arith, up .0, r .kept k))) (λ _. r .kept m);
+      called = λ m l h. at-each (λ x. e ≤ x) m (λ same. up .1 (rw same at h)) (λ n. r .called m (omega arith) h);
+      bound = λ most h g m. at-each (λ x. x ≤ most m) m (λ same. rw same (under most h g)) (λ _. r .bound most h g m);
     }
       where
-        at-each : (Q : ℕ → Type 0) (m : ℕ) → (m ≡ k → Q e) → (m ≢ k → Q (getD new m 0)) → Q (getD (set new k e) m 0)
+        room : k < length new
+        room = omega (arith, r .long)
+
+        up : (getD new k 0 ≤ v) × (getD marks (spot q k) 0 ≢ 0 → e ≤ v)
+        up = by-test (eqb (getD marks (spot q k) 0) 0)
+            (λ b. let same : v ≡ getD new k 0 = rw b at is in (omega arith, λ h. absurd (h (eqb-true _ _ b))))
+            (λ b. let same : v ≡ max (getD new k 0) e = rw b at is in (omega arith, λ h. omega arith))
+
+        under : (most : ℕ → ℕ) → ((m : ℕ) → getD s m 0 ≤ most m) → ((m : ℕ) → m < P → getD marks (spot q m) 0 ≢ 0 → e ≤ most m) → v ≤ most k
+        under most h g = by-test (eqb (getD marks (spot q k) 0) 0)
+            (λ b. let same : v ≡ getD new k 0 = rw b at is in omega (arith, r .bound most h g k))
+            (λ b. let same : v ≡ max (getD new k 0) e = rw b at is in
+            omega (arith, r .bound most h g k, g k below (eqb-false _ _ b)))
+
+        at-each : (Q : ℕ → Type 0) (m : ℕ) → (m ≡ k → Q v) → (m ≢ k → Q (getD new m 0)) → Q (getD (set new k v) m 0)
         at-each Q m this that =
             by-test (eqb m k)
-            (λ b. let same : m ≡ k = eqb-true m k b in rw (same, getD-set-same new k e 0 room) (this same))
-            (λ b. let other : m ≢ k = eqb-false m k b in rw (getD-set-other new k m e 0 other) (that other))
-
-    -- one that begins there or later
-    pub raise-high : e ≤ getD new k 0 → Raising marks P q e s (k + 1) new
-    raise-high high = record {
-      long = r .long;
-      kept = r .kept;
-      called = λ m l h. by-test (eqb m k)
-          (λ b. rw (eqb-true m k b) high)
-          (λ b. let other : m ≢ k = eqb-false m k b in r .called m (omega arith) h);
-      bound = r .bound;
-    }
-
-    -- one that is not called
-    pub raise-none : getD marks (spot q k) 0 ≡ 0 → Raising marks P q e s (k + 1) new
-    raise-none none = record {
-      long = r .long;
-      kept = r .kept;
-      called = λ m l h. by-test (eqb m k)
-          (λ b. absurd (h (rw (eqb-true m k b) none)))
-          (λ b. let other : m ≢ k = eqb-false m k b in r .called m (omega arith) h);
-      bound = r .bound;
-    }
+            (λ b. let same : m ≡ k = eqb-true m k b in rw (same, getD-set-same new k v 0 room) (this same))
+            (λ b. let other : m ≢ k = eqb-false m k b in rw (getD-set-other new k m v 0 other) (that other))
 
     -- all of them
     pub raise-done : P ≤ k → Raises marks P q e s new
@@ -163,10 +190,14 @@ module _ {t : List ℕ} {P R : ℕ} {s : List ℕ} where
   round-start low = record { low = low; kept = λ m. omega arith; after = λ p o q m l. absurd (omega arith) }
 
   -- one more
-  pub round-next : {marks : List ℕ} {k x e : ℕ} {now new : List ℕ} → Source t P R → Marked t P R marks → Rounding t P R s k now → k < P
-      → x ≡ getD t (R + recordSize * k + 1) 0 → e ≡ getD now k 0 + x → Raises marks P k e now new → Rounding t P R s (k + 1) new
-  round-next {marks} {k} {x} {e} {now} {new} S M r l locals ends raises = record {
-    low = record { long = raises .all .long ∙ r .low .long; small = λ m b. omega (arith, upper (S .program) (S .of) m, shared-small (S .program) (S .of) b); upper = upper };
+  pub round-next : {marks : List ℕ} {k e : ℕ} {now new : List ℕ} → Source t P R → Marked t P R marks → Rounding t P R s k now → k < P
+      → e ≡ endAt t R now k → Raises marks P k e now new → Rounding t P R s (k + 1) new
+  round-next {marks} {k} {e} {now} {new} S M r l ends raises = record {
+    low = record {
+      long = raises .all .long;
+      small = λ m b. omega (arith, upper (S .program) (S .of) m, shared-small (S .program) (S .of) b);
+      upper = upper;
+    };
     kept = λ m. omega (arith, r .kept m, raises .all .kept m);
     after = after;
   }
@@ -176,7 +207,7 @@ module _ {t : List ℕ} {P R : ℕ} {s : List ℕ} where
           raises .all .bound (shared (p .procs)) (r .low .upper p o)
           (λ m b mark.
           let h : Calls (p .procs) k m = M .gives p o .only k m (omega (arith, S .few)) mark in
-          omega (arith, ends, locals-here p o l locals, r .low .upper p o k, shared-after (p .procs) (o .sound .calls) k m h))
+          omega (arith, end-here p o now l ends, r .low .upper p o k, shared-after (p .procs) (o .sound .calls) k m h))
 
       after : (p : Program Plain) → Of t P R p → (q m : ℕ) → q < k + 1 → Calls (p .procs) q m → getD s q 0 + localsAt (p .procs) q ≤ getD new m 0
       after p o q m b h =
@@ -185,7 +216,7 @@ module _ {t : List ℕ} {P R : ℕ} {s : List ℕ} where
           let h′ : Calls (p .procs) k m = rw same at h in
           let there : e ≤ getD new m 0
           = raises .all .called m (calls-there (named-of o) k m h′) (M .gives p o .called k m l h′) in
-          rw same (omega (arith, ends, locals-here p o l locals, r .kept k)))
+          rw same (omega (arith, end-here p o now l ends, r .kept k)))
           (λ i. let other : q ≢ k = eqb-false q k i in omega (arith, r .after p o q m (omega arith) h, raises .all .kept m))
 
   -- all of them
@@ -228,25 +259,14 @@ module _ {t : List ℕ} {P R : ℕ} {s : List ℕ} where
   pub longest-start : LongestTo t P R s 0 0
   longest-start = record { above = λ p o m l. absurd (omega arith); least = λ p o most h. omega arith }
 
-  module _ {k r x e : ℕ} (L : LongestTo t P R s k r) (l : k < P) (locals : x ≡ getD t (R + recordSize * k + 1) 0)
-      (ends : e ≡ getD s k 0 + x) where
-    -- an end that is larger
-    pub longest-more : r < e → LongestTo t P R s (k + 1) e
-    longest-more more = record {
-      above = λ p o m b. by-test (eqb m k)
-          (λ i. rw (eqb-true m k i) (omega (arith, ends, locals-here p o l locals)))
-          (λ i. let other : m ≢ k = eqb-false m k i in omega (arith, L .above p o m (omega arith)));
-      least = λ p o most h. omega (arith, h k l, ends, locals-here p o l locals);
-    }
-
-    -- one that is not
-    pub longest-as : e ≤ r → LongestTo t P R s (k + 1) r
-    longest-as less = record {
-      above = λ p o m b. by-test (eqb m k)
-          (λ i. rw (eqb-true m k i) (omega (arith, ends, locals-here p o l locals)))
-          (λ i. let other : m ≢ k = eqb-false m k i in L .above p o m (omega arith));
-      least = L .least;
-    }
+  -- one more
+  pub longest-next : {k r e v : ℕ} → LongestTo t P R s k r → k < P → e ≡ endAt t R s k → v ≡ max r e → LongestTo t P R s (k + 1) v
+  longest-next {k} {r} {e} {v} L l ends is = record {
+    above = λ p o m b. by-test (eqb m k)
+        (λ i. rw (eqb-true m k i) (omega (arith, is, end-here p o s l ends)))
+        (λ i. let other : m ≢ k = eqb-false m k i in omega (arith, is, L .above p o m (omega arith)));
+    least = λ p o most h. omega (arith, is, h k l, L .least p o most h, end-here p o s l ends);
+  }
 
   -- all of them
   pub longest-done : {k r : ℕ} → LongestTo t P R s k r → P ≤ k → Longest t P R s r
@@ -324,10 +344,12 @@ module _ {t : List ℕ} {P R : ℕ} where
 
 -- one law for each way
 pub ruleset raise-ways = (
+  ends-here,
+  end-fits,
+  raised-none,
+  raised-max,
   raise-start,
-  raise-put,
-  raise-high,
-  raise-none,
+  raise-next,
   raise-done,
   round-start,
   round-next,
@@ -335,8 +357,7 @@ pub ruleset raise-ways = (
   rounds-start,
   rounds-next,
   longest-start,
-  longest-more,
-  longest-as,
+  longest-next,
   longest-done,
   shared-places,
   order-start,
