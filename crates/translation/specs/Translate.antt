@@ -105,18 +105,28 @@ abbrev pub translateBy : {A : Type 0} → Layout → List ℕ → Program A → 
 translateBy G Z q = record { procs = zerothBy G q ∷ laterBy G q; sizes = Z; mains = [] }
 
 -- the copy in a mode
-abbrev pub translateIn : {A : Type 0} → Mode → Program A → Program Plain
-translateIn mode q = translateBy (layoutIn mode q) (sizesIn mode q) q
+module _ {A : Type 0} (mode : Mode) (q : Program A) where
+  -- procedure 0
+  abbrev pub zerothIn : Proc Plain
+  zerothIn = zerothBy (layoutIn mode q) q
+
+  -- those after it
+  abbrev pub laterIn : List (Proc Plain)
+  laterIn = laterBy (layoutIn mode q) q
+
+  -- all of it
+  abbrev pub translateIn : Program Plain
+  translateIn = translateBy (layoutIn mode q) (sizesIn mode q) q
 
 -- in the old mode
 module _ {A : Type 0} (q : Program A) where
   -- procedure 0
   abbrev pub zeroth : Proc Plain
-  zeroth = zerothBy (layout q) q
+  zeroth = zerothIn Own q
 
   -- those after it
   abbrev pub later : List (Proc Plain)
-  later = laterBy (layout q) q
+  later = laterIn Own q
 
   -- all of it
   abbrev pub translate : Program Plain
