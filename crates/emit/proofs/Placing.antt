@@ -1,7 +1,6 @@
 -- One law for each way through the layout's code.
-use Prim.Native.Nat.{ℕ, zero, suc, _+_, _*_, _≤_, _<_}
+use Prim.Native.Nat.{ℕ, zero, suc, _+_, _*_, _^_, _≤_, _<_}
 use native.Mathlib.Omega.{arith}
-use native.Mathlib.Numerals.{add-one}
 use mathlib.Core.Path.{_≡_, refl, sym, ap, ap₂, _∙_}
 use mathlib.Core.List.{List, [], _∷_, _++_}
 use lib.ListN.{length, getD, replicate}
@@ -16,8 +15,9 @@ use Rattle.format.specs.Laws.Procs.{takes-at, proc-sound}
 use Rattle.format.specs.Laws.Names.{Takes}
 use Rattle.format.specs.Laws.TablePlaces.{recordsAt, record-stands, main-stands}
 use Rattle.format.specs.Encode.{recordSize}
-use Rattle.translation.specs.Layout.{localsOf, before}
-use Rattle.emit.specs.Laws.Shapes.{Shaped, LocalsAt, Summed, BeforeAt, MainAt, HubAt, SiteAt, RowsAt}
+use Rattle.format.specs.Rules.{limits}
+use Rattle.translation.specs.Placement.{localsOf}
+use Rattle.emit.specs.Laws.Shapes.{Shaped, LocalsAt, MainAt, HubAt, SiteAt, RowsAt}
 use Rattle.emit.specs.declared.layout.Shape.{Shape}
 use Rattle.emit.specs.declared.layout.Site.{Site}
 
@@ -32,23 +32,6 @@ nowhere : {A G : Type 0} (xs : List A) (i : ℕ) → i < length xs → at xs i �
 nowhere [] i h e = absurd (omega arith)
 nowhere (x ∷ xs) zero h e = missing (sym e)
 nowhere (x ∷ xs) (suc i) h e = nowhere xs i (omega arith) e
-
--- nothing before the first
-before-none : (ps : List (Proc Plain)) → before ps 0 ≡ 0
-before-none [] = refl
-before-none (q ∷ ps) = refl
-
--- one procedure more
-before-suc : (ps : List (Proc Plain)) (k : ℕ) → before ps (suc k) ≡ before ps k + localsOf (at ps k)
-before-suc [] k = refl
-before-suc (q ∷ ps) zero = omega (arith, before-none ps)
-before-suc (q ∷ ps) (suc k) = omega (arith, before-suc ps k)
-
--- all of them
-before-past : (ps : List (Proc Plain)) (m : ℕ) → length ps ≤ m → before ps m ≡ before ps (length ps)
-before-past [] m l = refl
-before-past (q ∷ ps) zero l = absurd (omega arith)
-before-past (q ∷ ps) (suc m) l = ap (λ (n : ℕ). q .locals + n) (before-past ps m (omega arith))
 
 -- a main is a procedure, and so a small number
 main-small : {t : List ℕ} {h : Shape} (p : Program Plain) → Shaped t h p → (k m : ℕ) → at (p .mains) k ≡ is m → m < 65536
@@ -78,37 +61,6 @@ module _ {t : List ℕ} {h : Shape} where
           e ∙ rw same (first s) ∙ sym (ap localsOf f)
       by p w nothing f = nowhere (p .procs) m (omega (arith, w .procedures)) f
 
-  -- ---- the locals of the procedures before
-
-  -- none before the first
-  pub sum-start : {m : ℕ} → Summed t h m 0 0
-  sum-start = record { gives = λ p w. sym (before-none (p .procs)); most = omega arith; inside = omega arith; within = omega arith }
-
-  -- those of one more
-  pub sum-next : {m k s n : ℕ} → Summed t h m k s → k < h .procedures → k < m → LocalsAt t h k n → n < 256 → Summed t h m (k + 1) (s + n)
-  sum-next {m} {k} {s} {n} S l b L small = record {
-    gives = λ p w. rw add-one (omega (arith, S .gives p w, L .gives p w, before-suc (p .procs) k));
-    most = omega (arith, S .most, small);
-    inside = omega arith;
-    within = omega arith;
-  }
-
-  -- those before m
-  pub sum-all : {m k s : ℕ} → Summed t h m k s → m ≤ k → BeforeAt t h m s
-  sum-all {m} {k} {s} S a = record {
-    gives = λ p w. let same : k ≡ m = omega (arith, S .within) in S .gives p w ∙ ap (before (p .procs)) same;
-    most = omega (arith, S .most, S .inside);
-  }
-
-  -- or those of all
-  pub sum-past : {m k s : ℕ} → Summed t h m k s → h .procedures ≤ k → BeforeAt t h m s
-  sum-past {m} {k} {s} S a = record {
-    gives = λ p w.
-        let last : k ≡ length (p .procs) = omega (arith, w .procedures, S .inside) in
-        S .gives p w ∙ ap (before (p .procs)) last ∙ sym (before-past (p .procs) m (omega (arith, S .within)));
-    most = omega (arith, S .most, S .inside);
-  }
-
   -- ---- mains
 
   -- past the last thread
@@ -130,30 +82,28 @@ module _ {t : List ℕ} {h : Shape} where
   -- ---- the places
 
   -- past the last procedure there is no site
-  pub site-past : {m : ℕ} {s : Site} → h .procedures ≤ m → SiteAt t h m s
-  site-past {m} l = record { gives = λ p q w e. absurd (omega (arith, w .procedures, at-below (p .procs) m e)) }
+  pub site-past : {m : ℕ} {s : Site} → limits concurrent .procs ≤ m → SiteAt t h m s
+  site-past {m} l = record { gives = λ p q w e. absurd (omega (arith, w .sound .procs .high, at-below (p .procs) m e)) }
 
   -- the site of a procedure
-  pub site : {m n b : ℕ} → LocalsAt t h m n → BeforeAt t h m b
+  pub site : {m n b : ℕ} → LocalsAt t h m n → b ≡ getD (h .starts) m 0
       → SiteAt t h m (record { locals = n; pct = h .locations + 1; from = h .locations + 2 + m; home = h .locations + 2 + h .procedures + b })
-  site {m} {n} {b} L B = record {
+  site {m} {n} {b} L start = record {
     gives = λ p q w e. record {
       locals = L .gives p w ∙ ap localsOf e;
       few = proc-sound (w .sound) m q e .locals;
       pct = omega (arith, w .locations);
       from = omega (arith, w .locations);
-      home = λ x. omega (arith, w .locations, w .procedures, B .gives p w);
+      home = λ x. omega (arith, w .locations, w .procedures, start, w .starts m (at-below (p .procs) m e));
     };
   }
 
-  -- the locations of size T
-  pub rows : {b : ℕ} → BeforeAt t h (h .procedures) b → RowsAt t h (1 + h .procedures + b)
-  rows {b} B = record {
-    gives = λ p w.
-        let same : before (p .procs) (length (p .procs)) ≡ b = ap (before (p .procs)) (sym (w .procedures)) ∙ sym (B .gives p w) in
-        ap₂ (λ (n k : ℕ). p .sizes ++ (1 ∷ replicate (1 + n + k) (length (p .mains)))) (sym (w .procedures)) same;
-    most = omega (arith, B .most);
-  }
+-- the locations of size T
+pub rows : {h : Shape} → h .procedures < 2 ^ 16 → h .row < 2 ^ 16 → RowsAt h (1 + h .procedures + h .row)
+rows {h} a b = record {
+  gives = λ t p w. ap₂ (λ (n k : ℕ). p .sizes ++ (1 ∷ replicate (1 + n + k) (length (p .mains)))) (sym (w .procedures)) (sym (w .row));
+  most = omega arith;
+}
 
 -- one law for each way
-pub ruleset place-ways = (rows, locals-past, locals-in, sum-start, sum-next, sum-all, sum-past, main-past, main-in, hub, site-past, site)
+pub ruleset place-ways = (rows, locals-past, locals-in, main-past, main-in, hub, site-past, site)

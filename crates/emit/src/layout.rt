@@ -2,19 +2,25 @@
 use basics::bytes::byte_at;
 use basics::bytes::two_bytes;
 use basics::numbers::MAIN;
+use basics::numbers::PROCEDURES;
 use basics::numbers::RECORD;
 use basics::numbers::SIZE;
+use translation::Mode;
 ghost use mathlib.Core.Path.{_≡_};
-ghost use Prim.Native.Nat.{_+_};
-ghost use Rattle.emit.specs.Laws.Shapes.{LocalsAt, BeforeAt, MainAt, HubAt, SiteAt, RowsAt};
+ghost use Prim.Native.Nat.{_+_, _^_, _<_};
+ghost use Rattle.emit.specs.Laws.Shapes.{LocalsAt, MainAt, HubAt, SiteAt, RowsAt};
 
-// What is known of an accepted concurrent table: where its procedure records begin, and its counts.
+// What is known of an accepted concurrent table: where its procedure records begin, and its counts; and where its copy's mode places the
+// locals: where those of each procedure begin in their row, and how long the row is.
 pub struct Shape {
     pub records: u16,
     pub procedures: u16,
     pub locations: u16,
     pub threads: u16,
     pub labels: u16,
+    pub mode: Mode,
+    pub starts: [u16; PROCEDURES],
+    pub row: u16,
 }
 
 // Where the copy keeps the thread selected last and the program counters.
@@ -42,23 +48,6 @@ pub fn locals_of(t: &[u8], shape: Shape, m: usize) -> u8
     byte_at(t, shape.records as usize + RECORD * m + 1)
 }
 
-// The locals of the procedures before m.
-fn before(t: &[u8], shape: Shape, m: usize) -> usize
-    ensures { λ r. ⌜ BeforeAt (now (t .entry)) shape m r ⌝ }
-{
-    let most = shape.procedures as usize;
-    let mut k = 0;
-    let mut sum = 0;
-    while k < most {
-        if m <= k {
-            return sum;
-        }
-        sum += locals_of(t, shape, k) as usize;
-        k += 1;
-    }
-    sum
-}
-
 // The main procedure of thread k.
 pub fn main_of(t: &[u8], shape: Shape, k: usize) -> usize
     ensures { λ r. ⌜ MainAt (now (t .entry)) shape k r ⌝ }
@@ -81,12 +70,18 @@ pub fn hub_of(shape: Shape) -> Hub
     }
 }
 
-// "one from per procedure, one per local of each procedure in order"
+// The start of a procedure's locals, as a number of locations.
+fn wide(start: u16) -> usize
+    ensures { λ r. ⌜ (r ≡ start) × (r < 2 ^ 16) ⌝ }
+{
+    start as usize
+}
+
+// "one from per procedure", and after these the row of locals
 pub fn site_of(t: &[u8], shape: Shape, m: usize) -> Site
     ensures { λ r. ⌜ SiteAt (now (t .entry)) shape m r ⌝ }
 {
-    let procedures = shape.procedures as usize;
-    if procedures <= m {
+    if PROCEDURES <= m {
         return Site {
             locals: 0,
             pct: 0,
@@ -95,21 +90,20 @@ pub fn site_of(t: &[u8], shape: Shape, m: usize) -> Site
         };
     }
     let first = shape.locations as usize;
-    let homes = first + 2 + procedures;
+    let homes = first + 2 + shape.procedures as usize;
     Site {
         locals: locals_of(t, shape, m),
         pct: (first + 1) as u32,
         from: (first + 2 + m) as u32,
-        home: (homes + before(t, shape, m)) as u32,
+        home: (homes + wide(shape.starts[m])) as u32,
     }
 }
 
-// How many locations have size T: pct, one "from" per procedure, one per local.
-pub fn rows_of(t: &[u8], shape: Shape) -> usize
-    ensures { λ r. ⌜ RowsAt (now (t .entry)) shape r ⌝ }
+// How many locations have size T: pct, one "from" per procedure, the row of locals.
+pub fn rows_of(shape: Shape) -> usize
+    ensures { λ r. ⌜ RowsAt shape r ⌝ }
 {
-    let procedures = shape.procedures as usize;
-    1 + procedures + before(t, shape, procedures)
+    1 + shape.procedures as usize + shape.row as usize
 }
 
 // The location of local x.

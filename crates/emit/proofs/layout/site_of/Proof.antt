@@ -8,12 +8,14 @@ pub site-of-spec : {M : Type 1} → statement M
 site-of-spec =
     tie.close
     (tie.spec
-    (λ c. search needs)
     (λ c. search place-ways)
     (λ c. search needs)
     (λ c. search needs)
     (λ c. search needs)
+    (λ c. search needs)
     (λ c κs. search needs)
+    (λ c. search needs)
+    (λ c. search needs)
     (λ c. search needs)
     (λ c. search needs)
     (λ c. search needs)
