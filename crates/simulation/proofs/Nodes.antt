@@ -5,28 +5,31 @@ use mathlib.Core.Path.{_≡_, refl, sym, ap, ap₂, _∙_}
 use mathlib.Core.List.{List, [], _∷_, _++_, map}
 use mathlib.Core.Bool.{true, false}
 use mathlib.Core.Bool as B
-use lib.ListN.{length}
+use lib.ListN.{length, length-map}
 use lib.Dec.{ltb}
 use borrow.Author.Tests.{ltb-true}
-use Rattle.value.specs.Maybe.{both}
+use Rattle.value.specs.Maybe.{is, both}
 use Rattle.value.specs.Lists.{at, all}
 use Rattle.value.specs.Laws.Tests.{both-passed, never}
 use Rattle.value.specs.Laws.Lists.{Each, at-below}
+use Rattle.value.specs.Laws.Maybes.{is-inj, missing}
 use Rattle.format.specs.Syntax.{Expr, constant, local, one, two, Instr, assign, write, read, while, if, call, atomic, select, Block, end, step, _⊕_}
 use Rattle.format.specs.Syntax.{Proc, Program, Plain, concurrent}
 use Rattle.format.specs.Encode.{expr, instr, block}
-use Rattle.format.specs.Labels.{first, count, labels, labelled}
+use Rattle.format.specs.Labels.{first, count, counts, labels, labelled}
 use Rattle.format.specs.Rules.{Here, inExpr, takes, named, namedI, allowed, allowedI}
-use Rattle.labels.specs.LabelMap.{Node, nodes, held, allNodes}
+use Rattle.labels.specs.LabelMap.{Node, nodeOf, nodes, held, allNodes}
 use Rattle.format.specs.Laws.Fits.{BlockFits, InstrFits}
 use Rattle.format.specs.Laws.Names.{takes?}
 use Rattle.format.specs.Laws.Procs.{takes-at}
 use Rattle.labels.specs.Laws.Spots.{Inherited}
-use Rattle.translation.specs.Layout.{Layout, layout, localsOf}
+use Rattle.labels.specs.Laws.LabelMap.{length-nodes}
+use Rattle.translation.specs.Layout.{Layout, layoutIn, localsOf}
 use Rattle.translation.specs.Code.{code}
-use Rattle.translation.specs.Translate.{simulating, heldBy, simulations, endsOf, begins, later}
+use Rattle.translation.specs.Translate.{simulating, heldBy, simulations, endsOf, begins, laterIn}
 use Rattle.translation.specs.Translate as T
 use Rattle.emit.specs.Laws.Sources.{Low, InPlaceI, InPlace}
+use Rattle.translation.specs.declared.Mode.{Mode}
 use Rattle.simulation.specs.Laws.Bodies.{OfLabel, labelCode, simulated}
 
 -- what fits a block fits its spots
@@ -189,7 +192,20 @@ locals-labels (p ∷ ps) l zero = refl
 locals-labels (p ∷ ps) l (suc j) = locals-labels ps (l + suc (count (p .body))) j
 
 -- the procedures after procedure 0, by the map's nodes
-pub later-nodes : (q : Program Plain) → later q ≡ map (simulated q) (allNodes 0 0 (labelled q .procs))
-later-nodes q =
-    all-simulated (layout q) (begins q) (endsOf q) (λ m. localsOf (at (q .procs) m)) (simulated q) (λ d. refl) (labelled q .procs) 0 0
+pub later-nodes : (mode : Mode) (q : Program Plain) → laterIn mode q ≡ map (simulated mode q) (allNodes 0 0 (labelled q .procs))
+later-nodes mode q =
+    all-simulated (layoutIn mode q) (begins q) (endsOf q) (λ m. localsOf (at (q .procs) m)) (simulated mode q) (λ d. refl) (labelled q .procs) 0 0
     (λ j. ap (λ (m : ℕ). localsOf (at (q .procs) m)) (omega arith) ∙ locals-labels (q .procs) 1 j)
+
+-- the procedure of label k + 1
+pub later-at : (mode : Mode) (q : Program Plain) (k : ℕ) {d : Node} → nodeOf q (suc k) ≡ is d → at (laterIn mode q) k ≡ is (simulated mode q d)
+later-at mode q k e = rw (later-nodes mode q) (at-map (simulated mode q) (allNodes 0 0 (labelled q .procs)) k e)
+  where
+    at-map : {A B : Type 0} (f : A → B) (xs : List A) (i : ℕ) {x : A} → at xs i ≡ is x → at (map f xs) i ≡ is (f x)
+    at-map f [] i e = missing e
+    at-map f (y ∷ xs) zero e = ap (λ z. is (f z)) (is-inj e)
+    at-map f (y ∷ xs) (suc i) e = at-map f xs i e
+
+-- as many as labels
+pub length-later : (mode : Mode) (q : Program Plain) → length (laterIn mode q) ≡ counts (q .procs)
+length-later mode q = ap length (later-nodes mode q) ∙ length-map (allNodes 0 0 (labelled q .procs)) (simulated mode q) ∙ length-nodes q

@@ -5,9 +5,9 @@ use native.Mathlib.Decide.{ℕ-discrete}
 use native.Mathlib.Nat.{add-zero}
 use native.Mathlib.Numerals.{add-one}
 use mathlib.Core.Path.{_≡_, refl, sym, ap, subst, _∙_}
-use mathlib.Core.List.{List, [], _∷_, _++_, map, append-nil, append-assoc}
+use mathlib.Core.List.{List, [], _∷_, _++_, append-nil, append-assoc}
 use mathlib.Core.Bool.{true, false}
-use lib.ListN.{length, getD, set, take, drop, length-set, length-map}
+use lib.ListN.{length, getD, set, take, drop, length-set}
 use lib.Seq.{take-all, getD-set-same, getD-set-other}
 use Rattle.value.specs.Maybe.{is}
 use Rattle.value.specs.Values.{unbytes}
@@ -22,7 +22,7 @@ use Rattle.format.specs.Encode.{instr, block, each, bodiesOf}
 use Rattle.format.specs.Decode.{noForm, forms, maxNesting}
 use Rattle.format.specs.Labels.{first, count, counts, label, labels, labelled}
 use Rattle.format.specs.Rules.{named, allowed, Here, limits, maxLabels, maxLocals}
-use Rattle.labels.specs.LabelMap.{Node, Mapped, nodeOf, allNodes, next, other}
+use Rattle.labels.specs.LabelMap.{Node, Mapped, nodeOf, next, other}
 use Rattle.format.specs.Laws.Stands.{Stands, inside, front}
 use Rattle.format.specs.Laws.Stands as St
 use Rattle.format.specs.Laws.Grammar.{InstrAt, WhileAt, IfAt, CallAt, while-here, if-here, call-here, no-instr, instr-inside}
@@ -34,10 +34,10 @@ use Rattle.format.specs.Laws.Accepted.{bodies-fit}
 use Rattle.format.specs.Laws.Procs.{body-at, ProcSound, proc-sound}
 use Rattle.labels.specs.Laws.Spots.{spot-has, allowed-inherited, code-stands, bodies-labels}
 use Rattle.format.specs.Laws.TablePlaces.{recordsAt, all-bodies}
-use Rattle.labels.specs.Laws.LabelMap.{NodeOf, node-of, node-there, length-nodes}
-use Rattle.translation.specs.Layout.{layout, localsOf}
+use Rattle.labels.specs.Laws.LabelMap.{NodeOf, node-of, node-there}
+use Rattle.translation.specs.Layout.{Layout, layoutIn, localsOf}
 use Rattle.translation.specs.Code.{calls, code}
-use Rattle.translation.specs.Translate.{endsOf, begins, later}
+use Rattle.translation.specs.Translate.{endsOf, begins, laterIn}
 use Rattle.basics.specs.Sizes.{tooLong}
 use Rattle.writer.specs.Laws.Put.{PutBlock}
 use Rattle.emit.specs.Laws.Sources.{Low, Sited, ExprsOf, Tests, Calls, Steps, Returns}
@@ -47,7 +47,7 @@ use Rattle.simulation.specs.Laws.Bodies.{bodies, Simulating, PutsBodies}
 use Rattle.emit.specs.declared.layout.Shape.{Shape}
 use Rattle.emit.specs.declared.layout.Site.{Site}
 use Rattle.writer.proofs.Puts.{put-none, put-then, put-same}
-use Rattle.simulation.proofs.Nodes.{fits-inherited, named-inherited, of-label, later-nodes}
+use Rattle.simulation.proofs.Nodes.{fits-inherited, named-inherited, of-label, later-at, length-later}
 
 -- ---- calls
 
@@ -68,8 +68,9 @@ module _ {t : List ℕ} {i : ℕ} {h : Shape} {bounds : List ℕ} {s : Site} whe
     gives = λ q m z g j es w begun here at less low. gives q m z g j es w begun here less low (call-here at (St.first (at .stands)));
   }
     where
-      gives : (q : Program S.Plain) (m z g j : ℕ) (es : List Expr) → Shaped t h q → Begun q bounds → Sited (layout q) m z s → g < length (q .procs)
-          → Each (Low z) es → CallAt {A = ℕ} t i maxNesting (call g es) j → PutBlock o p (calls (layout q) m z g es (begins q g) next) o′ r
+      gives : (q : Program S.Plain) (m z g j : ℕ) (es : List Expr) → Shaped t h q → Begun q bounds → Sited (layoutIn (h .mode) q) m z s
+          → g < length (q .procs) → Each (Low z) es → CallAt {A = ℕ} t i maxNesting (call g es) j
+          → PutBlock o p (calls (layoutIn (h .mode) q) m z g es (begins q g) next) o′ r
       gives q m z g j es w begun here less low v =
           let same : _≡_ {A = Instr ℕ} (call g es) (call (unbytes (take 2 (drop (i + 1) t))) (v .es)) = v .is in
           let args : es ≡ v .es = cc in
@@ -80,7 +81,7 @@ module _ {t : List ℕ} {i : ℕ} {h : Shape} {bounds : List ℕ} {s : Site} whe
           begin .gives (omega (arith, few, name)) ∙ begun .begins f (omega (arith, less, name)) ∙ ap (begins q) (sym name)
           in
           let all : ExprsOf t (i + 4) n z es j = record { stand = rw (count, args) (v .args); low = low } in
-          rw (name) (rw (first, name) at (C .gives (layout q) m z f _ es j here (site .gives q _ w found) all))
+          rw (name) (rw (first, name) at (C .gives (layoutIn (h .mode) q) m z f _ es j here (site .gives q _ w found) all))
         where
           dummy : Proc S.Plain
           dummy = record { params = 0; locals = 0; body = end }
@@ -109,13 +110,13 @@ module _ {t : List ℕ} {i : ℕ} {h : Shape} {bounds : List ℕ} {s : Site} whe
     gives = λ q m n z k j a w begun here at ok lead. gives q m n z k j a here ok lead (while-here at b);
   }
     where
-      gives : (q : Program S.Plain) (m n l k j : ℕ) (a : Instr ℕ) → Sited (layout q) m n s → OfLabel q n a → Leads l a k next other
+      gives : (q : Program S.Plain) (m n l k j : ℕ) (a : Instr ℕ) → Sited (layoutIn (h .mode) q) m n s → OfLabel q n a → Leads l a k next other
           → WhileAt t i maxNesting a j
-          → PutBlock o p (code (layout q) m n (begins q) l a k) o′ r
+          → PutBlock o p (code (layoutIn (h .mode) q) m n (begins q) l a k) o′ r
       gives q m n l k j a here ok lead v =
           let low : Low n (v .e) = rw (v .is) at ok in
           let to : (next ≡ first l (v .b)) × (other ≡ k) = rw (v .is) at lead in
-          rw (v .is, ← to .0, ← to .1) (T .gives (layout q) m n (v .e) (v .k) here (record { stands = v .test; low = low }))
+          rw (v .is, ← to .0, ← to .1) (T .gives (layoutIn (h .mode) q) m n (v .e) (v .k) here (record { stands = v .test; low = low }))
 
   -- an if
   pub node-if : {next other p r : ℕ} {o o′ : List ℕ} → getD t i 0 ≡ 0x24 → Tests t (i + 1) s next other o p o′ r
@@ -125,12 +126,12 @@ module _ {t : List ℕ} {i : ℕ} {h : Shape} {bounds : List ℕ} {s : Site} whe
     gives = λ q m n z k j a w begun here at ok lead. gives q m n z k j a here ok lead (if-here at b);
   }
     where
-      gives : (q : Program S.Plain) (m n l k j : ℕ) (a : Instr ℕ) → Sited (layout q) m n s → OfLabel q n a → Leads l a k next other
-          → IfAt t i maxNesting a j → PutBlock o p (code (layout q) m n (begins q) l a k) o′ r
+      gives : (q : Program S.Plain) (m n l k j : ℕ) (a : Instr ℕ) → Sited (layoutIn (h .mode) q) m n s → OfLabel q n a → Leads l a k next other
+          → IfAt t i maxNesting a j → PutBlock o p (code (layoutIn (h .mode) q) m n (begins q) l a k) o′ r
       gives q m n l k j a here ok lead v =
           let low : Low n (v .e) = rw (v .is) at ok in
           let to : (next ≡ first k (v .b)) × (other ≡ first k (v .c)) = rw (v .is) at lead in
-          rw (v .is, ← to .0, ← to .1) (T .gives (layout q) m n (v .e) (v .k) here (record { stands = v .test; low = low }))
+          rw (v .is, ← to .0, ← to .1) (T .gives (layoutIn (h .mode) q) m n (v .e) (v .k) here (record { stands = v .test; low = low }))
 
   -- a call
   pub node-call : {next other p r : ℕ} {o o′ : List ℕ} → getD t i 0 ≡ 0x25 → CallsAt t i h bounds s next o p o′ r
@@ -140,9 +141,9 @@ module _ {t : List ℕ} {i : ℕ} {h : Shape} {bounds : List ℕ} {s : Site} whe
     gives = λ q m n z k j a w begun here at ok lead. gives q m n z k j a w begun here at ok lead (call-here at b);
   }
     where
-      gives : (q : Program S.Plain) (m n l k j : ℕ) (a : Instr ℕ) → Shaped t h q → Begun q bounds → Sited (layout q) m n s
+      gives : (q : Program S.Plain) (m n l k j : ℕ) (a : Instr ℕ) → Shaped t h q → Begun q bounds → Sited (layoutIn (h .mode) q) m n s
           → InstrAt t i maxNesting a j → OfLabel q n a
-          → Leads l a k next other → CallAt t i maxNesting a j → PutBlock o p (code (layout q) m n (begins q) l a k) o′ r
+          → Leads l a k next other → CallAt t i maxNesting a j → PutBlock o p (code (layoutIn (h .mode) q) m n (begins q) l a k) o′ r
       gives q m n l k j a w begun here at ok lead v =
           let f : ℕ = unbytes (take 2 (drop (i + 1) t)) in
           let ok′ : (f < length (q .procs)) × Each (Low n) (v .es) = rw (v .is) at ok in
@@ -158,16 +159,16 @@ module _ {t : List ℕ} {i : ℕ} {h : Shape} {bounds : List ℕ} {s : Site} whe
     gives = λ q m n l k j a w begun here at ok lead. gives q m n l k j a here at ok lead;
   }
     where
-      gives : (q : Program S.Plain) (m n l k j : ℕ) (a : Instr ℕ) → Sited (layout q) m n s → InstrAt t i maxNesting a j → OfLabel q n a
+      gives : (q : Program S.Plain) (m n l k j : ℕ) (a : Instr ℕ) → Sited (layoutIn (h .mode) q) m n s → InstrAt t i maxNesting a j → OfLabel q n a
           → Leads l a k next other
-          → PutBlock o p (code (layout q) m n (begins q) l a k) o′ r
-      gives q m n l k j (assign x e) here at ok to = rw (← to) (C .gives (layout q) m n (begins q) l (assign x e) j here at ok)
-      gives q m n l k j (write y a e) here at ok to = rw (← to) (C .gives (layout q) m n (begins q) l (write y a e) j here at ok)
-      gives q m n l k j (read x y a) here at ok to = rw (← to) (C .gives (layout q) m n (begins q) l (read x y a) j here at ok)
+          → PutBlock o p (code (layoutIn (h .mode) q) m n (begins q) l a k) o′ r
+      gives q m n l k j (assign x e) here at ok to = rw (← to) (C .gives (layoutIn (h .mode) q) m n (begins q) l (assign x e) j here at ok)
+      gives q m n l k j (write y a e) here at ok to = rw (← to) (C .gives (layoutIn (h .mode) q) m n (begins q) l (write y a e) j here at ok)
+      gives q m n l k j (read x y a) here at ok to = rw (← to) (C .gives (layoutIn (h .mode) q) m n (begins q) l (read x y a) j here at ok)
       gives q m n l k j (while e c) here at ok to = absurd (b₁ (St.first (at .stands)))
       gives q m n l k j (if e c d) here at ok to = absurd (b₂ (St.first (at .stands)))
       gives q m n l k j (call f es) here at ok to = absurd (b₃ (St.first (at .stands)))
-      gives q m n l k j (atomic c) here at ok to = rw (← to) (C .gives (layout q) m n (begins q) l (atomic c) j here at ok)
+      gives q m n l k j (atomic c) here at ok to = rw (← to) (C .gives (layoutIn (h .mode) q) m n (begins q) l (atomic c) j here at ok)
       gives q m n l k j (select x y) here at ok to = absurd ok
 
 -- ---- a label
@@ -207,7 +208,7 @@ module _ {t : List ℕ} {h : Shape} {map bounds : List ℕ} where
   label-one {l} {p} {r} {s} {o} {o′} site N = record { gives = λ q d w m e. gives q d w m e (node-of q l e) }
     where
       gives : (q : Program S.Plain) (d : Node) → Shaped t h q → Mapped q map bounds → nodeOf q l ≡ is d → NodeOf q l d
-          → PutBlock o p (simulated q d .body) o′ r
+          → PutBlock o p (simulated (h .mode) q d .body) o′ r
       gives q d w mapped e v = by (v .left) refl
         where
           found : (f : Proc S.Plain) × (k : ℕ) × (at (q .procs) (d .proc) ≡ is f) × (v .spot .proc .body ≡ label k (f .body))
@@ -216,7 +217,7 @@ module _ {t : List ℕ} {h : Shape} {map bounds : List ℕ} where
           f : Proc S.Plain
           f = found .0
 
-          here : Sited (layout q) (d .proc) (f .locals) s
+          here : Sited (layoutIn (h .mode) q) (d .proc) (f .locals) s
           here = rw (mapped .proc l d e) at (site .gives q f w (ap (at (q .procs)) (mapped .proc l d e) ∙ found .2))
 
           n : ℕ
@@ -258,20 +259,23 @@ module _ {t : List ℕ} {h : Shape} {map bounds : List ℕ} where
               (subst (λ (b : Block ℕ). allowed (outer (d .proc)) b ≡ true) (sym (found .3))
               (allowed-label q (f .body) (found .1) (outer (d .proc)) ∙ sound .allowed))
 
-          -- the code of the label, by what remains there
-          coded : {c : Block ℕ} → d .code ≡ c → PutBlock o p (labelCode (layout q) (begins q) (d .proc) n (endsOf q (d .proc)) c) o′ r
-              → PutBlock o p (simulated q d .body) o′ r
-          coded e P =
-              subst (λ (z : ℕ). PutBlock o p (labelCode (layout q) (begins q) (d .proc) z (endsOf q (d .proc)) (d .code)) o′ r) (sym locals)
-              (subst (λ (c : Block ℕ). PutBlock o p (labelCode (layout q) (begins q) (d .proc) n (endsOf q (d .proc)) c) o′ r) (sym e) P)
+          G : Layout
+          G = layoutIn (h .mode) q
 
-          by : (b : Block ℕ) → v .left ≡ b → PutBlock o p (simulated q d .body) o′ r
+          -- the code of the label, by what remains there
+          coded : {c : Block ℕ} → d .code ≡ c → PutBlock o p (labelCode G (begins q) (d .proc) n (endsOf q (d .proc)) c) o′ r
+              → PutBlock o p (simulated (h .mode) q d .body) o′ r
+          coded e P =
+              subst (λ (z : ℕ). PutBlock o p (labelCode G (begins q) (d .proc) z (endsOf q (d .proc)) (d .code)) o′ r) (sym locals)
+              (subst (λ (c : Block ℕ). PutBlock o p (labelCode G (begins q) (d .proc) n (endsOf q (d .proc)) c) o′ r) (sym e) P)
+
+          by : (b : Block ℕ) → v .left ≡ b → PutBlock o p (simulated (h .mode) q d .body) o′ r
           by end c =
               let none : d .code ≡ end = v .code ∙ ap (λ (x : Block ℕ). x ⊕ v .after) c ∙ v .ends c in
               let there : Stands t (getD map (4 * l) 0) (block {A = ℕ} end) (d .place + length (block (v .left))) =
               subst (λ (b : Block ℕ). Stands t (getD map (4 * l) 0) (block b) (d .place + length (block (v .left)))) c code-there
               in
-              coded none (N .ends (layout q) (d .proc) n here (inside there) (St.first there))
+              coded none (N .ends G (d .proc) n here (inside there) (St.first there))
           by (step k a rest) c =
               let some : d .code ≡ step k a (rest ⊕ v .after) = v .code ∙ ap (λ (x : Block ℕ). x ⊕ v .after) c in
               let there : Stands t (getD map (4 * l) 0) (block (step k a rest)) (d .place + length (block (v .left))) =
@@ -317,19 +321,6 @@ take-more xs i {x} e = rw add-one (go xs i e)
     go (y ∷ xs) zero e = ap (λ z. z ∷ []) (is-inj e)
     go (y ∷ xs) (suc i) e = ap (y ∷_) (go xs i e)
 
--- the procedure of label k + 1
-pub later-at : (q : Program S.Plain) (k : ℕ) {d : Node} → nodeOf q (suc k) ≡ is d → at (later q) k ≡ is (simulated q d)
-later-at q k e = rw (later-nodes q) (at-map (simulated q) (allNodes 0 0 (labelled q .procs)) k e)
-  where
-    at-map : {A B : Type 0} (f : A → B) (xs : List A) (i : ℕ) {x : A} → at xs i ≡ is x → at (map f xs) i ≡ is (f x)
-    at-map f [] i e = missing e
-    at-map f (y ∷ xs) zero e = ap (λ z. is (f z)) (is-inj e)
-    at-map f (y ∷ xs) (suc i) e = at-map f xs i e
-
--- as many as labels
-pub length-later : (q : Program S.Plain) → length (later q) ≡ counts (q .procs)
-length-later q = ap length (later-nodes q) ∙ length-map (allNodes 0 0 (labelled q .procs)) (simulated q) ∙ length-nodes q
-
 module _ {t : List ℕ} {h : Shape} {map bounds : List ℕ} where
   -- before the first
   pub simulating-start : {offsets o : List ℕ} {p : ℕ} → length offsets ≡ maxLabels → Simulating t h map bounds offsets 0 o p o p
@@ -343,27 +334,31 @@ module _ {t : List ℕ} {h : Shape} {map bounds : List ℕ} where
 
   -- one more
   pub simulating-next : {offsets o o₁ o₂ : List ℕ} {k p p₁ p₂ : ℕ} → Simulating t h map bounds offsets k o p o₁ p₁ → k < h .labels
-      → h .labels ≤ maxLabels → PutsLabel t h map bounds (k + 1) o₁ p₁ o₂ p₂ → length o₂ ≡ length o₁ → Simulating t h map bounds (set offsets k p₁) (k + 1) o p o₂ p₂
+      → h .labels ≤ maxLabels → PutsLabel t h map bounds (k + 1) o₁ p₁ o₂ p₂ → length o₂ ≡ length o₁
+      → Simulating t h map bounds (set offsets k p₁) (k + 1) o p o₂ p₂
   simulating-next {offsets} {o} {o₁} {o₂} {k} {p} {p₁} {p₂} D less few L kept = record {
     done = λ q w m.
         let d = node-there q (suc k) (omega arith) (omega (arith, w .labels)) in
-        let one : PutBlock o₁ p₁ (simulated q (d .0) .body) o₂ p₂ = L .gives q (d .0) w m (ap (nodeOf q) (add-one k) ∙ d .1) in
-        let more : bodies (take (k + 1) (later q)) ≡ bodies (take k (later q)) ++ block (simulated q (d .0) .body) =
-        ap bodies (take-more (later q) k (later-at q k (d .1))) ∙ bodies-append (take k (later q)) (simulated q (d .0) ∷ [])
-        ∙ ap (bodies (take k (later q)) ++_) (append-nil (block (simulated q (d .0) .body)))
+        let f : Proc S.Plain = simulated (h .mode) q (d .0) in
+        let all : List (Proc S.Plain) = laterIn (h .mode) q in
+        let one : PutBlock o₁ p₁ (f .body) o₂ p₂ = L .gives q (d .0) w m (ap (nodeOf q) (add-one k) ∙ d .1) in
+        let more : bodies (take (k + 1) all) ≡ bodies (take k all) ++ block (f .body) =
+        ap bodies (take-more all k (later-at (h .mode) q k (d .1))) ∙ bodies-append (take k all) (f ∷ [])
+        ∙ ap (bodies (take k all) ++_) (append-nil (block (f .body)))
         in
-        put-same (sym more) (put-then (bodies (take k (later q))) (block (simulated q (d .0) .body)) (D .done q w m) (one .puts));
+        put-same (sym more) (put-then (bodies (take k all)) (block (f .body)) (D .done q w m) (one .puts));
     places = λ q w m. record { at = λ i l room. places q w m i l room };
     kept = kept ∙ D .kept;
     long = length-set offsets k p₁ ∙ D .long;
     most = omega arith;
   }
     where
-      places : (q : Program S.Plain) → Shaped t h q → Mapped q map bounds → (i : ℕ) → i < k + 1 → p + length (bodies (take i (later q))) ≤ tooLong
-          → getD (set offsets k p₁) i 0 ≡ p + length (bodies (take i (later q)))
+      places : (q : Program S.Plain) → Shaped t h q → Mapped q map bounds → (i : ℕ) → i < k + 1
+          → p + length (bodies (take i (laterIn (h .mode) q))) ≤ tooLong
+          → getD (set offsets k p₁) i 0 ≡ p + length (bodies (take i (laterIn (h .mode) q)))
       places q w m i l room = elim (ℕ-discrete i k) [
         | yes e ↦
-            let room′ : p + length (bodies (take k (later q))) ≤ tooLong = rw e at room in
+            let room′ : p + length (bodies (take k (laterIn (h .mode) q))) ≤ tooLong = rw e at room in
             rw e (getD-set-same offsets k p₁ 0 (omega (arith, D .long)) ∙ D .done q w m .next room′)
         | no n ↦ getD-set-other offsets k i p₁ 0 n ∙ D .places q w m .at i (omega arith) room
       ]
@@ -373,8 +368,9 @@ module _ {t : List ℕ} {h : Shape} {map bounds : List ℕ} where
       → PutsBodies t h map bounds offsets o p o′ r
   simulating-end {offsets} {o} {o′} {k} {p} {r} D more = record {
     gives = λ q w m.
-        let all : take k (later q) ≡ later q = take-all k (later q) (omega (arith, length-later q, w .labels)) in
-        put-same (ap bodies all) (D .done q w m);
+        let all : List (Proc S.Plain) = laterIn (h .mode) q in
+        let same : take k all ≡ all = take-all k all (omega (arith, length-later (h .mode) q, w .labels)) in
+        put-same (ap bodies same) (D .done q w m);
     places = λ q w m. let all : k ≡ counts (q .procs) = omega (arith, w .labels, D .most) in rw (← all) (D .places q w m);
   }
 
