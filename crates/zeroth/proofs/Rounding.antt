@@ -12,11 +12,11 @@ use Rattle.value.specs.Lists.{at}
 use Rattle.value.specs.declared.Value.the-variants.{Truth}
 use Rattle.value.specs.Laws.Lists.{at-below, at-getD}
 use Rattle.value.specs.Laws.Maybes.{is-inj, missing}
-use Rattle.format.specs.Syntax.{constant, local, one, two, assign, write, read, while, call, select, end, Program, Plain}
+use Rattle.format.specs.Syntax.{constant, local, one, two, assign, write, read, while, call, select, Block, end, Program, Plain}
 use Rattle.format.specs.Encode.{expr, block}
 use Rattle.format.specs.Labels.{counts}
 use Rattle.format.specs.Laws.Procs.{main-at}
-use Rattle.translation.specs.Layout.{Layout, layout}
+use Rattle.translation.specs.Layout.{Layout, layoutIn}
 use Rattle.translation.specs.Code.{_then_, tmp, num, loc}
 use Rattle.translation.specs.Translate.{stmt, terminated, forEach, switch, round, begins}
 use Rattle.writer.specs.Laws.Put.{Put, PutExpr, PutInstr, PutBlock, Onto, Writes}
@@ -85,7 +85,7 @@ module _ {o o₁ o₂ : List ℕ} {p p₁ p₂ : ℕ} where
 -- "stmt := tmp[t], terminated := terminated and (stmt = 0)"
 pub judged : {o o₁ o₂ : List ℕ} {p p₁ p₂ k : ℕ} → PutInstr o p (read stmt tmp (num k)) o₁ p₁
     → PutInstr o₁ p₁ judgment o₂ p₂ → Judged k o p o₂ p₂
-judged A B = record { gives = λ q m. writes-then (writes-instr A) (writes-instr B) }
+judged A B = record { gives = λ mode q m. writes-then (writes-instr A) (writes-instr B) }
 
 module _ {t : List ℕ} {h : Shape} {bounds : List ℕ} where
   -- its beginning
@@ -93,7 +93,8 @@ module _ {t : List ℕ} {h : Shape} {bounds : List ℕ} where
       → PutInstr o p (write tmp (num k) (num b)) o′ r → OneThread part t h bounds k o p o′ r
   thread-begin {o} {o′} {p} {r} {k} {m} {b} {part} c M B P = rw c (record { gives = gives })
     where
-      gives : (q : Program Plain) (n : ℕ) → Shaped t h q → Begun q bounds → at (q .mains) k ≡ is n → Writes o p (pieceOf Beginning q k n) o′ r
+      gives : (q : Program Plain) (n : ℕ) → Shaped t h q → Begun q bounds → at (q .mains) k ≡ is n
+          → Writes o p (pieceOf Beginning (h .mode) q k n) o′ r
       gives q n w begun e =
           let main : m ≡ n = M .gives q n w e in
           let there = main-at (w .sound) k n e in
@@ -108,17 +109,17 @@ module _ {t : List ℕ} {h : Shape} {bounds : List ℕ} where
       → PutInstr o p (assign tmp (loc (s .from))) o₁ p₁ → PutInstr o₁ p₁ (write tmp (num k) (num 0)) o₂ p₂ → OneThread part t h bounds k o p o₂ p₂
   thread-from {o} {o₁} {o₂} {p} {p₁} {p₂} {k} {m} {s} {part} c M S A B = rw c (record { gives = gives })
     where
-      gives : (q : Program Plain) (n : ℕ) → Shaped t h q → Begun q bounds → at (q .mains) k ≡ is n → Writes o p (pieceOf From q k n) o₂ p₂
+      gives : (q : Program Plain) (n : ℕ) → Shaped t h q → Begun q bounds → at (q .mains) k ≡ is n → Writes o p (pieceOf From (h .mode) q k n) o₂ p₂
       gives q n w begun e =
           let main : m ≡ n = M .gives q n w e in
           let there = main-at (w .sound) k n e in
           let S′ : SiteAt t h n s = rw main at S in
-          let here : Sited (layout q) n (there .0 .locals) s = S′ .gives q (there .0) w (there .1) in
+          let here : Sited (layoutIn (h .mode) q) n (there .0 .locals) s = S′ .gives q (there .0) w (there .1) in
           writes-then (writes-instr (rw (here .from) at A)) (writes-instr B)
 
   -- whether it has finished
   pub thread-finished : {o o′ : List ℕ} {p r k : ℕ} {part : Part} → part ≡ Finished → Judged k o p o′ r → OneThread part t h bounds k o p o′ r
-  thread-finished c J = rw c (record { gives = λ q m w begun e. J .gives q m })
+  thread-finished c J = rw c (record { gives = λ q m w begun e. J .gives (h .mode) q m })
 
   -- before the first
   pub threads-start : {part : Part} {o : List ℕ} {p : ℕ} → ThreadsLeft part t h bounds 0 o p o p
@@ -131,12 +132,12 @@ module _ {t : List ℕ} {h : Shape} {bounds : List ℕ} where
     left = λ q w begun c.
         let m : ℕ = getD (q .mains) k 0 in
         let there : at (q .mains) k ≡ is m = at-getD (q .mains) k 0 (omega (arith, less, w .threads)) in
-        let one = T .gives q m w begun there .before (forEach (pieceOf part q) (suc k) (drop (suc k) (q .mains)) c) in
+        let one = T .gives q m w begun there .before (forEach (pieceOf part (h .mode) q) (suc k) (drop (suc k) (q .mains)) c) in
         let here = L .left q w begun c in
         let rest : drop k (q .mains) ≡ m ∷ drop (suc k) (q .mains) = drop-at-one (q .mains) k there in
         rw add-one
         (record {
-          then = λ P. here .then (put-same (ap (λ (ms : List ℕ). block (forEach (pieceOf part q) k ms c)) (sym rest)) (one .then P));
+          then = λ P. here .then (put-same (ap (λ (ms : List ℕ). block (forEach (pieceOf part (h .mode) q) k ms c)) (sym rest)) (one .then P));
           kept = kept ∙ L .kept;
         });
     kept = kept ∙ L .kept;
@@ -154,7 +155,8 @@ module _ {t : List ℕ} {h : Shape} {bounds : List ℕ} where
   threads-end {part} {o} {o′} {p} {r} {k} L more = record {
     gives = λ q w begun. record {
       before = λ c.
-          subst (λ (ms : List ℕ). Onto o p (block (forEach (pieceOf part q) 0 (q .mains) c)) o′ r (block (forEach (pieceOf part q) k ms c)))
+          let f : ℕ → ℕ → Block Plain → Block Plain = pieceOf part (h .mode) q in
+          subst (λ (ms : List ℕ). Onto o p (block (forEach f 0 (q .mains) c)) o′ r (block (forEach f k ms c)))
           (none (q .mains) k (omega (arith, w .threads))) (L .left q w begun c);
       kept = L .kept;
     };
@@ -229,8 +231,8 @@ module _ {t : List ℕ} {h : Shape} {bounds : List ℕ} {u : Hub} where
       → RoundOf t h bounds u o p o₃ p₃
   rounds {o} {o₁} {o₂} {o₃} {p} {p₁} {p₂} {p₃} A B C = record { gives = gives }
     where
-      gives : (q : Program Plain) → Shaped t h q → Begun q bounds → Hubbed (layout q) u
-          → PutBlock o p (round (layout q) (q .mains) (counts (q .procs))) o₃ p₃
+      gives : (q : Program Plain) → Shaped t h q → Begun q bounds → Hubbed (layoutIn (h .mode) q) u
+          → PutBlock o p (round (layoutIn (h .mode) q) (q .mains) (counts (q .procs))) o₃ p₃
       gives q w begun hub =
           let B′ : Switches (counts (q .procs)) o₁ p₁ o₂ p₂ = rw (w .labels) at B in
           let whole = writes-block (A .gives) (writes-block (B′ .gives) (C .gives q w begun)) in
@@ -241,7 +243,7 @@ module _ {t : List ℕ} {h : Shape} {bounds : List ℕ} {u : Hub} where
       → Put o₂ p₂ (3 ∷ []) o₃ p₃ → RoundOf t h bounds u o₃ p₃ o₄ p₄ → Put o₄ p₄ (0 ∷ []) o₅ p₅ → LoopOf t h bounds u o p o₅ p₅
   loops A B C R E = record {
     gives = λ q w begun hub.
-        let G : Layout = layout q in
+        let G : Layout = layoutIn (h .mode) q in
         let L : ℕ = counts (q .procs) in
         writes-block (writes-instr {i = assign terminated (constant (Truth false))} (record { puts = A }))
         (writes-block
