@@ -21,9 +21,9 @@ use Rattle.format.specs.Laws.Sections.{length-each}
 use Rattle.format.specs.Laws.Stands.{Stands, whole, back}
 use Rattle.format.specs.Laws.Stands as St
 use Rattle.format.specs.Rules.{maxLocals}
-use Rattle.translation.specs.Layout.{localsOf, sizes}
+use Rattle.translation.specs.Layout.{localsOf}
 use Rattle.translation.specs.Code.{moved}
-use Rattle.translation.specs.Translate.{zeroth, later, translate}
+use Rattle.translation.specs.Translate.{zerothIn, laterIn, translateIn}
 use Rattle.basics.specs.Sizes.{tooLong}
 use Rattle.writer.specs.Laws.Put.{Put, Onto}
 use Rattle.emit.specs.Laws.Shapes.{Shaped, LocalsAt, RowsAt}
@@ -33,7 +33,12 @@ use Rattle.translator.specs.Laws.Tables.{HeadOf, Heading, HeadsOf, Sizes
 use Rattle.emit.specs.declared.layout.Shape.{Shape}
 use Rattle.writer.proofs.Puts.{put-none, put-then, put-cons, put-same, onto-start, onto-next, onto-end}
 use Rattle.emit.proofs.Copying.{slice-is}
-use Rattle.simulation.proofs.Simulating.{take-more, later-at, length-later, node-locals}
+use Rattle.simulation.proofs.Nodes.{later-at, length-later}
+use Rattle.simulation.proofs.Simulating.{take-more, node-locals}
+
+-- the copy in the mode of a shape
+abbrev copy : Shape → Program Plain → Program Plain
+copy h q = translateIn (h .mode) q
 
 -- ---- parts
 
@@ -102,18 +107,19 @@ module _ {t : List ℕ} {h : Shape} {map offsets : List ℕ} where
   heading-next {o} {o₁} {o₂} {p} {p₁} {p₂} {k} D less H kept = record {
     done = λ q base w bounds mapped right.
         let d = node-there q (suc k) (omega arith) (omega (arith, w .labels)) in
-        let f : Proc Plain = simulated q (d .0) in
+        let f : Proc Plain = simulated (h .mode) q (d .0) in
+        let rest : List (Proc Plain) = laterIn (h .mode) q in
         let one : Put o₁ p₁ (head (record { params = 1; locals = f .locals; at = getD offsets k 0 })) o₂ p₂ =
         H .gives q (d .0) w bounds mapped (ap (nodeOf q) (add-one k) ∙ d .1)
         in
-        let place : getD offsets k 0 ≡ base + length (bodies (take k (later q))) = right .at k (omega (arith, w .labels)) in
-        let here : Head = record { params = 1; locals = f .locals; at = base + length (bodies (take k (later q))) } in
+        let place : getD offsets k 0 ≡ base + length (bodies (take k rest)) = right .at k (omega (arith, w .labels)) in
+        let here : Head = record { params = 1; locals = f .locals; at = base + length (bodies (take k rest)) } in
         let one′ : Put o₁ p₁ (head here) o₂ p₂ = rw place at one in
-        let more : each head (take (k + 1) (heads base (later q))) ≡ each head (take k (heads base (later q))) ++ head here =
-        ap (each head) (take-more (heads base (later q)) k (heads-nth base (later q) k (later-at q k (d .1))))
-        ∙ each-append head (take k (heads base (later q))) (here ∷ []) ∙ ap (each head (take k (heads base (later q))) ++_) (append-nil (head here))
+        let more : each head (take (k + 1) (heads base rest)) ≡ each head (take k (heads base rest)) ++ head here =
+        ap (each head) (take-more (heads base rest) k (heads-nth base rest k (later-at (h .mode) q k (d .1))))
+        ∙ each-append head (take k (heads base rest)) (here ∷ []) ∙ ap (each head (take k (heads base rest)) ++_) (append-nil (head here))
         in
-        put-same (sym more) (put-then (each head (take k (heads base (later q)))) (head here) (D .done q base w bounds mapped right) one′);
+        put-same (sym more) (put-then (each head (take k (heads base rest))) (head here) (D .done q base w bounds mapped right) one′);
     kept = kept ∙ D .kept;
     most = omega arith;
   }
@@ -122,8 +128,9 @@ module _ {t : List ℕ} {h : Shape} {map offsets : List ℕ} where
   pub heading-end : {o o′ : List ℕ} {p r k : ℕ} → Heading t h map offsets k o p o′ r → h .labels ≤ k → HeadsOf t h map offsets o p o′ r
   heading-end {k = k} D more = record {
     gives = λ q base w bounds mapped right.
-        let all : take k (heads base (later q)) ≡ heads base (later q) =
-        take-all k (heads base (later q)) (omega (arith, length-heads base (later q), length-later q, w .labels))
+        let rest : List (Proc Plain) = laterIn (h .mode) q in
+        let all : take k (heads base rest) ≡ heads base rest =
+        take-all k (heads base rest) (omega (arith, length-heads base rest, length-later (h .mode) q, w .labels))
         in
         put-same (ap (each head) all) (D .done q base w bounds mapped right);
   }
@@ -172,13 +179,13 @@ module _ {t : List ℕ} {h : Shape} where
   -- the source's, that of ptid, and the others
   pub sizes-all : {o o₁ o₂ o₃ : List ℕ} {p p₁ p₂ p₃ n : ℕ}
       → Put o p (slice (h .records + recordSize * h .procedures) (h .records + recordSize * h .procedures + 2 * h .locations) t) o₁ p₁
-      → Put o₁ p₁ (bytes 2 1) o₂ p₂ → RowsAt t h n → Put o₂ p₂ (each (bytes 2) (replicate n (h .threads))) o₃ p₃ → SizesOf t h o p o₃ p₃
+      → Put o₁ p₁ (bytes 2 1) o₂ p₂ → RowsAt h n → Put o₂ p₂ (each (bytes 2) (replicate n (h .threads))) o₃ p₃ → SizesOf t h o p o₃ p₃
   sizes-all {o} {o₁} {o₂} {o₃} {p} {p₁} {p₂} {p₃} {n} A B R C = record {
     gives = λ q w.
         let first : Put o p (each (bytes 2) (q .sizes)) o₁ p₁ = put-same (slice-is (sizes-stand q w)) A in
         let rows : Put o₂ p₂ (each (bytes 2) (replicate n (length (q .mains)))) o₃ p₃ = rw (w .threads) at C in
-        let all : each (bytes 2) (sizes q) ≡ each (bytes 2) (q .sizes) ++ (bytes 2 1 ++ each (bytes 2) (replicate n (length (q .mains)))) =
-        ap (each (bytes 2)) (R .gives q w) ∙ each-append (bytes 2) (q .sizes) (1 ∷ replicate n (length (q .mains)))
+        let all : each (bytes 2) (copy h q .sizes) ≡ each (bytes 2) (q .sizes) ++ (bytes 2 1 ++ each (bytes 2) (replicate n (length (q .mains)))) =
+        ap (each (bytes 2)) (R .gives t q w) ∙ each-append (bytes 2) (q .sizes) (1 ∷ replicate n (length (q .mains)))
         in
         put-same (sym all) (put-then (each (bytes 2) (q .sizes)) _ first (put-then (bytes 2 1) _ B rows));
   }
@@ -190,10 +197,10 @@ module _ {t : List ℕ} {h : Shape} where
         → MiddleOf t h map offsets o p o₃ p₃
     middles A H S = record {
       gives = λ q w bounds mapped right.
-          let base : ℕ = 0 + length (block (zeroth q .body)) in
-          let first : List ℕ = each head (heads base (later q)) in
-          let last : List ℕ = each (bytes 2) (sizes q) in
-          let all : (0 ∷ 4 ∷ bytes 4 0) ++ (first ++ last) ≡ middle (middleOf (translate q)) =
+          let base : ℕ = 0 + length (block (zerothIn (h .mode) q .body)) in
+          let first : List ℕ = each head (heads base (laterIn (h .mode) q)) in
+          let last : List ℕ = each (bytes 2) (copy h q .sizes) in
+          let all : (0 ∷ 4 ∷ bytes 4 0) ++ (first ++ last) ≡ middle (middleOf (copy h q)) =
           ap (λ (xs : List ℕ). (0 ∷ 4 ∷ bytes 4 0) ++ (first ++ xs)) (sym (append-nil last))
           in
           put-same all (put-then (0 ∷ 4 ∷ bytes 4 0) _ A (put-then first last (H .gives q base w bounds mapped right) (S .gives q w)));
@@ -206,21 +213,25 @@ module _ {t : List ℕ} {h : Shape} where
     pub coded : {o o₁ o₂ : List ℕ} {p r : ℕ} → ZerothOf t h bounds o 0 o₁ p → PutsBodies t h map bounds offsets o₁ p o₂ r
         → CodeOf t h map bounds offsets o o₂ r
     coded {o} {o₁} {o₂} {p} {r} Z B = record {
-      gives = λ q w m. put-then (block (zeroth q .body)) (bodies (later q)) (Z .gives q w (record { begins = m .begins }) .puts) (B .gives q w m);
+      gives = λ q w m.
+          put-then (block (zerothIn (h .mode) q .body)) (bodies (laterIn (h .mode) q)) (Z .gives q w (record { begins = m .begins }) .puts)
+          (B .gives q w m);
       places = λ q w m less. record {
         at = λ i l.
+            let before : ℕ = 0 + length (block (zerothIn (h .mode) q .body)) in
+            let after : List (Proc Plain) = laterIn (h .mode) q in
             let zero-first = Z .gives q w (record { begins = m .begins }) .puts in
             let rest = B .gives q w m in
-            let small : p + length (bodies (later q)) < tooLong = elim (decLe tooLong (p + length (bodies (later q)))) [
+            let small : p + length (bodies after) < tooLong = elim (decLe tooLong (p + length (bodies after))) [
               | yes far ↦ absurd (omega (arith, rest .far far, less))
               | no near ↦ omega arith
             ] in
-            let near : 0 + length (block (zeroth q .body)) ≤ tooLong = elim (decLe tooLong (0 + length (block (zeroth q .body)))) [
+            let near : before ≤ tooLong = elim (decLe tooLong before) [
               | yes far ↦ absurd (omega (arith, zero-first .far far, small))
               | no close ↦ omega arith
             ] in
-            let base : p ≡ 0 + length (block (zeroth q .body)) = zero-first .next near in
-            B .places q w m .at i l (omega (arith, bodies-most (later q) i, small)) ∙ ap (λ (n : ℕ). n + length (bodies (take i (later q)))) base;
+            let base : p ≡ before = zero-first .next near in
+            B .places q w m .at i l (omega (arith, bodies-most after i, small)) ∙ ap (λ (n : ℕ). n + length (bodies (take i after))) base;
       };
     }
 
@@ -248,18 +259,18 @@ trails {o₃ = o₃} {o₄} {p₃ = p₃} {p₄} {P} {M} {whole} A B C L = recor
 -- ---- the table
 
 -- the parts of the copy's table
-parts : (q : Program Plain) → bodies (zeroth q ∷ later q) ++ (middle (middleOf (translate q)) ++ trailer (trailerOf sequential (translate q)))
-    ≡ table sequential (translate q)
-parts q = sym (append-assoc (bodies (zeroth q ∷ later q)) (middle (middleOf (translate q))) (trailer (trailerOf sequential (translate q))))
+parts : (h : Shape) (q : Program Plain)
+    → bodies (copy h q .procs) ++ (middle (middleOf (copy h q)) ++ trailer (trailerOf sequential (copy h q))) ≡ table sequential (copy h q)
+parts h q = sym (append-assoc (bodies (copy h q .procs)) (middle (middleOf (copy h q))) (trailer (trailerOf sequential (copy h q))))
 
 module _ {t : List ℕ} {h : Shape} {map bounds : List ℕ} where
   -- too long after the bodies
   pub table-bodies : {o o′ offsets : List ℕ} {r : ℕ} → CodeOf t h map bounds offsets o o′ r → tooLong ≤ r → TableOf t h map bounds o o′ r
   table-bodies C far = record {
     gives = λ q w m.
-        let rest : List ℕ = middle (middleOf (translate q)) ++ trailer (trailerOf sequential (translate q)) in
-        let some : 1 ≤ length rest = omega (arith, length-append (middle (middleOf (translate q))) (trailer (trailerOf sequential (translate q)))) in
-        put-same (parts q) (put-stop (bodies (zeroth q ∷ later q)) rest (C .gives q w m) far some);
+        let rest : List ℕ = middle (middleOf (copy h q)) ++ trailer (trailerOf sequential (copy h q)) in
+        let some : 1 ≤ length rest = omega (arith, length-append (middle (middleOf (copy h q))) (trailer (trailerOf sequential (copy h q)))) in
+        put-same (parts h q) (put-stop (bodies (copy h q .procs)) rest (C .gives q w m) far some);
   }
 
   -- too long after the sizes
@@ -268,41 +279,41 @@ module _ {t : List ℕ} {h : Shape} {map bounds : List ℕ} where
       → TableOf t h map bounds o o₂ r
   table-sizes {offsets = offsets} C less M far = record {
     gives = λ q w m.
-        put-stop (front (translate q)) (trailer (trailerOf sequential (translate q)))
-        (put-then (bodies (zeroth q ∷ later q)) (middle (middleOf (translate q))) (C .gives q w m) (M .gives q w bounds m (C .places q w m less)))
+        put-stop (front (copy h q)) (trailer (trailerOf sequential (copy h q)))
+        (put-then (bodies (copy h q .procs)) (middle (middleOf (copy h q))) (C .gives q w m) (M .gives q w bounds m (C .places q w m less)))
         far (omega arith);
   }
 
   -- all of it
   pub table-all : {o o₁ o₂ o₃ offsets : List ℕ} {p q r n : ℕ} → CodeOf t h map bounds offsets o o₁ p → p < tooLong
       → MiddleOf t h map offsets o₁ p o₂ q → q < tooLong
-      → RowsAt t h n → Trails (h .labels + 1) (h .locations + 1 + n) (q + trailerSize) o₂ q o₃ r → TableOf t h map bounds o o₃ r
+      → RowsAt h n → Trails (h .labels + 1) (h .locations + 1 + n) (q + trailerSize) o₂ q o₃ r → TableOf t h map bounds o o₃ r
   table-all {o} {o₁} {o₂} {o₃} {offsets} {p} {q} {r} {n} C less M near R T = record { gives = gives }
     where
-      gives : (x : Program Plain) → Shaped t h x → Mapped x map bounds → Put o 0 (table sequential (translate x)) o₃ r
+      gives : (x : Program Plain) → Shaped t h x → Mapped x map bounds → Put o 0 (table sequential (copy h x)) o₃ r
       gives x w m =
-          let all : Put o 0 (front (translate x)) o₂ q =
-          put-then (bodies (zeroth x ∷ later x)) (middle (middleOf (translate x))) (C .gives x w m) (M .gives x w bounds m (C .places x w m less))
+          let all : Put o 0 (front (copy h x)) o₂ q =
+          put-then (bodies (copy h x .procs)) (middle (middleOf (copy h x))) (C .gives x w m) (M .gives x w bounds m (C .places x w m less))
           in
-          let short : 0 + length (front (translate x)) ≤ tooLong = elim (decLe tooLong (0 + length (front (translate x)))) [
+          let short : 0 + length (front (copy h x)) ≤ tooLong = elim (decLe tooLong (0 + length (front (copy h x)))) [
             | yes far ↦ absurd (omega (arith, all .far far, near))
             | no close ↦ omega arith
           ] in
-          let long : q + trailerSize ≡ length (front (translate x)) + trailerSize = omega (arith, all .next short) in
-          let procs : h .labels + 1 ≡ length (translate x .procs) = omega (arith, w .labels, length-later x) in
-          let places : h .locations + 1 + n ≡ length (translate x .sizes) =
+          let long : q + trailerSize ≡ length (front (copy h x)) + trailerSize = omega (arith, all .next short) in
+          let procs : h .labels + 1 ≡ length (copy h x .procs) = omega (arith, w .labels, length-later (h .mode) x) in
+          let places : h .locations + 1 + n ≡ length (copy h x .sizes) =
           omega (
             arith,
-            ap length (R .gives x w),
+            ap length (R .gives t x w),
             length-append (x .sizes) (1 ∷ replicate n (length (x .mains))),
             length-replicate n (length (x .mains)),
             w .locations,
           )
           in
-          let T′ : Trails (length (translate x .procs)) (length (translate x .sizes)) (length (front (translate x)) + trailerSize) o₂ q o₃ r =
+          let T′ : Trails (length (copy h x .procs)) (length (copy h x .sizes)) (length (front (copy h x)) + trailerSize) o₂ q o₃ r =
           rw (procs, places, long) at T
           in
-          put-then (front (translate x)) (trailer (trailerOf sequential (translate x))) all (T′ .gives)
+          put-then (front (copy h x)) (trailer (trailerOf sequential (copy h x))) all (T′ .gives)
 
 -- one law for each way
 pub ruleset table-ways = (

@@ -103,7 +103,7 @@ fn put_sizes(t: &[u8], shape: Shape, out: &mut [u8], at: usize) -> usize
     }
     let p = put_part(t, from, until, out, at);
     let q = put_two(out, p, 1);
-    put_rows(rows_of(t, shape), shape.threads as usize, out, q)
+    put_rows(rows_of(shape), shape.threads as usize, out, q)
 }
 
 // Records and sizes.
@@ -194,6 +194,6 @@ pub fn put_table(
     if FAR <= q {
         return q;
     }
-    let locations = shape.locations as usize + 1 + rows_of(t, shape);
+    let locations = shape.locations as usize + 1 + rows_of(shape);
     put_trailer(out, q, shape.labels as usize + 1, locations, q + TRAILER)
 }

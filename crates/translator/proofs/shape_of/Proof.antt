@@ -15,6 +15,7 @@ shape-of-spec =
     (λ c. search needs)
     (λ c. search needs)
     (λ c. search needs)
+    (λ c κs. search answer-ways)
     (λ c. search needs)
     (λ c. search needs)
     (λ c. search needs)

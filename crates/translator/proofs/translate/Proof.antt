@@ -8,7 +8,7 @@ use Rattle.translator.proofs.translate.Tie as tie
 returns : tie.Need-returns
 returns c =
     let start = c .before .before .before .before .before .before in
-    call-refused (start .args .table .now) (c .before .before .before .read-concurrent .ensures) (start .args .out .now)
+    call-refused (start .args .table .now) (c .before .before .before .read-concurrent .ensures) (start .args .mode) (start .args .out .now)
     (c .before .if1 .taken) (c .refuse .ensures)
 
 -- 0 is answered of an accepted table
@@ -17,6 +17,10 @@ shape-of-requires c κs =
     let table = c .before .before .before .before in
     call-accepts (table .before .args .table .now) (c .before .before .read-concurrent .ensures)
     (λ i l. table .shared-slice-known .given i .fits) (c .if1 .left)
+
+-- it is as the shape says
+write-copy-requires : tie.Need-write-copy-requires
+write-copy-requires c κs = c .before .shape-of .ensures .shape
 
 -- the copy is written
 returns-2 : tie.Need-returns-2
@@ -33,6 +37,6 @@ translate-spec =
     (λ c κs. search needs)
     returns
     shape-of-requires
-    (λ c κs. search needs)
+    write-copy-requires
     (λ c. search needs)
     returns-2)

@@ -10,10 +10,11 @@ use Rattle.format.specs.Calls.{readAs}
 use Rattle.labels.specs.Walks.{BodiesIn}
 use Rattle.format.specs.declared.ReadAnswer.{ReadAnswer}
 use Rattle.format.specs.Laws.Sound.{Sound}
-use Rattle.translation.specs.Translate.{translate}
+use Rattle.translation.specs.Translate.{translateIn}
 use Rattle.translation.specs.Calls.{Written, writesTable}
 use Rattle.emit.specs.Laws.Shapes.{Shaped}
 use Rattle.translation.specs.declared.WriteAnswer.{WriteAnswer}
+use Rattle.translation.specs.declared.Mode.{Mode}
 use Rattle.emit.specs.declared.layout.Shape.{Shape}
 
 -- t is an accepted table, and a its reader's answer
@@ -39,7 +40,12 @@ pub record AcceptedAs (t : List ℕ) (h : Shape) : Type 0 where
   pub few : h .labels ≤ maxLabels
   pub bodies : BodiesIn t 0 (h .procedures)
 
+-- and its places are those of the mode
+pub record AcceptedIn (t : List ℕ) (mode : Mode) (h : Shape) : Type 0 where
+  pub shape : AcceptedAs t h
+  pub same : h .mode ≡ mode
+
 -- the copy's table is written, or refused by 9 or 10
 pub record WritesCopy (t : List ℕ) (h : Shape) (o o′ : List ℕ) (r : WriteAnswer) : Type 0 where
   pub gives : (q : Program Plain) → Shaped t h q
-      → _≡_ {A = Written} (record { answer = r; out = o′ }) (writesTable (table sequential (translate q)) o)
+      → _≡_ {A = Written} (record { answer = r; out = o′ }) (writesTable (table sequential (translateIn (h .mode) q)) o)
