@@ -7,7 +7,8 @@ use lib.Dec.{ltb}
 use Rattle.format.specs.Syntax.{Program, Plain, concurrent, sequential}
 use Rattle.format.specs.Encode.{table}
 use Rattle.format.specs.Rules.{Verdict, refused, accepted, verdict, limits}
-use Rattle.translation.specs.Translate.{translate}
+use Rattle.translation.specs.declared.Mode.{Mode}
+use Rattle.translation.specs.Translate.{translateIn}
 use Rattle.semantics.specs.Threads as P
 use Rattle.semantics.specs.Copy as C
 use Rattle.semantics.specs.Calls.{endNumber, reasonOf, scheduled}
@@ -31,21 +32,22 @@ figures r c = record {
   reason = reasonOf (r .how);
 }
 
--- of an accepted program: 9, then 11. "It lends buffers that are large enough and gives the copy demand 3's budget." The copy is the old mode's.
-abbrev pub figuresOf : Program Plain → List ℕ → Figures
-figuresOf p ts = elim (ltb (limits sequential .bytes) (length (table sequential (translate p)))) [
+-- of an accepted program: 9, then 11. "It lends buffers that are large enough and gives the copy demand 3's budget." The copy is that of a
+-- mode.
+abbrev pub figuresOf : Mode → Program Plain → List ℕ → Figures
+figuresOf mode p ts = elim (ltb (limits sequential .bytes) (length (table sequential (translateIn mode p)))) [
   | true ↦ refusal 9
   | false ↦ elim (scheduled concurrent p ts) [
     | false ↦ refusal 11
-    | true ↦ figures (programRun p ts) (copyRun (translate p) budget p ts)
+    | true ↦ figures (programRun p ts) (copyRun (translateIn mode p) budget p ts)
   ]
 ]
 
 -- by the verdict on the table
-abbrev pub figuresAs : Verdict → List ℕ → Figures
-figuresAs (refused n) ts = refusal n
-figuresAs (accepted p) ts = figuresOf p ts
+abbrev pub figuresAs : Mode → Verdict → List ℕ → Figures
+figuresAs mode (refused n) ts = refusal n
+figuresAs mode (accepted p) ts = figuresOf mode p ts
 
--- the call, on concurrent table t and schedule ts
-abbrev pub figuresCall : List ℕ → List ℕ → Figures
-figuresCall t ts = figuresAs (verdict concurrent t) ts
+-- the call, in a mode, on concurrent table t and schedule ts
+abbrev pub figuresCall : Mode → List ℕ → List ℕ → Figures
+figuresCall mode t ts = figuresAs mode (verdict concurrent t) ts

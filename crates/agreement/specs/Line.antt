@@ -9,6 +9,7 @@ use Rattle.value.specs.Lists.{over}
 use Rattle.value.specs.Values.{unbytes}
 use Rattle.format.specs.Rules.{limits}
 use Rattle.format.specs.Syntax.{concurrent}
+use Rattle.translation.specs.declared.Mode.the-variants.{Own}
 use Rattle.semantics.specs.Calls.{maxEntries}
 use Rattle.agreement.specs.declared.Figures.{Figures}
 use Rattle.agreement.specs.Figures.{refusal, figuresCall}
@@ -88,9 +89,9 @@ tableOf input = drop (unbytes (take 2 input)) (drop 2 input)
 abbrev pub maxInput : ℕ
 maxInput = 2 + maxEntries + limits concurrent .bytes
 
--- the figures of an input
+-- the figures of an input, in the old mode
 unfoldable pub told : List ℕ → Figures
-told input = pick (ltb maxInput (length input)) (refusal 2) (figuresCall (tableOf input) (scheduleOf input))
+told input = pick (ltb maxInput (length input)) (refusal 2) (figuresCall Own (tableOf input) (scheduleOf input))
 
 -- the program: what it prints for its standard input
 abbrev pub printed : List ℕ → List ℕ

@@ -18,8 +18,8 @@ use Rattle.format.specs.Encode.{table}
 use Rattle.format.specs.Rules.{Verdict, refused, accepted, verdict, limits}
 use Rattle.format.specs.Laws.Accepted.{accepted-exactly}
 use Rattle.translation.specs.declared.WriteAnswer.{WriteAnswer}
-use Rattle.translation.specs.declared.Mode.the-variants.{Own}
-use Rattle.translation.specs.Translate.{translate}
+use Rattle.translation.specs.declared.Mode.{Mode}
+use Rattle.translation.specs.Translate.{translateIn}
 use Rattle.translation.specs.Calls.{writes, writesTable, translateCall}
 use Rattle.translation.specs.Laws.Called.{Copied, call-copies}
 use Rattle.semantics.specs.declared.RunAnswer.{RunAnswer}
@@ -64,17 +64,17 @@ copy-answers t ts cs es h bytes room = as-enough sequential t ts cs es (sequenti
 
 -- ---- the figures
 
-module _ (t ts out : List ℕ) {o : List ℕ} {w : WriteAnswer} (W : record { answer = w; out = o } ≡ translateCall Own t out) where
+module _ (mode : Mode) (t ts out : List ℕ) {o : List ℕ} {w : WriteAnswer} (W : record { answer = w; out = o } ≡ translateCall mode t out) where
   -- a table that is not translated: 1 to 9, since the copy has room
-  pub told-unwritten : limits sequential .bytes ≤ length out → (w .number ≡ 0 → ⊥) → refusal (w .number) ≡ figuresCall t ts
+  pub told-unwritten : limits sequential .bytes ≤ length out → (w .number ≡ 0 → ⊥) → refusal (w .number) ≡ figuresCall mode t ts
   told-unwritten room z = by (verdict concurrent t) refl
     where
-      by : (v : Verdict) → verdict concurrent t ≡ v → refusal (w .number) ≡ figuresAs v ts
+      by : (v : Verdict) → verdict concurrent t ≡ v → refusal (w .number) ≡ figuresAs mode v ts
       by (refused n) e =
           let same : w .number ≡ n = ap (λ x. x .answer .number) W ∙ rw e in
           ap refusal same
       by (accepted p) e =
-          let new : List ℕ = table sequential (translate p) in
+          let new : List ℕ = table sequential (translateIn mode p) in
           by-test (ltb (limits sequential .bytes) (length new))
           (λ a. let same : w .number ≡ 9 = ap (λ x. x .answer .number) W ∙ rw (e, a, writesTable) in rw (a, figuresOf) (ap refusal same))
           (λ a.
@@ -83,23 +83,23 @@ module _ (t ts out : List ℕ) {o : List ℕ} {w : WriteAnswer} (W : record { an
 
   module _ (bytes : Bytes t) (written : w .number ≡ 0) where
     -- the copy's table
-    pub told-copy : (p : Program Plain) × Copied Own t out (w .length) p
+    pub told-copy : (p : Program Plain) × Copied mode t out (w .length) p
     told-copy =
-        let n : translateCall Own t out .answer .length ≡ w .length = sym (ap (λ x. x .answer .length) W) in
-        rw n at (call-copies Own t out bytes (sym (ap (λ x. x .answer .number) W) ∙ written))
+        let n : translateCall mode t out .answer .length ≡ w .length = sym (ap (λ x. x .answer .length) W) in
+        rw n at (call-copies mode t out bytes (sym (ap (λ x. x .answer .number) W) ∙ written))
 
     -- it lies in the buffer
     pub told-fits : limits sequential .bytes ≤ length out → w .length ≤ length o
     told-fits room =
-        let c : Copied Own t out (w .length) (told-copy .0) = told-copy .1 in
+        let c : Copied mode t out (w .length) (told-copy .0) = told-copy .1 in
         omega (arith, c .count, c .short, ap (λ x. length (x .out)) W ∙ c .length)
 
     -- a program that is not run: 11, since its cells have room
-    pub told-not-run : {r : RunAnswer} → r ≡ programAnswer t ts → (r .number ≡ 0 → ⊥) → refusal (r .number) ≡ figuresCall t ts
+    pub told-not-run : {r : RunAnswer} → r ≡ programAnswer t ts → (r .number ≡ 0 → ⊥) → refusal (r .number) ≡ figuresCall mode t ts
     unfolding programAnswer
     told-not-run {r} R z =
         let p : Program Plain = told-copy .0 in
-        let c : Copied Own t out (w .length) p = told-copy .1 in
+        let c : Copied mode t out (w .length) p = told-copy .1 in
         by-test (scheduled concurrent p ts)
         (λ a. absurd (z (ap (λ x. x .number) R ∙ rw (c .reads, a, answerAs))))
         (λ a.
@@ -110,12 +110,12 @@ module _ (t ts out : List ℕ) {o : List ℕ} {w : WriteAnswer} (W : record { an
     pub told-both : {r s : RunAnswer} {a : ReadAnswer} → r ≡ programAnswer t ts → r .number ≡ 0 → a ≡ readCall concurrent t
         → s ≡ copyAnswer (take (w .length) o) ts (a .locations)
         → record { number = 0; end = r .end; steps = r .steps; copy = s .steps; unused = r .unused; events = r .events; reason = r .reason }
-        ≡ figuresCall t ts
+        ≡ figuresCall mode t ts
     unfolding programAnswer copyAnswer
     told-both {r} {s} {a} R z A S =
         let p : Program Plain = told-copy .0 in
-        let c : Copied Own t out (w .length) p = told-copy .1 in
-        let back : verdict sequential (take (w .length) o) ≡ accepted (translate p)
+        let c : Copied mode t out (w .length) p = told-copy .1 in
+        let back : verdict sequential (take (w .length) o) ≡ accepted (translateIn mode p)
         = ap (λ x. verdict sequential (take (w .length) (x .out))) W ∙ c .back in
         let h : a .locations ≡ length (p .sizes) = ap (λ x. x .locations) A ∙ rw (c .reads) in
         by-test (scheduled concurrent p ts)
