@@ -81,8 +81,7 @@ abbrev pub modeNumber : Mode → ℕ
 modeNumber Own = 0
 modeNumber Shared = 1
 
--- the mode of a number
-abbrev pub modeOf : ℕ → Maybe Mode
-modeOf zero = is Own
-modeOf (suc zero) = is Shared
-modeOf (suc (suc n)) = nothing
+-- the mode by its number, for callers that have no enum: 0 the old one, any other the shared one
+abbrev pub modeNumbered : ℕ → Mode
+modeNumbered zero = Own
+modeNumbered (suc n) = Shared

@@ -1,17 +1,15 @@
 -- Both modes place the locals of every program that rule 7 lets pass, and the old mode is as it was.
-use Prim.Native.Nat.{ℕ, zero, suc, _+_, _≤_, _<_}
+use Prim.Native.Nat.{ℕ, _+_, _≤_, _<_}
 use native.Mathlib.Omega.{arith}
-use mathlib.Core.Path.{_≡_, refl, ap}
+use mathlib.Core.Path.{_≡_, refl}
 use mathlib.Core.List.{List}
 use lib.ListN.{length}
-use Rattle.value.specs.Maybe.{is}
-use Rattle.value.specs.Laws.Maybes.{is-inj, missing}
 use Rattle.format.specs.Syntax.{Proc, Program, Plain, concurrent}
 use Rattle.format.specs.Laws.Calls.{Reaches}
 use Rattle.format.specs.Laws.Sound.{Sound}
 use Rattle.translation.specs.declared.Mode.{Mode}
 use Rattle.translation.specs.declared.Mode.the-variants.{Own, Shared}
-use Rattle.translation.specs.Placement.{localsAt, before, shared, startIn, rowOf, modeNumber, modeOf}
+use Rattle.translation.specs.Placement.{localsAt, before, shared, startIn, rowOf, modeNumber, modeNumbered}
 use Rattle.translation.specs.Layout.{layoutBy, sizesBy, layout, sizes}
 use Rattle.translation.specs.Translate.{translateBy, translate}
 use Rattle.translation.specs.Laws.Procs.{before-next}
@@ -40,15 +38,9 @@ sound-placed mode p sound = placed mode (p .procs) (sound .calls)
 -- ---- modes by number
 
 -- each mode is found by its number
-pub mode-found : (mode : Mode) → modeOf (modeNumber mode) ≡ is mode
+pub mode-found : (mode : Mode) → modeNumbered (modeNumber mode) ≡ mode
 mode-found Own = refl
 mode-found Shared = refl
-
--- and no other number has one
-pub mode-number : (n : ℕ) (mode : Mode) → modeOf n ≡ is mode → n ≡ modeNumber mode
-mode-number zero mode e = ap modeNumber (is-inj e)
-mode-number (suc zero) mode e = ap modeNumber (is-inj e)
-mode-number (suc (suc n)) mode e = missing e
 
 -- ---- the old mode
 
