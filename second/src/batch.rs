@@ -5,16 +5,20 @@
 //! (4), budget (8), h (4), cell buffer length (4), event buffer length (4), out buffer length (4),
 //! low byte first. A header whose op is 0 ends the batch. The bench has its rounds in the budget's
 //! place and the most steps of a count in h's; prices have the label in the budget's place. The
-//! mender is told by h which kind is wanted (0 concurrent, 1 sequential); it mends the table itself,
-//! and the event buffer is its list of changes. The text reader has its text in the table's place.
+//! translator is told its mode by h (0: each local has a location of its own, any other number: they
+//! share them). The mender is told by h which kind is wanted (0 concurrent, any other sequential); it
+//! mends the table itself, and the event buffer is its list of changes. The text reader has its text
+//! in the table's place.
 
 use crate::calls::*;
 use crate::line::line;
 use crate::machine::EVENT;
+use crate::placement::Mode;
 use crate::program::Kind;
 
 pub const READ_CONCURRENT: u8 = 1;
 pub const READ_SEQUENTIAL: u8 = 2;
+/// h is the mode.
 pub const TRANSLATE: u8 = 3;
 pub const RUN_CONCURRENT: u8 = 4;
 pub const RUN_SEQUENTIAL: u8 = 5;
@@ -36,7 +40,7 @@ pub const RUN_PLAIN: u8 = 12;
 pub const GREETING: u8 = 90;
 
 /// One more whenever a case or a line changes its form.
-pub const VERSION: u64 = 8;
+pub const VERSION: u64 = 9;
 
 const HEADER: usize = 36;
 
@@ -134,7 +138,7 @@ impl Case {
         match self.op {
             READ_CONCURRENT => self.told(read_line(self.op, read_concurrent(&self.table))),
             READ_SEQUENTIAL => self.told(read_line(self.op, read_sequential(&self.table))),
-            TRANSLATE => self.written(translate),
+            TRANSLATE => self.written(self.translation()),
             PRINT_C => self.written(print_c),
             READ_C => self.written(read_c),
             RUN_CONCURRENT | RUN_SEQUENTIAL | RUN_PLAIN => self.run(),
@@ -147,12 +151,18 @@ impl Case {
     }
 
     /// A call that writes into the out buffer.
-    fn written(&self, call: fn(&[u8], &mut [u8]) -> WriteAnswer) -> Answer {
+    fn written(&self, call: impl Fn(&[u8], &mut [u8]) -> WriteAnswer) -> Answer {
         let mut out = lent(self.out);
         let answer = call(&self.table, &mut out);
         let hash = fnv(&out);
         let numbers = format!("{} {} {}", self.op, answer.number, answer.length);
         self.lending(format!("{numbers} {hash:016x}"), out)
+    }
+
+    /// The translator in the mode that h tells.
+    fn translation(&self) -> impl Fn(&[u8], &mut [u8]) -> WriteAnswer {
+        let mode = Mode::numbered(u64::from(self.h));
+        move |table, out| translate(table, mode, out)
     }
 
     fn run(&self) -> Answer {
@@ -350,7 +360,7 @@ mod tests {
         assert_eq!(line(READ_C), format!("10 1 0 {empty}"));
         assert_eq!(line(MEND), format!("11 0 0 0 {:016x} {empty}", fnv(&A)));
         assert_eq!(line(RUN_PLAIN), format!("12 0 0 1 0 0 0 {empty} {empty}"));
-        assert_eq!(line(GREETING), "90 8");
+        assert_eq!(line(GREETING), "90 9");
     }
 
     #[test]

@@ -3,6 +3,7 @@
 //! "A refusal returns its number and zeros and writes nothing."
 
 use crate::bench::{self, Search};
+use crate::placement::Mode;
 use crate::program::{Kind, Program};
 use crate::record::{write_cells, Events, Run};
 use crate::verdict::verdict;
@@ -95,8 +96,9 @@ fn read(table: &[u8], kind: Kind) -> ReadAnswer {
     }
 }
 
-pub fn translate(table: &[u8], out: &mut [u8]) -> WriteAnswer {
-    write_answer(copy_table(table).and_then(|copy| put(&copy, out)))
+/// "A caller of the translator names the mode".
+pub fn translate(table: &[u8], mode: Mode, out: &mut [u8]) -> WriteAnswer {
+    write_answer(copy_table(table, mode).and_then(|copy| put(&copy, out)))
 }
 
 fn write_answer(written: Result<u64, u8>) -> WriteAnswer {
@@ -106,10 +108,11 @@ fn write_answer(written: Result<u64, u8>) -> WriteAnswer {
     }
 }
 
-/// "9: translator: the sequential table would pass 65,536 bytes"
-fn copy_table(table: &[u8]) -> Result<Vec<u8>, u8> {
+/// "9: translator: the sequential table would pass 65,536 bytes". "Numbers 9 and 10 use the chosen
+/// mode's length."
+fn copy_table(table: &[u8], mode: Mode) -> Result<Vec<u8>, u8> {
     let program = verdict(table, Kind::Concurrent)?;
-    let copy = write::table(&translate::translate(&program), Kind::Sequential);
+    let copy = write::table(&translate::translate(&program, mode), Kind::Sequential);
     if copy.len() > 65_536 {
         return Err(9);
     }

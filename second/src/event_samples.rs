@@ -2,6 +2,7 @@
 
 use crate::builder::*;
 use crate::calls::translate;
+use crate::placement::Mode;
 use crate::program::{Block, Kind, Program};
 use crate::samples::{b, one_thread, sequential, A};
 
@@ -92,7 +93,7 @@ fn equal_reads() -> Program {
 /// A copy with all its locations told: what it writes for itself is an event too.
 fn copy(name: &'static str, source: &[u8], h: u32, schedule: &[u8], labels: &[u16]) -> Traced {
     let mut out = vec![0; 65_536];
-    let length = translate(source, &mut out).length as usize;
+    let length = translate(source, Mode::Own, &mut out).length as usize;
     out.truncate(length);
     Traced {
         name,

@@ -19,7 +19,8 @@ pub mod line;
 pub mod machine;
 pub mod mend;
 pub mod mend_samples;
-
+pub mod place_samples;
+pub mod placement;
 pub mod plain;
 pub mod price;
 pub mod price_samples;

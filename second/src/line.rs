@@ -3,6 +3,7 @@
 use crate::calls::{
     read_concurrent, read_sequential, run_concurrent, run_sequential, translate, RunAnswer,
 };
+use crate::placement::Mode;
 
 /// What demand 3 gives the copy.
 pub const BUDGET: u64 = 140_000_000;
@@ -76,10 +77,10 @@ fn accepted(number: u8) -> Result<(), u8> {
     }
 }
 
-/// "It lends buffers that are large enough".
+/// "It lends buffers that are large enough". The copy is the old mode's.
 fn copy_of(table: &[u8]) -> Result<Vec<u8>, u8> {
     let mut out = vec![0; 65_536];
-    let answer = translate(table, &mut out);
+    let answer = translate(table, Mode::Own, &mut out);
     accepted(answer.number)?;
     out.truncate(answer.length as usize);
     Ok(out)

@@ -1,6 +1,7 @@
 //! Tables with lost trailers, and what comes of them.
 
 use crate::builder::*;
+use crate::placement::Mode;
 use crate::program::{Kind, Program};
 use crate::samples::{b, table_of_length, A};
 use crate::translate::translate;
@@ -84,7 +85,7 @@ pub fn all_worn() -> Vec<Worn> {
 /// The worked examples.
 fn worked() -> Vec<Worn> {
     let (concurrent, sequential) = (Kind::Concurrent, Kind::Sequential);
-    let copy = table(&translate(&b()));
+    let copy = table(&translate(&b(), Mode::Own));
     let mut two = A.to_vec();
     (two[9], two[21]) = (0x00, 0x99);
     let main_0 = two_empty(0, &[1], &[0]);

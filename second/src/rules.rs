@@ -113,7 +113,7 @@ pub fn refusal_7(program: &Program) -> Result<(), u8> {
 }
 
 /// The procedures that a text calls, dead code included.
-fn callees(procedure: &Procedure) -> BTreeSet<u16> {
+pub fn callees(procedure: &Procedure) -> BTreeSet<u16> {
     let mut all = BTreeSet::new();
     gather_callees(&procedure.body, &mut all);
     all

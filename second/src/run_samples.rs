@@ -3,6 +3,7 @@
 use crate::builder::*;
 use crate::calls::{translate, RunAnswer};
 use crate::machine::End;
+use crate::placement::Mode;
 use crate::program::{Block, Kind, Program};
 use crate::reason::Reason::{self, *};
 use crate::samples::{b, one_thread, sequential, A};
@@ -528,7 +529,7 @@ fn judged_in_order() -> Vec<Ran> {
 /// The copy of a program, under a schedule and with h = M.
 fn copy(name: &'static str, source: &[u8], h: u32, schedule: &[u8]) -> Ran {
     let mut out = vec![0; 65_536];
-    let answer = translate(source, &mut out);
+    let answer = translate(source, Mode::Own, &mut out);
     out.truncate(answer.length as usize);
     Ran {
         name,

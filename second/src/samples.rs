@@ -2,6 +2,7 @@
 
 use crate::builder::*;
 use crate::expression::Expression;
+use crate::placement::Mode;
 use crate::program::{Block, Instruction, Kind, Procedure, Program};
 use crate::write;
 
@@ -761,7 +762,7 @@ pub fn translating_to(length: usize) -> Vec<u8> {
         one_thread(1, vec![assign(0, truth(true)), atomic(inner)])
     };
     // An inner x := x becomes 21 bytes, x := not true 11, x := true 10.
-    let bare = crate::translate::translate(&make(0, 0, 0));
+    let bare = crate::translate::translate(&make(0, 0, 0), Mode::Own);
     let rest = length - write::table(&bare, Kind::Sequential).len();
     let twenties = rest / 21 - 20;
     let rest = rest - 21 * twenties;

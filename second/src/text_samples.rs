@@ -3,6 +3,7 @@
 use crate::builder::*;
 use crate::c_text::{text, PRELUDE};
 use crate::expression::{Expression, Two};
+use crate::placement::Mode;
 use crate::program::{Block, Procedure, Program};
 use crate::samples::A;
 use crate::translate::translate;
@@ -40,7 +41,7 @@ fn of_bodies(bodies: Vec<(u8, u8, Block)>, sizes: &[u16]) -> Program {
 
 pub fn copy_of_a() -> Program {
     let a = verdict(&A, crate::program::Kind::Concurrent).expect("A is accepted");
-    translate(&a)
+    translate(&a, Mode::Own)
 }
 
 /// Every instruction, every value and every operator.

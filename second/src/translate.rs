@@ -2,6 +2,7 @@
 
 use crate::expression::{Expression, One, Two};
 use crate::labels;
+use crate::placement::{self, Mode, Row};
 use crate::program::{Block, Instruction, Procedure, Program};
 use crate::value::Value;
 use std::collections::BTreeSet;
@@ -20,13 +21,15 @@ const TERMINATED: u8 = 3;
 ///
 /// Procedures are pushed in the order of the labels, so "Procedure l simulates label l" holds
 /// without a map.
-pub fn translate(source: &Program) -> Program {
+pub fn translate(source: &Program, mode: Mode) -> Program {
+    let row = placement::row(source, mode);
     let mut procedures = vec![interleavings(source)];
     for (number, procedure) in source.procedures.iter().enumerate() {
         let begin = labels::begin(source, number);
         let end = labels::end(source, number);
         let copier = Copier {
             source,
+            row: &row,
             procedure: number,
         };
         copier.block(&procedure.body, begin, end, &mut procedures);
@@ -34,25 +37,20 @@ pub fn translate(source: &Program) -> Program {
     }
     Program {
         procedures,
-        sizes: sizes(source),
+        sizes: sizes(source, &row),
         mains: Vec::new(),
     }
 }
 
 /// "New locations after the source's: ptid (size 1), pct, one "from" per procedure, one per local
-/// of each procedure in order (size T each)."
-fn sizes(source: &Program) -> Vec<u16> {
+/// of each procedure in order (size T each)." In the second mode the locals share a row.
+fn sizes(source: &Program, row: &Row) -> Vec<u16> {
     let threads = source.mains.len() as u16;
-    let locals: usize = source
-        .procedures
-        .iter()
-        .map(|p| usize::from(p.locals))
-        .sum();
     let mut sizes = source.sizes.clone();
     sizes.push(1);
     sizes.push(threads);
     sizes.extend(vec![threads; source.procedures.len()]);
-    sizes.extend(vec![threads; locals]);
+    sizes.extend(vec![threads; usize::from(row.length)]);
     sizes
 }
 
@@ -68,10 +66,9 @@ fn from(source: &Program, procedure: usize) -> u16 {
     pct(source) + 1 + procedure as u16
 }
 
-fn local_location(source: &Program, procedure: usize, local: u8) -> u16 {
-    let earlier = source.procedures.iter().take(procedure);
-    let before: u16 = earlier.map(|p| u16::from(p.locals)).sum();
-    from(source, source.procedures.len()) + before + u16::from(local)
+/// The row begins behind the last "from".
+fn local_location(source: &Program, row: &Row, procedure: usize, local: u8) -> u16 {
+    from(source, source.procedures.len()) + row.starts[procedure] + u16::from(local)
 }
 
 // ---- small pieces of generated code ----
@@ -200,6 +197,7 @@ fn dispatch(label: usize) -> Instruction {
 /// Copies the code of one procedure of the source.
 struct Copier<'a> {
     source: &'a Program,
+    row: &'a Row,
     procedure: usize,
 }
 
@@ -297,7 +295,7 @@ impl Copier<'_> {
     }
 
     fn location(&self, x: u8) -> u16 {
-        local_location(self.source, self.procedure, x)
+        local_location(self.source, self.row, self.procedure, x)
     }
 
     /// "To load x: tmp := location of x; x := tmp[tid]."
@@ -371,7 +369,7 @@ impl Copier<'_> {
         let variables = arguments.iter().flat_map(Expression::variables).collect();
         let mut code = self.loads(&variables);
         for (parameter, argument) in arguments.iter().enumerate() {
-            let location = local_location(self.source, callee, parameter as u8);
+            let location = local_location(self.source, self.row, callee, parameter as u8);
             code.extend(self.store(location, moved(argument)));
         }
         code.extend(self.store(from(self.source, callee), whole(next)));

@@ -3,6 +3,7 @@
 use second::builder::table;
 use second::calls::*;
 use second::line::line;
+use second::placement::MODES;
 use second::program::{Instruction, Kind};
 use second::random::{damaged, holds, program_of, Random, Scale};
 use second::samples::{deepest, judged, number_9};
@@ -18,18 +19,23 @@ fn give_to_all_calls(bytes: &[u8], schedule: &[u8]) -> bool {
     let sequential = read_sequential(bytes);
     assert!(concurrent.number != 0 || sequential.number != 0);
 
-    let translated = translate(bytes, &mut out);
-    let length = translated.length as usize;
-    assert!(out[length..].iter().all(|byte| *byte == 3));
-    if translated.number == 0 {
-        assert_eq!(read_sequential(&out[..length]).number, 0);
+    for mode in MODES {
+        out.fill(3);
+        let translated = translate(bytes, mode, &mut out);
+        let length = translated.length as usize;
+        assert!(out[length..].iter().all(|byte| *byte == 3));
+        if translated.number == 0 {
+            assert_eq!(read_sequential(&out[..length]).number, 0);
+        }
+        if concurrent.number != 0 {
+            assert_eq!(translated.number, concurrent.number);
+        }
     }
 
     let ran = run_concurrent(bytes, schedule, &mut cells, &mut events);
     only_blocked_runs_have_a_reason(&ran);
     if concurrent.number != 0 {
         assert_eq!(ran.number, concurrent.number);
-        assert_eq!(translated.number, concurrent.number);
     }
     if ran.number != 0 {
         assert!(cells.iter().chain(&events).all(|byte| *byte == 3));

@@ -4,6 +4,7 @@ use second::batch::fnv;
 use second::builder::table;
 use second::c_text::{text, LONGEST, PRELUDE};
 use second::calls::{print_c, read_c, read_sequential, translate, WriteAnswer};
+use second::placement::Mode;
 use second::program::{Kind, Program};
 use second::random::{damaged, program_of, Random, Scale};
 use second::samples::{b, deepest, judged, A};
@@ -119,7 +120,7 @@ void p1(z_value x0) {
 ";
     assert_eq!(&text[PRELUDE.len()..], expected);
     let mut copy = vec![0; 173];
-    translate(&A, &mut copy);
+    translate(&A, Mode::Own, &mut copy);
     writes(print_c, &copy, text.as_bytes());
 }
 
@@ -254,7 +255,8 @@ fn random_programs() {
         }
         let source = program_of(Kind::Concurrent, Scale::Small, &mut random);
         let mut copy = vec![0; 65_536];
-        let answer = translate(&write::table(&source, Kind::Concurrent), &mut copy);
+        let mode = Mode::numbered(i / 4 % 2);
+        let answer = translate(&write::table(&source, Kind::Concurrent), mode, &mut copy);
         if answer.number == 0 && i % 4 == 0 {
             let copy = verdict(&copy[..answer.length as usize], Kind::Sequential);
             there_and_back(&copy.unwrap());

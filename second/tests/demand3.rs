@@ -9,6 +9,8 @@ use second::expression::Expression;
 use second::labels;
 use second::line::BUDGET;
 use second::machine::{End, Event, Frame, Heap, EVENT};
+use second::place_samples::samples;
+use second::placement::{self, Mode, MODES};
 use second::price;
 use second::program::{Instruction, Kind, Program};
 use second::random::{program_of, schedule_for, Random, Scale};
@@ -184,8 +186,10 @@ fn story_of_copy(source: &Program, copy: &Program, schedule: &[u8]) -> Story {
     }
 }
 
-/// The locals of all frames are found again in the copy's cells, as in the report's relation (2).
-fn check_locals(program: &Program, copy: &Program, schedule: &[u8], steps: usize) {
+/// The locals of all frames are found again in the copy's cells, as in the report's relation (2). In
+/// the second mode that is true of live frames only: others may have lost their cells.
+fn check_locals(program: &Program, mode: Mode, copy: &Program, schedule: &[u8], steps: usize) {
+    let starts = placement::row(program, mode).starts;
     let mut machine = Concurrent::new(program);
     for thread in &schedule[..steps] {
         machine.step(usize::from(*thread)).unwrap();
@@ -208,9 +212,7 @@ fn check_locals(program: &Program, copy: &Program, schedule: &[u8], steps: usize
                 back
             );
             back = Value::Whole(label_of_frame(program, frame) as i32);
-            let earlier = program.procedures.iter().take(frame.procedure);
-            let locals_before: usize = earlier.map(|p| usize::from(p.locals)).sum();
-            let row = first + program.procedures.len() + locals_before;
+            let row = first + program.procedures.len() + usize::from(starts[frame.procedure]);
             for (x, value) in frame.locals.iter().enumerate() {
                 if let Some(value) = value {
                     assert_eq!(sequential.heap.location(row + x)[thread], *value);
@@ -220,15 +222,35 @@ fn check_locals(program: &Program, copy: &Program, schedule: &[u8], steps: usize
     }
 }
 
+/// The copy's table in a mode.
+fn copy_in(table: &[u8], mode: Mode) -> Vec<u8> {
+    let mut out = vec![0; 65_536];
+    let answer = translate(table, mode, &mut out);
+    assert_eq!(answer.number, 0);
+    out.truncate(answer.length as usize);
+    out
+}
+
+/// The program and its copy in both modes; the second is not run where it is the same.
 fn check(program: &Program, schedule: &[u8]) -> End {
     let table = write::table(program, Kind::Concurrent);
-    let mut out = vec![0; 65_536];
-    let answer = translate(&table, &mut out);
-    assert_eq!(answer.number, 0);
-    let copy_table = &out[..answer.length as usize];
+    let (own, shared) = (copy_in(&table, Mode::Own), copy_in(&table, Mode::Shared));
+    if own != shared {
+        check_copy(program, &table, Mode::Shared, &shared, schedule);
+    }
+    check_copy(program, &table, Mode::Own, &own, schedule)
+}
+
+fn check_copy(
+    program: &Program,
+    table: &[u8],
+    mode: Mode,
+    copy_table: &[u8],
+    schedule: &[u8],
+) -> End {
     assert_eq!(read_sequential(copy_table).number, 0);
     let copy = verdict(copy_table, Kind::Sequential).unwrap();
-    assert_eq!(copy, translate_tree(program));
+    assert_eq!(copy, translate_tree(program, mode));
 
     let story = story_of_program(program, schedule, table.len() as u64);
     let copy_story = story_of_copy(program, &copy, schedule);
@@ -252,8 +274,8 @@ fn check(program: &Program, schedule: &[u8]) -> End {
         }
         End::Budget => panic!("the copy met demand 3's budget"),
     }
-    check_locals(program, &copy, schedule, story.steps as usize);
-    check_calls(&table, copy_table, schedule, &story, &copy_story);
+    check_locals(program, mode, &copy, schedule, story.steps as usize);
+    check_calls(table, copy_table, schedule, &story, &copy_story);
     story.end
 }
 
@@ -309,6 +331,8 @@ struct Counts {
     ends: [usize; 4],
     reasons: [usize; 5],
     refused: usize,
+    /// Programs whose locals share locations in the second mode, so that both copies were run.
+    sharing: usize,
 }
 
 /// Random programs under random schedules.
@@ -326,6 +350,8 @@ fn check_many(count: usize, scale: Scale, seed: u64, longest: usize) -> Counts {
                 let end = check(&program, &schedule);
                 counts.ends[usize::from(end.number())] += 1;
                 counts.reasons[usize::from(end.reason())] += 1;
+                let [own, shared] = MODES.map(|mode| placement::row(&program, mode));
+                counts.sharing += usize::from(own.length != shared.length);
             }
         }
     }
@@ -341,6 +367,7 @@ fn demand_3_on_random_programs() {
     assert!(counts.ends[2] > 1_000);
     assert!(counts.reasons.iter().all(|count| *count > 200));
     assert!(counts.refused < 1_000);
+    assert!(counts.sharing > 3_000);
 }
 
 #[test]
@@ -348,6 +375,7 @@ fn demand_3_on_large_random_programs() {
     let counts = check_many(200, Scale::Large, 4, 400);
     assert!(counts.ends[..3].iter().all(|count| *count > 20));
     assert!(counts.refused < 40);
+    assert!(counts.sharing > 100);
 }
 
 /// Every instruction that blocks, also inside atomic blocks: the copy blocks by the same reason.
@@ -396,7 +424,7 @@ fn demand_3_on_a_long_run() {
     let program = program(vec![procedure(0, 1, body)], &[1], &[0; 8]);
     let schedule = [0; 4_096];
     let length = write::table(&program, Kind::Concurrent).len() as u64;
-    let copy = translate_tree(&program);
+    let copy = translate_tree(&program, Mode::Own);
     let story = story_of_program(&program, &schedule, length);
     let copy_story = story_of_copy(&program, &copy, &schedule);
     assert_eq!(story.moments, copy_story.moments);
@@ -414,6 +442,19 @@ fn demand_3_on_the_deepest_program() {
     let schedule: Vec<u8> = (0..DEEPEST_STEPS).map(|step| (step % 8) as u8).collect();
     assert_eq!(check(&program, &schedule), End::Finished);
     assert_eq!(check(&program, &schedule[1..]), End::Used);
+}
+
+/// Programs whose procedures share locations, under schedules with each thread in turn.
+#[test]
+fn demand_3_on_shared_locations() {
+    for sample in samples() {
+        let threads = sample.program.mains.len();
+        let turns: Vec<u8> = (0..300).map(|step| (step % threads) as u8).collect();
+        let blocks: Vec<u8> = (0..300).map(|step| (step / 7 % threads) as u8).collect();
+        for schedule in [turns, blocks] {
+            check(&sample.program, &schedule);
+        }
+    }
 }
 
 /// A return is priced like its end label, an empty atomic block like its pc.

@@ -4,6 +4,7 @@ use second::calls::*;
 use second::event_samples::{e, traced, Traced};
 use second::line::BUDGET;
 use second::machine::EVENT;
+use second::placement::{Mode, MODES};
 use second::program::Kind;
 use second::samples::A;
 
@@ -108,7 +109,7 @@ fn the_bytes_of_e() {
     assert_eq!(events[39], 9);
 
     let mut copy = vec![0; 517];
-    assert_eq!(translate(&E, &mut copy).length, 517);
+    assert_eq!(translate(&E, Mode::Own, &mut copy).length, 517);
     let mut cells = [0; 45_000];
     let mut events = [9; 40];
     let answer = run_sequential(&copy, &[0; 6], BUDGET, 1, &mut cells, &mut events);
@@ -123,7 +124,7 @@ fn the_bytes_of_e() {
 #[test]
 fn the_bytes_of_the_copy_of_a() {
     let mut copy = vec![0; 173];
-    assert_eq!(translate(&A, &mut copy).length, 173);
+    assert_eq!(translate(&A, Mode::Own, &mut copy).length, 173);
     let (mut cells, mut events) = ([0; 15], [9; 92]);
     let answer = run_sequential(&copy, &[0], 24, 3, &mut cells, &mut events);
     assert_eq!((answer.end, answer.steps, answer.events), (0, 24, 7));
@@ -146,9 +147,12 @@ fn the_bytes_of_the_copy_of_a() {
 #[test]
 fn copies_have_the_same_events() {
     let mut copies = 0;
-    for sample in traced() {
+    for (sample, mode) in traced()
+        .iter()
+        .flat_map(|one| MODES.map(|mode| (one, mode)))
+    {
         let mut out = vec![0; 65_536];
-        let answer = translate(&sample.table, &mut out);
+        let answer = translate(&sample.table, mode, &mut out);
         if answer.number != 0 {
             assert_eq!(sample.kind, Kind::Sequential);
             continue;
@@ -161,10 +165,10 @@ fn copies_have_the_same_events() {
             ..sample.clone()
         };
         let count = sample.labels.len();
-        let (_, events) = run(&sample, count * EVENT);
+        let (_, events) = run(sample, count * EVENT);
         let (_, copied) = run(&copy, count * EVENT);
         assert_eq!(events, copied, "{}", sample.name);
         copies += 1;
     }
-    assert!(copies > 8);
+    assert!(copies > 16);
 }

@@ -2,8 +2,9 @@
 
 use second::builder::{assign, number, procedure, program, table};
 use second::calls::*;
+use second::placement::{Mode, MODES};
 use second::program::Kind;
-use second::samples::{b, judged, number_9, sequential, translating_to, A};
+use second::samples::{b, judged, number_9, sequential, translating_to, Judged, A};
 
 fn read(kind: Kind, table: &[u8]) -> ReadAnswer {
     match kind {
@@ -45,6 +46,20 @@ fn each_judged_table_gets_its_number() {
     }
 }
 
+/// The translator refuses the table by its number in both modes, and writes nothing.
+fn refuses_to_translate(sample: &Judged, room: usize) {
+    for mode in MODES {
+        let mut out = vec![7; room];
+        let answer = translate(&sample.table, mode, &mut out);
+        let refusal = WriteAnswer {
+            number: sample.number,
+            length: 0,
+        };
+        assert_eq!(answer, refusal, "{}", sample.name);
+        assert!(out.iter().all(|byte| *byte == 7));
+    }
+}
+
 #[test]
 fn refused_tables_are_refused_by_every_call_and_nothing_is_written() {
     for sample in judged().into_iter().filter(|sample| sample.number != 0) {
@@ -54,14 +69,7 @@ fn refused_tables_are_refused_by_every_call_and_nothing_is_written() {
         assert_eq!(answer, refused_run(sample.number), "{}", sample.name);
         assert!(cells.iter().chain(&events).all(|byte| *byte == 7));
         if sample.kind == Kind::Concurrent {
-            let mut out = vec![7; 66_000];
-            let answer = translate(&sample.table, &mut out);
-            let refusal = WriteAnswer {
-                number: sample.number,
-                length: 0,
-            };
-            assert_eq!(answer, refusal, "{}", sample.name);
-            assert!(out.iter().all(|byte| *byte == 7));
+            refuses_to_translate(&sample, 66_000);
         }
     }
 }
@@ -97,14 +105,7 @@ fn number_9_is_given_when_the_copy_would_be_too_long() {
         assert_eq!(read_concurrent(&sample.table).number, 0, "{}", sample.name);
         // 9 is smaller than 10, so the buffer does not matter.
         for length in [0, 65_536, 70_000] {
-            let mut out = vec![7; length];
-            let answer = translate(&sample.table, &mut out);
-            let refusal = WriteAnswer {
-                number: 9,
-                length: 0,
-            };
-            assert_eq!(answer, refusal, "{}", sample.name);
-            assert!(out.iter().all(|byte| *byte == 7));
+            refuses_to_translate(&sample, length);
         }
         // The runs do not know the translator's numbers.
         let answer = run_concurrent(&sample.table, &[], &mut [0; 100], &mut []);
@@ -116,12 +117,12 @@ fn number_9_is_given_when_the_copy_would_be_too_long() {
 fn the_longest_copy_passes() {
     let source = translating_to(65_536);
     let mut out = vec![7; 65_540];
-    let answer = translate(&source, &mut out);
+    let answer = translate(&source, Mode::Own, &mut out);
     assert_eq!((answer.number, answer.length), (0, 65_536));
     assert_eq!(out[65_536..], [7; 4]);
     assert_eq!(read_sequential(&out[..65_536]).number, 0);
     let mut out = vec![7; 65_535];
-    assert_eq!(translate(&source, &mut out).number, 10);
+    assert_eq!(translate(&source, Mode::Own, &mut out).number, 10);
     assert!(out.iter().all(|byte| *byte == 7));
 }
 
@@ -130,12 +131,12 @@ fn number_10_is_given_when_the_buffer_is_too_short() {
     for (source, length) in [(A.to_vec(), 173), (table(&b()), 419)] {
         for short in [0, 1, length - 1] {
             let mut out = vec![7; short];
-            let answer = translate(&source, &mut out);
+            let answer = translate(&source, Mode::Own, &mut out);
             assert_eq!((answer.number, answer.length), (10, 0));
             assert!(out.iter().all(|byte| *byte == 7));
         }
         let mut out = vec![7; length + 2];
-        let answer = translate(&source, &mut out);
+        let answer = translate(&source, Mode::Own, &mut out);
         assert_eq!((answer.number, answer.length), (0, length as u64));
         assert_eq!(out[length..], [7; 2]);
     }

@@ -5,6 +5,7 @@ use second::calls::*;
 use second::expression::Expression;
 use second::line::{line, BUDGET};
 use second::machine::End;
+use second::placement::Mode;
 use second::program::{Block, Instruction, Kind, Program};
 use second::samples::{b, one_thread, A};
 use second::sequential::{Next, Sequential};
@@ -16,7 +17,7 @@ const USED: End = End::Used;
 
 fn translation(table: &[u8]) -> Vec<u8> {
     let mut out = vec![0; 65_536];
-    let answer = translate(table, &mut out);
+    let answer = translate(table, Mode::Own, &mut out);
     assert_eq!(answer.number, 0);
     out.truncate(answer.length as usize);
     out
