@@ -7,6 +7,7 @@
 mod benches;
 mod maker;
 mod mends;
+mod placements;
 mod prices;
 mod random_tables;
 mod runs;
@@ -16,6 +17,7 @@ mod traces;
 
 use benches::*;
 use mends::*;
+use placements::*;
 use prices::*;
 use random_tables::*;
 use runs::*;
@@ -136,6 +138,12 @@ fn whole_batch(ops: Vec<u8>) -> Batch {
     printed_tables(&mut batch);
     random_texts(&mut batch, &mut Random::new(SEED + 106));
     texts_read(&mut batch);
+    batch.section = "shared locations";
+    placed_samples(&mut batch);
+    numbers_of_modes(&mut batch);
+    edges_of_9_and_10(&mut batch);
+    judged_in_the_second_mode(&mut batch);
+    random_placements(&mut batch, &mut Random::new(SEED + 107));
     batch.input.extend(last_header());
     batch
 }

@@ -3,6 +3,7 @@
 use second::batch::*;
 use second::calls::{read_concurrent, read_sequential, translate};
 use second::machine::EVENT;
+use second::placement::Mode;
 use second::program::Kind;
 
 pub fn read_case(kind: Kind, table: &[u8]) -> Case {
@@ -16,10 +17,17 @@ pub fn read_case(kind: Kind, table: &[u8]) -> Case {
     }
 }
 
+/// In the old mode.
 pub fn translate_case(table: &[u8], out: u32) -> Case {
+    numbered_case(Mode::Own.number(), table, out)
+}
+
+/// In the mode that has this number.
+pub fn numbered_case(mode: u32, table: &[u8], out: u32) -> Case {
     Case {
         op: TRANSLATE,
         table: table.to_vec(),
+        h: mode,
         out,
         ..Case::default()
     }
@@ -117,10 +125,14 @@ pub fn shown(case: Case) -> Case {
     }
 }
 
-/// The copy of an accepted table whose copy is not too long.
+/// The copy of an accepted table whose copy is not too long, in the old mode.
 pub fn copy_of(table: &[u8]) -> Option<Vec<u8>> {
+    copy_in(Mode::Own, table)
+}
+
+pub fn copy_in(mode: Mode, table: &[u8]) -> Option<Vec<u8>> {
     let mut out = vec![0; 65_536];
-    let answer = translate(table, &mut out);
+    let answer = translate(table, mode, &mut out);
     out.truncate(answer.length as usize);
     (answer.number == 0).then_some(out)
 }

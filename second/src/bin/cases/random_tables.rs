@@ -94,7 +94,7 @@ pub fn event_room(random: &mut Random) -> u32 {
 
 /// A run of a copy: most often with demand 3's budget and h = M, sometimes with a budget near its
 /// steps or another h.
-fn copy_case(copy: &[u8], locations: u32, schedule: &[u8], random: &mut Random) -> Case {
+pub fn copy_case(copy: &[u8], locations: u32, schedule: &[u8], random: &mut Random) -> Case {
     let cells = cell_bytes(Kind::Sequential, copy);
     let mut buffer = vec![0; cells as usize];
     let steps = run_sequential(copy, schedule, BUDGET, 0, &mut buffer, &mut []).steps;
