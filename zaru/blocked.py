@@ -15,6 +15,7 @@ from zaru.asserts import Assertion
 from zaru.engine import Request, Run
 from zaru.fault import Fault
 from zaru.labels import Spot, spots
+from zaru.placement import Mode
 from zaru.simulated import Simulated
 from zaru.state import state_of
 
@@ -26,10 +27,10 @@ def plural(count: int, one: str, more: str = "") -> str:
     return f"{count} {one if count == 1 else more or one + 's'}"
 
 
-def hold_spot(program: t.Program, copy: bytes, label: int, spot: Spot) -> None:
+def hold_spot(program: t.Program, copy: bytes, label: int, spot: Spot, mode: Mode) -> None:
     """The label is what zaru takes it for."""
     procedures = t.decode(copy).procedures
-    if not label < len(procedures) or procedures[label].body != Simulated(program).code(spot):
+    if not label < len(procedures) or procedures[label].body != Simulated(program, mode).code(spot):
         raise Fault(f"a fault of zaru: label {label} is another instruction in the copy than in the text")
 
 
@@ -56,15 +57,15 @@ class Why:
         return f"{after}{f' at label {self.label}' if has_labels else ''}{inside}: {words}"
 
 
-def why_at(program: t.Program, copy: bytes, schedule: bytes, run: Run, label: int) -> Why:
-    """Why the run of the program blocked, the thread that the next entry names being at this label."""
+def why_at(program: t.Program, copy: bytes, schedule: bytes, run: Run, label: int, mode: Mode) -> Why:
+    """Why the run of the program blocked, the thread that the next entry names being at this label. The copy is in this mode."""
     thread, found = schedule[run.steps], spots(program)
     if label == 0:
         return Why(run.steps, thread, label, False, run.reason, reasons.words(thread, label, None, run.reason))
     if not 1 <= label <= len(found):
         raise Fault(f"a fault of zaru: thread {thread} is at label {label}; the text has {len(found)}")
     spot = found[label - 1]
-    hold_spot(program, copy, label, spot)
+    hold_spot(program, copy, label, spot, mode)
     is_atomic = isinstance(spot.instruction, t.Atomic)
     failed = asserts.failed(program, schedule, run)
     if failed is None:
@@ -76,14 +77,14 @@ def why_at(program: t.Program, copy: bytes, schedule: bytes, run: Run, label: in
     return Why(run.steps, thread, label, is_atomic, run.reason, words, failed)
 
 
-def label_after(program: t.Program, copy: bytes, schedule: bytes, thread: int) -> int:
+def label_after(program: t.Program, copy: bytes, schedule: bytes, thread: int, mode: Mode) -> int:
     """The thread's label when the order has been used."""
     shape = engine.read(engine.READ_SEQUENTIAL, copy)
     request = Request(engine.RUN_SEQUENTIAL, copy, schedule, budget=BUDGET, cells=engine.CELL * shape.cells)
-    return state_of(program, engine.run(request).cell_bytes).labels[thread]
+    return state_of(program, engine.run(request).cell_bytes, mode).labels[thread]
 
 
-def why(program: t.Program, copy: bytes, schedule: bytes, run: Run) -> Why:
+def why(program: t.Program, copy: bytes, schedule: bytes, run: Run, mode: Mode = Mode.OWN) -> Why:
     """Why this run of the program blocked under this order."""
-    label = label_after(program, copy, schedule[: run.steps], schedule[run.steps])
-    return why_at(program, copy, schedule, run, label)
+    label = label_after(program, copy, schedule[: run.steps], schedule[run.steps], mode)
+    return why_at(program, copy, schedule, run, label, mode)

@@ -64,11 +64,11 @@ def complain(*lines: str) -> None:
     print(*lines, sep="\n", file=sys.stderr)
 
 
-def tell_refusal(number: int, words: Sequence[str]) -> None:
+def tell_refusal(refused: engine.Refused, words: Sequence[str]) -> None:
     """In words; with --json also as an object."""
     if "--json" in words:
-        print(objects.written(objects.refusal(number)))
-    complain(*refusals.describe(number, words[0]))
+        print(objects.written(objects.refusal(refused.number)))
+    complain(*refusals.describe(refused.number, words[0]), *([refused.advice] if refused.advice else []))
 
 
 def main(words: Sequence[str]) -> int:
@@ -86,7 +86,7 @@ def main(words: Sequence[str]) -> int:
         complain(str(error))
         return REFUSED
     except engine.Refused as error:
-        tell_refusal(error.number, words)
+        tell_refusal(error, words)
         return REFUSED
     except engine.EngineError as error:
         complain(f"zaru: {error}")

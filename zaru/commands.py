@@ -10,11 +10,13 @@ from typing import Iterator, List, Tuple
 from zaru import arguments, bench, blocked, c_text, cost, engine, files, mended, objects, picture, plain, ran, trace
 from zaru.accepted import READ_OPS, accepted_program
 from zaru.arguments import UsageError
-from zaru.copy_names import copy_names
+from zaru.blocked import plural
+from zaru.copy_names import copy_names, notes_on
 from zaru.engine import Request, Shape
 from zaru.files import TEXT_ENDING, Source, source_of, write_file
 from zaru.labels import spots
 from zaru.names import Names
+from zaru.placement import Mode, Places, copy_of
 from zaru.reasons import REASONS
 from zaru.steps import LONGEST_ORDER, course_of
 from zaru.table import CONCURRENT, SEQUENTIAL, Program, decode
@@ -81,13 +83,28 @@ def counted(kind: str, shape: Shape) -> str:
     return f"accepted: {counts}, cells {shape.cells}"
 
 
+def mode_of(words: Namespace) -> Mode:
+    return Mode.SHARED if words.share else Mode.OWN
+
+
 def translate(words: Namespace) -> List[str]:
-    source = source_of(words.table)
-    copy = engine.translate(source.table)
-    if words.output.endswith(TEXT_ENDING):
-        write_file(words.output, copy_text(source, copy).encode())
-        return [f"{words.output}: the text of {len(copy):,} bytes"]
-    return written_table(words.output, copy)
+    source, mode = source_of(words.table), mode_of(words)
+    copy = copy_of(source.table, mode)
+    shared = shared_line(source, copy) if mode == Mode.SHARED else []
+    if not words.output.endswith(TEXT_ENDING):
+        return written_table(words.output, copy) + ([] if words.output == "-" else shared)
+    write_file(words.output, copy_text(source, copy, mode).encode())
+    return [f"{words.output}: the text of {len(copy):,} bytes", *shared]
+
+
+def shared_line(source: Source, copy: bytes) -> List[str]:
+    """What it comes to that locals share locations."""
+    program = accepted(CONCURRENT, source).program
+    own, places = Places(program), Places(program, Mode.SHARED)
+    places.hold(engine.read(engine.READ_SEQUENTIAL, copy))
+    threads = len(program.mains)
+    took = f"{own.row * threads:,} in {own.row:,}"
+    return [f"locals take {plural(places.row * threads, 'cell')} in {plural(places.row, 'location')}; without --share {took}"]
 
 
 def written_table(output: str, table: bytes) -> List[str]:
@@ -95,16 +112,17 @@ def written_table(output: str, table: bytes) -> List[str]:
     return [] if output == "-" else [f"{output}: {len(table):,} bytes"]
 
 
-def copy_text(source: Source, copy: bytes) -> str:
+def copy_text(source: Source, copy: bytes, mode: Mode) -> str:
     """A copy as text, named after its source."""
     one = accepted(CONCURRENT, source)
     accepted_program(SEQUENTIAL, copy)
-    return text_of(copy, copy_names(one.program, one.names))
+    notes = notes_on(one.program, one.names, mode)
+    return text_of(copy, copy_names(one.program, one.names, mode), notes=notes)
 
 
 def run(words: Namespace) -> List[str]:
     one, schedule = program_and_order(words)
-    found = ran.run_both(one.program, one.table, schedule)
+    found = ran.run_both(one.program, one.table, schedule, mode_of(words))
     if words.json:
         return [objects.written(objects.run(found, one.program, one.names))]
     return ran.lines_of(found, one.program, one.names, words.events)
@@ -114,7 +132,8 @@ def traced(words: Namespace) -> List[str]:
     if words.json and words.plain:
         raise UsageError("--plain has no --json")
     one, schedule = program_and_order(words, LONGEST_ORDER)
-    teller, course = Teller(one.program, one.names), course_of(one.program, one.table, schedule)
+    teller = Teller(one.program, one.names)
+    course = course_of(one.program, one.table, schedule, mode_of(words))
     if words.json:
         return [objects.written(objects.trace(course, teller))]
     return plain.lines_of(teller, course, one.table) if words.plain else trace.lines_of(teller, course)
@@ -122,13 +141,13 @@ def traced(words: Namespace) -> List[str]:
 
 def costs(words: Namespace) -> List[str]:
     one, schedule = program_and_order(words, LONGEST_ORDER)
-    return cost.cost(one.program, one.names, one.table, schedule)
+    return cost.cost(one.program, one.names, one.table, schedule, mode_of(words))
 
 
 def pictured(words: Namespace) -> List[str]:
     picture.hold_ending(words.output)
     one, schedule = program_and_order(words, LONGEST_ORDER)
-    return picture.draw(one.program, one.names, one.table, schedule, words.table, words.output)
+    return picture.draw(one.program, one.names, one.table, schedule, words.table, words.output, mode_of(words))
 
 
 def benched(words: Namespace) -> Iterator[str]:
@@ -183,7 +202,9 @@ def assemble(words: Namespace) -> List[str]:
 def to_c(words: Namespace) -> List[str]:
     source = source_of(words.table)
     kind = CONCURRENT if c_text.is_concurrent(source.table) else SEQUENTIAL
-    table = engine.translate(source.table) if kind == CONCURRENT else source.table
+    if words.share and kind == SEQUENTIAL:
+        raise UsageError("--share says how the copy of a concurrent table is made, and this table is sequential")
+    table = copy_of(source.table, mode_of(words)) if kind == CONCURRENT else source.table
     text = c_text.printed(table)
     locations = accepted(kind, source).names.locations
     write_file(words.output, text)

@@ -17,6 +17,8 @@ from zaru.engine import Price, Run
 from zaru.fault import Fault
 from zaru.labels import spots
 from zaru.names import Names
+from zaru.placement import Mode
+from zaru.ran import line_of
 from zaru.steps import Course, course_of
 from zaru.told import Teller, cut, unused
 
@@ -62,10 +64,10 @@ def paid(program: t.Program, course: Course, heads: List[int], listed: Dict[int,
     return prices
 
 
-def cost(program: t.Program, names: Names, table: bytes, schedule: bytes) -> List[str]:
+def cost(program: t.Program, names: Names, table: bytes, schedule: bytes, mode: Mode = Mode.OWN) -> List[str]:
     """The rule, a line for each loop head, and how the copy ended."""
     teller = Teller(program, names)
-    course = course_of(program, table, schedule)
+    course = course_of(program, table, schedule, mode)
     labels = sorted({step.label for step in course.steps})
     listed = dict(zip(labels, engine.prices(table, labels)))
     heads = heads_of(program, course)
@@ -86,7 +88,8 @@ def rule(program: t.Program) -> str:
 def ending(teller: Teller, course: Course, schedule: bytes, table: bytes) -> List[str]:
     """How the program's run ended, and the copy's steps in all, from the run program's line."""
     run = course.answers.run
-    count, taken = plural(run.steps, "step"), f"has taken {int(engine.run_line(table, schedule).split()[2]):,} steps"
+    line = line_of(teller.program, table, schedule, run, course.answers.copy, course.answers.mode)
+    count, taken = plural(run.steps, "step"), f"has taken {int(line.split()[2]):,} steps"
     if run.end == "finished":
         return [f"finished after {count}, {unused(course)}; with its last test and its return the copy {taken}"]
     if run.end == "used":

@@ -25,7 +25,7 @@ RUNS = (RUN_CONCURRENT, RUN_SEQUENTIAL, RUN_PLAIN)
 # The calls that write a table or a text into the out buffer.
 WRITERS = (TRANSLATE, PRINT_C, READ_C)
 # The version of requests and lines; crates/cases/src/main.rt has it too.
-VERSION = 8
+VERSION = 9
 
 HEADER = 36
 # What the program is ready for.
@@ -65,8 +65,9 @@ class EngineError(Exception):
 class Request:
     """A call, with the lengths of the buffers that are lent to it.
 
-    The bench has its rounds as the budget and its steps as h, the call for prices its label as the budget. The mender has the
-    kind as h and its list of changes as the events; the table itself is lent to it. The text reader has its text as the table.
+    The bench has its rounds as the budget and its steps as h, the call for prices its label as the budget. The translator has
+    its mode as h. The mender has the kind as h and its list of changes as the events; the table itself is lent to it. The text
+    reader has its text as the table.
     """
 
     op: int
@@ -172,11 +173,12 @@ class Price(NamedTuple):
 
 
 class Refused(Exception):
-    """A call refused its input by this number."""
+    """A call refused its input by this number. The advice, if there is one, says what can be done."""
 
-    def __init__(self, number: int) -> None:
+    def __init__(self, number: int, advice: str = "") -> None:
         super().__init__(number)
         self.number = number
+        self.advice = advice
 
 
 def unexpected(answer: Answer) -> EngineError:
@@ -279,8 +281,9 @@ def written(answer: Answer) -> bytes:
     return answer.lent[:length]
 
 
-def translate(table: bytes) -> bytes:
-    return written(ask([Request(TRANSLATE, table, out=COPY_ROOM)])[0])
+def translate(table: bytes, mode: int = 0) -> bytes:
+    """The copy of a table; mode 1: locals share locations."""
+    return written(ask([Request(TRANSLATE, table, h=mode, out=COPY_ROOM)])[0])
 
 
 def print_c(table: bytes) -> bytes:

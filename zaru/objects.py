@@ -69,6 +69,7 @@ def run(ran: Ran, program: t.Program, names: Names) -> Object:
         "end": found.end,
         "steps": found.steps,
         "copy_steps": ran.copy_steps,
+        "mode": ran.mode.word,
         "unused": found.unused,
         "reason": found.reason,
         "blocked": blocked(ran.why),
@@ -112,5 +113,6 @@ def trace(course: Course, teller: Teller) -> Object:
         "unused": found.unused,
         "reason": found.reason,
         "blocked": blocked(why),
+        "mode": course.answers.mode.word,
         "steps": steps,
     }

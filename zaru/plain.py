@@ -110,7 +110,7 @@ def lines_of(teller: Teller, course: Course, table: bytes) -> List[str]:
         raise FileError(f"a run with {count} is too long for --plain; the most is {MOST_EVENTS:,}")
     runs = plain_runs(teller.program, table, course)
     hold_engines(course, runs)
-    states = [state_of(teller.program, one.cell_bytes) for one in course.answers.copy_runs]
+    states = [state_of(teller.program, one.cell_bytes, course.answers.mode) for one in course.answers.copy_runs]
     paper, events = Paper(teller.program), events_of(runs.run.event_bytes)
     hold_state(paper, 0, states[0], runs.beginnings[0])
     lines = start_lines(teller, paper, len(course.steps))

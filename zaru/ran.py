@@ -8,8 +8,9 @@ from typing import List, Optional
 from zaru import blocked, engine
 from zaru import table as t
 from zaru.blocked import Why
-from zaru.engine import Request, Run
+from zaru.engine import BUILD, EngineError, Request, Run
 from zaru.names import Names
+from zaru.placement import Mode, copy_of
 from zaru.values import cell_lines, event_lines, events_of
 
 
@@ -20,19 +21,32 @@ class Ran:
     line: str
     # If it blocked.
     why: Optional[Why]
+    # How the copy keeps locals.
+    mode: Mode
 
     @property
     def copy_steps(self) -> int:
         return int(self.line.split()[2])
 
 
-def run_both(program: t.Program, table: bytes, schedule: bytes) -> Ran:
+def run_both(program: t.Program, table: bytes, schedule: bytes, mode: Mode) -> Ran:
     # A table without a copy (9) is refused before its order is judged (11), as the run program does it.
-    copy = engine.translate(table)
+    copy = copy_of(table, mode)
     room = {"cells": engine.CELL_ROOM, "events": engine.EVENT_ROOM}
     run = engine.run(Request(engine.RUN_CONCURRENT, table, schedule, **room))
-    line = engine.run_line(table, schedule)
-    return Ran(run, line, blocked.why(program, copy, schedule, run) if run.end == "blocked" else None)
+    line = line_of(program, table, schedule, run, copy, mode)
+    return Ran(run, line, blocked.why(program, copy, schedule, run, mode) if run.end == "blocked" else None, mode)
+
+
+def line_of(program: t.Program, table: bytes, schedule: bytes, run: Run, copy: bytes, mode: Mode) -> str:
+    """The run program's line. It has the copy in which each local has its own location; the other is run here."""
+    if mode == Mode.OWN:
+        return engine.run_line(table, schedule)
+    h, budget = len(program.sizes), blocked.BUDGET
+    other = engine.run(Request(engine.RUN_SEQUENTIAL, copy, schedule, budget=budget, h=h, cells=engine.CELL_ROOM))
+    if (other.end, other.reason) != (run.end, run.reason):
+        raise EngineError(f"{engine.engine_path()} ends the copy's run otherwise than the program's: {BUILD}")
+    return f"{run.end} {run.steps} {other.steps} {run.unused} {run.events} {run.reason}"
 
 
 def lines_of(ran: Ran, program: t.Program, names: Names, has_events: bool) -> List[str]:

@@ -2,7 +2,8 @@
 
 from __future__ import annotations
 
-from typing import Dict, List, NamedTuple, Optional, Sequence, Tuple
+from types import MappingProxyType
+from typing import Dict, List, Mapping, NamedTuple, Optional, Sequence, Tuple
 
 from zaru import table as t
 from zaru.asserts import is_assertion
@@ -11,6 +12,7 @@ from zaru.names import Names
 INDENT = "  "
 # Where the comments stand, unless the code is narrower or a line is longer.
 COMMENT_COLUMN = 44
+NONE: Mapping[int, str] = MappingProxyType({})
 
 
 class Operator(NamedTuple):
@@ -173,10 +175,15 @@ class Lines:
         self.lines.append(Line("end", self.next_label(False)))
 
 
-def show(program: t.Program, names: Names, prices: Sequence[str] = ()) -> str:
-    """The text of a program. A concurrent one has its labels as comments on the right, with prices if they are given."""
+def show(program: t.Program, names: Names, prices: Sequence[str] = (), notes: Mapping[int, str] = NONE) -> str:
+    """The text of a program. A concurrent one has its labels as comments on the right, with prices if they are given.
+
+    Locations that there is a note on have it as a comment.
+    """
     lines = [Line(program.kind)]
-    lines += [Line(f"location {name}[{size}]") for name, size in zip(names.locations, program.sizes)]
+    for number, (name, size) in enumerate(zip(names.locations, program.sizes)):
+        note = f"  // {notes[number]}" if number in notes else ""
+        lines.append(Line(f"location {name}[{size}]{note}"))
     code = Lines()
     for number, procedure in enumerate(program.procedures):
         code.lines.append(Line(""))

@@ -9,9 +9,8 @@ from __future__ import annotations
 from typing import Iterator, List, Set
 
 from zaru import table as t
-from zaru.copy_names import copy_names
 from zaru.labels import Spot, first_labels
-from zaru.names import Names, plain_names
+from zaru.placement import Mode, Places
 
 TID, TMP, AUX, FIRST_LOCAL = 0, 1, 2, 3
 
@@ -38,37 +37,37 @@ def variables(*expressions: t.Expression) -> Set[int]:
 class Simulated:
     """The code of the labels of one program."""
 
-    def __init__(self, program: t.Program) -> None:
+    def __init__(self, program: t.Program, mode: Mode = Mode.OWN) -> None:
         self.first = first_labels(program)
-        self.names: Names = copy_names(program, plain_names(program))
+        self.places = Places(program, mode)
 
-    def point(self, name: str) -> t.Instruction:
-        return t.Assign(TMP, t.Location(self.names.locations.index(name)))
+    def point(self, location: int) -> t.Instruction:
+        return t.Assign(TMP, t.Location(location))
 
-    def store(self, name: str, value: t.Expression) -> t.Block:
-        return self.point(name), t.Write(TMP, t.Local(TID), value)
+    def store(self, location: int, value: t.Expression) -> t.Block:
+        return self.point(location), t.Write(TMP, t.Local(TID), value)
 
     def set_local(self, procedure: int, number: int, value: t.Expression) -> t.Block:
-        return self.store(f"p{procedure}_x{number}", value)
+        return self.store(self.places.local(procedure, number), value)
 
     def loads(self, procedure: int, *expressions: t.Expression) -> Iterator[t.Instruction]:
         """ "Loads go over distinct variables, rising." """
         for number in sorted(variables(*expressions)):
-            yield self.point(f"p{procedure}_x{number}")
+            yield self.point(self.places.local(procedure, number))
             yield t.Read(number + FIRST_LOCAL, TMP, t.Local(TID))
 
     def go(self, label: int) -> t.Block:
-        return self.store("pct", t.Number(label))
+        return self.store(self.places.pct, t.Number(label))
 
     def code(self, spot: Spot) -> t.Block:
         """The whole code of a label."""
         one, procedure = spot.instruction, spot.procedure
         if one is None:
-            back = (self.point(f"from_p{procedure}"), t.Read(AUX, TMP, t.Local(TID)))
-            return back + self.store("pct", t.Local(AUX))
+            back = (self.point(self.places.from_of(procedure)), t.Read(AUX, TMP, t.Local(TID)))
+            return back + self.store(self.places.pct, t.Local(AUX))
         if isinstance(one, (t.While, t.If)):
             ways = (self.go(label)[1:] for label in (spot.if_true, spot.if_false))
-            return (*self.loads(procedure, one.test), self.point("pct"), t.If(shifted(one.test), *ways))
+            return (*self.loads(procedure, one.test), self.point(self.places.pct), t.If(shifted(one.test), *ways))
         if isinstance(one, t.Call):
             return self.call(spot, one)
         inner = one.body if isinstance(one, t.Atomic) else (one,)
@@ -78,7 +77,7 @@ class Simulated:
         code: List[t.Instruction] = list(self.loads(spot.procedure, *one.arguments))
         for number, argument in enumerate(one.arguments):
             code += self.set_local(one.procedure, number, shifted(argument))
-        code += self.store(f"from_p{one.procedure}", t.Number(spot.after))
+        code += self.store(self.places.from_of(one.procedure), t.Number(spot.after))
         return (*code, *self.go(self.first[one.procedure]))
 
     def in_place(self, procedure: int, block: t.Block) -> t.Block:

@@ -6,6 +6,7 @@ from dataclasses import dataclass
 from typing import Tuple
 
 from zaru import table as t
+from zaru.placement import Mode, Places
 from zaru.values import NUMBER, split_cells
 
 
@@ -13,27 +14,23 @@ from zaru.values import NUMBER, split_cells
 class State:
     # The label of each thread; 0 is a finished one.
     labels: Tuple[int, ...]
-    # For each procedure and each of its locals: its value for each thread.
+    # For each procedure and each of its locals: its value for each thread. Where locals share locations it is that of the
+    # procedure only while the thread is in it, or in one that it called.
     local_values: Tuple[Tuple[Tuple[bytes, ...], ...], ...]
 
     def local(self, procedure: int, number: int, thread: int) -> bytes:
         return self.local_values[procedure][number][thread]
 
 
-def state_of(program: t.Program, cells: bytes) -> State:
-    """The copy's locations: the source's, ptid (size 1), pct, a `from` for each procedure, then the locals."""
-    threads = len(program.mains)
-    local_count = sum(procedure.local_count for procedure in program.procedures)
-    sizes = list(program.sizes) + [1] + [threads] * (1 + len(program.procedures) + local_count)
-    rows = split_cells(cells, sizes)
-    pct = len(program.sizes) + 1
-    labels = tuple(label_of(cell) for cell in rows[pct])
-    at = pct + 1 + len(program.procedures)
-    local_values = []
-    for procedure in program.procedures:
-        local_values.append(tuple(tuple(row) for row in rows[at : at + procedure.local_count]))
-        at += procedure.local_count
-    return State(labels, tuple(local_values))
+def state_of(program: t.Program, cells: bytes, mode: Mode = Mode.OWN) -> State:
+    places = Places(program, mode)
+    rows = [tuple(row) for row in split_cells(cells, places.sizes())]
+    labels = tuple(label_of(cell) for cell in rows[places.pct])
+    local_values = tuple(
+        tuple(rows[places.local(number, local)] for local in range(procedure.local_count))
+        for number, procedure in enumerate(program.procedures)
+    )
+    return State(labels, local_values)
 
 
 def label_of(cell: bytes) -> int:

@@ -17,6 +17,7 @@ from zaru.blocked import BUDGET
 from zaru.engine import Request, Run
 from zaru.follow import Follower
 from zaru.labels import Spot, spots
+from zaru.placement import Mode, Places, copy_of
 from zaru.progress import saying
 from zaru.state import State, state_of
 from zaru.values import Event, events_of
@@ -34,6 +35,8 @@ class Answers:
     copy_runs: Tuple[Run, ...]
     # How many events there are up to each state.
     event_counts: Tuple[int, ...]
+    # How the copy keeps locals.
+    mode: Mode
 
 
 @dataclass(frozen=True)
@@ -61,12 +64,13 @@ class Course:
     labels: Tuple[int, ...]
 
 
-def answers_of(program: t.Program, table: bytes, schedule: bytes) -> Answers:
+def answers_of(program: t.Program, table: bytes, schedule: bytes, mode: Mode = Mode.OWN) -> Answers:
     cell_room = engine.CELL * sum(program.sizes)
-    copy = engine.translate(table)
+    copy = copy_of(table, mode)
     whole = Request(engine.RUN_CONCURRENT, table, schedule, cells=cell_room, events=engine.EVENT_ROOM)
     run = engine.run(whole)
     shape = engine.read(engine.READ_SEQUENTIAL, copy)
+    Places(program, mode).hold(shape)
     prefixes = [schedule[:length] for length in range(run.steps + 1)]
     ours = [Request(engine.RUN_CONCURRENT, table, prefix, cells=cell_room) for prefix in prefixes]
     theirs = [
@@ -76,14 +80,14 @@ def answers_of(program: t.Program, table: bytes, schedule: bytes) -> Answers:
     answers = engine.ask(ours + theirs)
     runs = [engine.run_of(request, answer) for request, answer in zip(ours + theirs, answers)]
     counts = tuple(one.events for one in runs[: len(prefixes)])
-    return Answers(run, copy, tuple(runs[len(prefixes) :]), counts)
+    return Answers(run, copy, tuple(runs[len(prefixes) :]), counts, mode)
 
 
-def course_of(program: t.Program, table: bytes, schedule: bytes) -> Course:
+def course_of(program: t.Program, table: bytes, schedule: bytes, mode: Mode = Mode.OWN) -> Course:
     """The run's steps, each held against the answers."""
     with saying(f"running both machines for each of {len(schedule)} entries"):
-        answers = answers_of(program, table, schedule)
-    states = [state_of(program, one.cell_bytes) for one in answers.copy_runs]
+        answers = answers_of(program, table, schedule, mode)
+    states = [state_of(program, one.cell_bytes, mode) for one in answers.copy_runs]
     events = events_of(answers.run.event_bytes)
     follower = Follower(program, spots(program))
     follower.hold(states[0])

@@ -8,12 +8,12 @@ groups wrongly could be shown just as wrongly. The tests hold it against Python'
 
 from __future__ import annotations
 
-from typing import Dict, Iterator, List, NamedTuple, Sequence, Tuple, Union
+from typing import Dict, Iterator, List, Mapping, NamedTuple, Sequence, Tuple, Union
 
 from zaru.asm import parsed
 from zaru.fault import Fault
 from zaru.names import Names, plain_names
-from zaru.show import show
+from zaru.show import NONE, show
 from zaru.table import CONCURRENT, SEQUENTIAL, decode, encode
 from zaru.tokens import AsmError, Token, small, tokens_of
 
@@ -35,9 +35,9 @@ def table_of(text: str) -> Tuple[bytes, Names]:
     return table, names
 
 
-def text_of(table: bytes, names: Names, prices: Sequence[str] = ()) -> str:
-    """The text of a table, with these names, and with the prices of its labels if they are given."""
-    return shown(table, names, prices).text
+def text_of(table: bytes, names: Names, prices: Sequence[str] = (), notes: Mapping[int, str] = NONE) -> str:
+    """The text of a table, with these names, and with the prices of its labels and notes on its locations if they are given."""
+    return shown(table, names, prices, notes).text
 
 
 class Shown(NamedTuple):
@@ -45,12 +45,12 @@ class Shown(NamedTuple):
     tokens: List[Token]
 
 
-def shown(table: bytes, names: Names, prices: Sequence[str] = ()) -> Shown:
+def shown(table: bytes, names: Names, prices: Sequence[str] = (), notes: Mapping[int, str] = NONE) -> Shown:
     """The text of a table that was accepted, or written for a text. It is read back to the same bytes and names."""
     program = decode(table)
     if counts_of(names) != counts_of(plain_names(program)):
         raise Fault("a fault of zaru: it has more or fewer names than the table has things")
-    text = show(program, names, prices)
+    text = show(program, names, prices, notes)
     try:
         tokens = tokens_of(text)
         again, found = parsed(tokens)

@@ -62,7 +62,7 @@ class Teller:
     def why(self, course: Course) -> Why:
         """Where and why a blocked run stopped."""
         answers = course.answers
-        return why_at(self.program, answers.copy, course.schedule, answers.run, blocked_label(course))
+        return why_at(self.program, answers.copy, course.schedule, answers.run, blocked_label(course), answers.mode)
 
     def not_done(self, course: Course) -> str:
         """The instruction at which a run blocked; nothing if the thread was finished."""

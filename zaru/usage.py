@@ -37,6 +37,7 @@ ROUNDS = word("rounds", help="how many rounds an order has")
 STEPS = word("steps", help="the most steps of a thread in a round")
 WRITTEN = "the file to write; - is standard output"
 DRAWN = "a file for the picture of what was found, as `zaru picture` draws it"
+SHARE = flag("--share", "a copy in which locals share locations (`zaru help translate`)")
 JSON = flag("--json", "print the answer as one JSON object (docs/JSON.md)")
 
 
@@ -69,15 +70,20 @@ Asks the proved reader whether it accepts a concurrent (c) or sequential (s) tab
         (KIND, TABLE, JSON),
     ),
     "translate": Command(
-        "zaru translate TABLE -o COPY",
+        "zaru translate TABLE -o COPY [--share]",
         commands.translate,
         """
 Writes the sequential copy of a concurrent table to the file COPY: its bytes or, if the name ends in .zaru, its text.
+
+The copy keeps each local in a location of its own, with a cell for each thread. With --share the locals of procedures that are
+never active together in a thread share locations: a procedure's locals begin behind those of its callers, and at the first
+place of the row if nobody calls it. No fixed placement takes fewer. The steps of a run and their prices stay the same. In
+a text such a location has the names of the locals that share it (first_x__second_y), and all of them as a comment.
 """,
-        (TABLE, output("COPY", WRITTEN)),
+        (TABLE, output("COPY", WRITTEN), SHARE),
     ),
     "run": Command(
-        "zaru run TABLE ORDER.. [--order FILE] [--events] [--json]",
+        "zaru run TABLE ORDER.. [--order FILE] [--events] [--share] [--json]",
         commands.run,
         """
 Runs a concurrent table and its copy in this order of its threads.
@@ -90,10 +96,10 @@ which says in words where it stopped and why. Then come the final cells.
 With --events the shared reads and writes are listed, in the order of the steps: the thread, the label of the step that made
 it (in an atomic block, the block's), and what was read or written where. At most 4,096 are listed.
 """,
-        (TABLE, ORDER, ORDER_FILE, flag("--events", "list the shared reads and writes"), JSON),
+        (TABLE, ORDER, ORDER_FILE, flag("--events", "list the shared reads and writes"), SHARE, JSON),
     ),
     "trace": Command(
-        "zaru trace TABLE ORDER.. [--order FILE] [--plain] [--json]",
+        "zaru trace TABLE ORDER.. [--order FILE] [--plain] [--share] [--json]",
         commands.traced,
         f"""
 Prints a line for each step of a run: its thread, its label, the instruction, what it set, where a test or call led, and
@@ -106,10 +112,10 @@ and then the thread's frames, the one that runs first. A frame is a procedure, i
 the rows of instructions still to do, the innermost first; `..` stands for what is inside an instruction.
 An order has at most {LONGEST_ORDER} entries here.
 """,
-        (TABLE, ORDER, ORDER_FILE, flag("--plain", "the report's machine: rules, frames and rows"), JSON),
+        (TABLE, ORDER, ORDER_FILE, flag("--plain", "the report's machine: rules, frames and rows"), SHARE, JSON),
     ),
     "cost": Command(
-        "zaru cost TABLE ORDER.. [--order FILE]",
+        "zaru cost TABLE ORDER.. [--order FILE] [--share]",
         commands.costs,
         f"""
 Prints what a run costs the sequential copy: its steps up to its first loop head, and up to the one behind each step of
@@ -119,10 +125,10 @@ Of each step it prints the price that is listed for its label, and the one that 
 block with an if, whose price depends on the branch: there the least and the most are listed.
 An order has at most {LONGEST_ORDER} entries here.
 """,
-        (TABLE, ORDER, ORDER_FILE),
+        (TABLE, ORDER, ORDER_FILE, SHARE),
     ),
     "picture": Command(
-        "zaru picture TABLE ORDER.. [--order FILE] -o FILE.svg|FILE.html",
+        "zaru picture TABLE ORDER.. [--order FILE] -o FILE.svg|FILE.html [--share]",
         commands.pictured,
         f"""
 Draws a run: a column for each thread and for each shared cell that is touched, a row for each step, an arrow from cell to
@@ -134,7 +140,7 @@ thread wrote is lost if both wrote to that cell. So is the step that blocked, wi
 An order has at most {LONGEST_ORDER} entries here. Of a run of over {MOST_STEPS} steps the beginning, the end and what is
 marked are drawn.
 """,
-        (TABLE, ORDER, ORDER_FILE, output("FILE", "the file to write")),
+        (TABLE, ORDER, ORDER_FILE, output("FILE", "the file to write"), SHARE),
     ),
     "bench": Command(
         "zaru bench TABLE ROUNDS STEPS [-o FILE.svg|FILE.html] [--json]",
@@ -226,7 +232,7 @@ program may have `select chosen from waiting`, with two locations. docs/TEXT.md 
         (word("text", help="a file of text; - is standard input"), output("TABLE", WRITTEN)),
     ),
     "c": Command(
-        "zaru c TABLE -o TEXT.c",
+        "zaru c TABLE -o TEXT.c [--share]",
         commands.to_c,
         """
 Writes a sequential table as C11 text; of a concurrent table its copy. docs/C-TEXT.md has the rules of the text, byte by byte.
@@ -240,7 +246,7 @@ functions that are not in it. share/run.c has them for a run in a given order:
 share/eva.c has them for a value analysis that looks at all orders at once (docs/RANGE-TOOL.md). After `make install` both
 files are in PREFIX/share/zaru.
 """,
-        (TABLE, output("TEXT.c", WRITTEN)),
+        (TABLE, output("TEXT.c", WRITTEN), SHARE),
     ),
     "from-c": Command(
         "zaru from-c TEXT.c -o TABLE",
@@ -278,7 +284,7 @@ OVERVIEW = f"""\
 zaru: concurrent programs, their sequential copies, and what both do in a given order
 
   zaru read c|s TABLE               is the table accepted? its counts
-  zaru translate TABLE -o COPY      writes its sequential copy
+  zaru translate TABLE -o COPY      writes its sequential copy; --share: locals share locations
   zaru run TABLE ORDER..            runs program and copy in this order of threads; --events
   zaru trace TABLE ORDER..          the same, a line for each step; --plain: rules, frames and rows
   zaru cost TABLE ORDER..           the copy's steps, a line for each step of the program
@@ -294,6 +300,7 @@ zaru: concurrent programs, their sequential copies, and what both do in a given 
 
 A table is a file of bytes, or of text if its name ends in {TEXT_ENDING}; - is standard input, and -o - standard output.
 An order is `0 0 0 1` or `0*3 1`, or is read from a file: --order FILE. read, run, trace and bench have --json.
+What makes a copy (translate, run, trace, cost, picture, c) has --share.
 Every answer comes from the proved program; what zaru makes of text is not proved, but checked (zaru/README.md).
 Exit status: 0 done, 1 refused, 2 wrong use, 3 no proved program or an old one, 4 a fault of zaru.
 """

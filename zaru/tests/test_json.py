@@ -45,9 +45,16 @@ class WithEngine(Command):
         found = self.got("run", "b.zaru", *"00110101")
         events = found.pop("events")
         expected = {"end": "finished", "steps": 8, "copy_steps": 198, "unused": 0, "reason": 0, "blocked": None}
-        self.assertEqual(found, {**expected, "cells": {"cell": [1]}, "event_count": 4})
+        self.assertEqual(found, {**expected, "mode": "own", "cells": {"cell": [1]}, "event_count": 4})
         self.assertEqual((len(events), events[0]), (4, READ))
         self.assertEqual(events[3], {**READ, "thread": 1, "label": 3, "does": "write", "value": 1})
+
+    def test_modes(self) -> None:
+        """Nothing but the mode tells the copies apart."""
+        for command in ("run", "trace"):
+            own, shared = self.got(command, "b.zaru", *"0011"), self.got(command, "b.zaru", *"0011", "--share")
+            self.assertEqual((own.pop("mode"), shared.pop("mode")), ("own", "shared"))
+            self.assertEqual(own, shared)
 
     def test_blocked_runs(self) -> None:
         finished = {"thread": 0, "label": None, "reason": 4, "words": "finished thread chosen", "assertion": None}
@@ -67,7 +74,7 @@ class WithEngine(Command):
     def test_trace(self) -> None:
         found = self.got("trace", "b.zaru", *"00")
         steps = found.pop("steps")
-        self.assertEqual(found, {"end": "used", "unused": 0, "reason": 0, "blocked": None})
+        self.assertEqual(found, {"end": "used", "unused": 0, "reason": 0, "blocked": None, "mode": "own"})
         first = {"step": 1, "thread": 0, "label": 1, "next_label": 2, "instruction": "p := cell"}
         self.assertEqual(steps[0], {**first, "set": {"p": {"location": "cell"}}, "event_count": 0, "events": []})
         second = {"step": 2, "thread": 0, "label": 2, "next_label": 3, "instruction": "v := p[0]", "set": {"v": 0}}

@@ -12,6 +12,7 @@ from zaru.asm import assemble
 from zaru.fault import Fault
 from zaru.labels import Spot, first_labels, spots
 from zaru.names import Names, plain_names
+from zaru.placement import Mode
 from zaru.state import State, label_of, state_of
 from zaru.stored import accepted_tables
 from zaru.steps import answers_of
@@ -200,8 +201,8 @@ class WrongLabels(unittest.TestCase):
     def test_locals_in_the_wrong_place(self) -> None:
         """The copy keeps the locals one location further on than is thought."""
 
-        def shifted(program: t.Program, cells: bytes) -> State:
-            state = state_of(program, cells)
+        def shifted(program: t.Program, cells: bytes, mode: Mode) -> State:
+            state = state_of(program, cells, mode)
             return replace(state, local_values=tuple(rows[1:] + rows[:1] for rows in state.local_values))
 
         self.check("zaru.steps.state_of", shifted, "after 3 steps the next step has events that do not fit label 4")
@@ -209,8 +210,8 @@ class WrongLabels(unittest.TestCase):
     def test_labels_in_the_wrong_place(self) -> None:
         """The location behind `pct` is taken for it."""
 
-        def moved(program: t.Program, cells: bytes) -> State:
-            return state_of(replace(program, sizes=(*program.sizes, 1)), cells + bytes(5))
+        def moved(program: t.Program, cells: bytes, mode: Mode) -> State:
+            return state_of(replace(program, sizes=(*program.sizes, 1)), cells + bytes(5), mode)
 
         message = "after 0 steps thread 0 is at label 1 by the text and at 0 by the copy's memory"
         self.check("zaru.steps.state_of", moved, message)
