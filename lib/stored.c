@@ -111,7 +111,7 @@ static void *work(void *unused)
         zaru_read_sequential(job.table, job.table_length, job.answer, ZARU_READ_NUMBERS);
         break;
     case 3:
-        zaru_translate(job.table, job.table_length, job.out, job.out_length, job.answer, ZARU_TRANSLATE_NUMBERS);
+        zaru_translate(job.table, job.table_length, job.h, job.out, job.out_length, job.answer, ZARU_TRANSLATE_NUMBERS);
         break;
     case 4:
         zaru_run_concurrent(job.table, job.table_length, job.schedule, job.schedule_length, job.cells, job.cells_length,

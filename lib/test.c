@@ -1,5 +1,5 @@
-/* The C calls on programs A and B of the paper, on one that blocks in few orders, and on one whose atomic block has two prices: what they
- * answer, and which bytes they leave alone. */
+/* The C calls on programs A and B of the paper, on one whose procedures may share cells, on one that blocks in few orders, and on one whose
+ * atomic block has two prices: what they answer, and which bytes they leave alone. */
 #include "zaru.h"
 #include <stdio.h>
 #include <string.h>
@@ -26,6 +26,12 @@ static const uint8_t D[] = {
 /* E: x := 1; atomic if x < 1 then x := x end end. */
 static const uint8_t E[] = {0x20, 0, 0x01, 1, 0, 0, 0, 0x26, 0x24, 0x13, 0x05, 0, 0x01, 1, 0, 0, 0, 0x20, 0, 0x05, 0, 0x00, 0x00, 0x00, 0x00,
                             0, 1, 0, 0, 0, 0, 0, 0, 0x43, 0x50, 1, 0, 0, 0, 1, 0, 8, 0, 0, 0, 49, 0, 0, 0};
+
+/* C: x0 := 5; call 1(x0); call 2(). 1: x1 := x0 + 1. 2: x0 := true. */
+static const uint8_t C[] = {0x20, 0, 0x01, 5, 0, 0, 0, 0x25, 1, 0, 1, 0x05, 0, 0x25, 2, 0, 0, 0x00,
+                            0x20, 1, 0x10, 0x05, 0, 0x01, 1, 0, 0, 0, 0x00, 0x20, 0, 0x04, 0x00,
+                            0, 1, 0, 0, 0, 0, 1, 2, 18, 0, 0, 0, 0, 1, 29, 0, 0, 0, 0, 0,
+                            0x43, 0x50, 3, 0, 0, 0, 1, 0, 20, 0, 0, 0, 69, 0, 0, 0};
 
 static int failures = 0;
 
@@ -71,13 +77,13 @@ static size_t translations(void)
 {
     uint64_t answer[ZARU_TRANSLATE_NUMBERS];
     memset(copy, 0xEE, sizeof copy);
-    zaru_translate(B, sizeof B, copy, 418, answer, ZARU_TRANSLATE_NUMBERS);
+    zaru_translate(B, sizeof B, ZARU_OWN_LOCALS, copy, 418, answer, ZARU_TRANSLATE_NUMBERS);
     expect("418 bytes are too few", answer[0], 10);
     untouched("refused translation", copy, 0, sizeof copy);
-    zaru_translate(A, sizeof A, copy, sizeof copy, answer, ZARU_TRANSLATE_NUMBERS);
+    zaru_translate(A, sizeof A, ZARU_OWN_LOCALS, copy, sizeof copy, answer, ZARU_TRANSLATE_NUMBERS);
     expect("length of A's copy", answer[1], 173);
     untouched("after A's copy", copy, 173, sizeof copy);
-    zaru_translate(B, sizeof B, copy, sizeof copy, answer, ZARU_TRANSLATE_NUMBERS);
+    zaru_translate(B, sizeof B, ZARU_OWN_LOCALS, copy, sizeof copy, answer, ZARU_TRANSLATE_NUMBERS);
     expect("translation of B", answer[0], 0);
     expect("length of B's copy", answer[1], 419);
     return (size_t)answer[1];
@@ -131,6 +137,33 @@ static void runs(size_t length)
     expect("a refusal has no reason", answer[5], ZARU_REASON_NONE);
     zaru_run_concurrent(B, sizeof B, LOST, sizeof LOST, cells, 4, events, sizeof events, answer, ZARU_RUN_NUMBERS);
     expect("four bytes for a cell", answer[0], 12);
+}
+
+/* C in both modes: 565 bytes and 563, 205 steps each. The last two procedures share a location in the second. */
+static void modes(void)
+{
+    const uint8_t order[8] = {0};
+    const uint64_t lengths[] = {565, 563, 563, 563}, locations[] = {9, 8, 8, 8}, numbers[] = {ZARU_OWN_LOCALS, ZARU_SHARED_LOCALS, 2, 255};
+    uint8_t cells[45], other[2];
+    for (int i = 0; i < 4; i += 1) {
+        uint64_t answer[ZARU_RUN_NUMBERS];
+        memset(copy, 0xEE, sizeof copy);
+        zaru_translate(C, sizeof C, numbers[i], copy, lengths[i] - 1, answer, ZARU_TRANSLATE_NUMBERS);
+        expect("too few by the mode's length", answer[0], 10);
+        untouched("refused translation in a mode", copy, 0, sizeof copy);
+        zaru_translate(C, sizeof C, numbers[i], copy, lengths[i], answer, ZARU_TRANSLATE_NUMBERS);
+        expect("exactly enough by the mode's length", answer[0], 0);
+        expect("length of C's copy", answer[1], lengths[i]);
+        untouched("after C's copy", copy, lengths[i], sizeof copy);
+        zaru_read_sequential(copy, lengths[i], answer, ZARU_READ_NUMBERS);
+        expect("C's copy is read", answer[0], 0);
+        expect("its locations", answer[2], locations[i]);
+        zaru_run_sequential(copy, lengths[i], order, sizeof order, ZARU_BUDGET, 0, cells, sizeof cells, other, 0, answer,
+                            ZARU_RUN_NUMBERS);
+        expect("C's copy is finished", answer[1], ZARU_FINISHED);
+        expect("its steps in each mode", answer[2], 205);
+        expect("its entries are used", answer[3], 0);
+    }
 }
 
 /* The order that a find is: each thread, in rising order, as often as its counts say. */
@@ -262,7 +295,7 @@ static void texts(void)
 {
     uint64_t answer[ZARU_TEXT_NUMBERS];
     uint8_t back[200];
-    zaru_translate(A, sizeof A, copy, sizeof copy, answer, ZARU_TRANSLATE_NUMBERS);
+    zaru_translate(A, sizeof A, ZARU_OWN_LOCALS, copy, sizeof copy, answer, ZARU_TRANSLATE_NUMBERS);
     size_t length = (size_t)answer[1];
     memset(text, 0xEE, sizeof text);
     zaru_c_text(copy, length, text, 6238, answer, ZARU_TEXT_NUMBERS);
@@ -290,6 +323,7 @@ int main(void)
 {
     reads();
     runs(translations());
+    modes();
     plain_run();
     benches();
     prices();

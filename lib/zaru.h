@@ -36,6 +36,11 @@ enum { ZARU_READ_NUMBERS = 6, ZARU_TRANSLATE_NUMBERS = 2, ZARU_TEXT_NUMBERS = 2,
 /* The places of the bench's counts in its answer, and the most allotments that it tries. */
 enum { ZARU_BENCH_FIRST_COUNT = 3, ZARU_BENCH_COUNTS = 19, ZARU_MOST_ALLOTMENTS = 1000000 };
 
+/* The modes of the translator. In the first each local of each procedure has a location of its own in the copy. In the second a procedure's
+ * locals begin behind the last of its callers' locals, or at the first place without callers, and procedures that are placed together share
+ * locations: no fixed placement that keeps apart what is on one call path takes fewer. Runs have the same steps, reads, writes and ends. */
+enum { ZARU_OWN_LOCALS = 0, ZARU_SHARED_LOCALS = 1 };
+
 /* The kinds of tables for the mender; the bytes of a change in its list, and those of the longest list. */
 enum { ZARU_CONCURRENT = 0, ZARU_SEQUENTIAL = 1, ZARU_CHANGE = 6, ZARU_LONGEST_LIST = 96 };
 
@@ -64,8 +69,10 @@ enum { ZARU_CONCURRENT = 0, ZARU_SEQUENTIAL = 1, ZARU_CHANGE = 6, ZARU_LONGEST_L
 void zaru_read_concurrent(const uint8_t *table, size_t table_length, uint64_t *answer, size_t answer_length);
 void zaru_read_sequential(const uint8_t *table, size_t table_length, uint64_t *answer, size_t answer_length);
 
-/* answer: number, length of the sequential table that was written to `out`. */
-void zaru_translate(const uint8_t *table, size_t table_length, uint8_t *out, size_t out_length, uint64_t *answer,
+/* answer: number, length of the sequential table that was written to `out`. Refused by 1 to 8 as the reader, then by 9: that table would
+ * pass 65,536 bytes, then by 10: `out` is too short for it. Both go by the length in the mode wanted.
+ * mode: ZARU_OWN_LOCALS, or ZARU_SHARED_LOCALS (as every other number). */
+void zaru_translate(const uint8_t *table, size_t table_length, uint64_t mode, uint8_t *out, size_t out_length, uint64_t *answer,
                     size_t answer_length);
 
 /* A sequential table as C11 text (docs/C-TEXT.md), and back: text and table are one to one.
