@@ -14,6 +14,7 @@ from zaru import table as t
 from zaru.blocked import BUDGET
 from zaru.engine import Request, Run
 from zaru.files import source_of
+from zaru.placement import Mode
 from zaru.stored import accepted_tables
 
 EXAMPLES = sorted((samples.ROOT / "examples").glob("*.zaru"))
@@ -70,14 +71,16 @@ class Compiled(unittest.TestCase):
 
     def test_examples(self) -> None:
         """The copies, with the program's own reads and writes."""
-        self.assertEqual(len(EXAMPLES), 8)
+        self.assertEqual(len(EXAMPLES), 9)
         for example in EXAMPLES:
             table = source_of(str(example)).table
             program = t.decode(table)
             threads = len(program.mains)
             orders = [bytes(entry % threads for entry in order) for order in ORDERS if 9 not in order] + [bytes([0, 9])]
             orders.append(bytes(itertools.chain.from_iterable([thread] * 20 for thread in range(threads))))
-            self.check(engine.translate(table), orders, BUDGET, len(program.sizes))
+            # In both modes, where they differ.
+            for copy in {engine.translate(table, mode) for mode in Mode}:
+                self.check(copy, orders, BUDGET, len(program.sizes))
         self.assertEqual(set(self.ends), {"finished 0", "used 0", "blocked 1", "blocked 3", "blocked 4"}, self.ends)
 
     def test_an_order_that_blocks_by_an_assertion(self) -> None:
