@@ -11,6 +11,9 @@ use crate::{
     c_reader, c_text, concurrent, labels, mend, plain, price, sequential, translate, write,
 };
 
+/// "Sequential: over 65,536 bytes"
+const LONGEST_COPY: usize = 65_536;
+
 /// "An accepted read answers 0 with P, M, T, the number of labels (sequential: 0) and of cells."
 #[derive(Clone, Copy, PartialEq, Eq, Debug, Default)]
 pub struct ReadAnswer {
@@ -101,6 +104,18 @@ pub fn translate(table: &[u8], mode: Mode, out: &mut [u8]) -> WriteAnswer {
     write_answer(copy_table(table, mode).and_then(|copy| put(&copy, out)))
 }
 
+/// The copy's bytes, by the call with a buffer that is long enough for every copy; or the number of
+/// refusal.
+pub fn copy_in(mode: Mode, table: &[u8]) -> Result<Vec<u8>, u8> {
+    let mut out = vec![0; LONGEST_COPY];
+    let answer = translate(table, mode, &mut out);
+    out.truncate(answer.length as usize);
+    match answer.number {
+        0 => Ok(out),
+        number => Err(number),
+    }
+}
+
 fn write_answer(written: Result<u64, u8>) -> WriteAnswer {
     match written {
         Ok(length) => WriteAnswer { number: 0, length },
@@ -113,7 +128,7 @@ fn write_answer(written: Result<u64, u8>) -> WriteAnswer {
 fn copy_table(table: &[u8], mode: Mode) -> Result<Vec<u8>, u8> {
     let program = verdict(table, Kind::Concurrent)?;
     let copy = write::table(&translate::translate(&program, mode), Kind::Sequential);
-    if copy.len() > 65_536 {
+    if copy.len() > LONGEST_COPY {
         return Err(9);
     }
     Ok(copy)

@@ -1,7 +1,7 @@
 //! Runs with the label of each of their events, worked by hand.
 
 use crate::builder::*;
-use crate::calls::translate;
+use crate::calls::copy_in;
 use crate::placement::Mode;
 use crate::program::{Block, Kind, Program};
 use crate::samples::{b, one_thread, sequential, A};
@@ -92,13 +92,10 @@ fn equal_reads() -> Program {
 
 /// A copy with all its locations told: what it writes for itself is an event too.
 fn copy(name: &'static str, source: &[u8], h: u32, schedule: &[u8], labels: &[u16]) -> Traced {
-    let mut out = vec![0; 65_536];
-    let length = translate(source, Mode::Own, &mut out).length as usize;
-    out.truncate(length);
     Traced {
         name,
         kind: Kind::Sequential,
-        table: out,
+        table: copy_in(Mode::Own, source).expect("an accepted table"),
         schedule: schedule.to_vec(),
         h,
         labels: labels.to_vec(),

@@ -1,7 +1,7 @@
 //! The run program: what it prints for its standard input.
 
 use crate::calls::{
-    read_concurrent, read_sequential, run_concurrent, run_sequential, translate, RunAnswer,
+    copy_in, read_concurrent, read_sequential, run_concurrent, run_sequential, RunAnswer,
 };
 use crate::placement::Mode;
 
@@ -10,6 +10,12 @@ pub const BUDGET: u64 = 140_000_000;
 
 /// The most bytes that an input can need: a length, 4,096 entries and 16,384 bytes of table.
 const LONGEST_INPUT: usize = 20_482;
+
+/// The run program's input: "a schedule length (2 bytes), the schedule, a concurrent table".
+pub fn input(schedule: &[u8], table: &[u8]) -> Vec<u8> {
+    let length = (schedule.len() as u16).to_le_bytes();
+    [&length, schedule, table].concat()
+}
 
 /// The line that the run program prints, without its newline.
 pub fn line(input: &[u8]) -> String {
@@ -39,7 +45,7 @@ fn answers(input: &[u8]) -> Result<(RunAnswer, RunAnswer), u8> {
     let (schedule, table) = split(input);
     let read = read_concurrent(table);
     accepted(read.number)?;
-    let copy = copy_of(table)?;
+    let copy = copy_in(Mode::Own, table)?;
     let program_run = run_concurrent(table, schedule, &mut cell_buffer(read.cells), &mut []);
     accepted(program_run.number)?;
     let copy_cells = read_sequential(&copy).cells;
@@ -77,15 +83,7 @@ fn accepted(number: u8) -> Result<(), u8> {
     }
 }
 
-/// "It lends buffers that are large enough". The copy is the old mode's.
-fn copy_of(table: &[u8]) -> Result<Vec<u8>, u8> {
-    let mut out = vec![0; 65_536];
-    let answer = translate(table, Mode::Own, &mut out);
-    accepted(answer.number)?;
-    out.truncate(answer.length as usize);
-    Ok(out)
-}
-
+/// "It lends buffers that are large enough".
 fn cell_buffer(cells: u64) -> Vec<u8> {
     vec![0; 5 * cells as usize]
 }

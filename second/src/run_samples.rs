@@ -1,7 +1,7 @@
 //! Runs written by hand, each with the answer that the paper gives for it.
 
 use crate::builder::*;
-use crate::calls::{translate, RunAnswer};
+use crate::calls::{copy_in, RunAnswer};
 use crate::machine::End;
 use crate::placement::Mode;
 use crate::program::{Block, Kind, Program};
@@ -528,13 +528,10 @@ fn judged_in_order() -> Vec<Ran> {
 
 /// The copy of a program, under a schedule and with h = M.
 fn copy(name: &'static str, source: &[u8], h: u32, schedule: &[u8]) -> Ran {
-    let mut out = vec![0; 65_536];
-    let answer = translate(source, Mode::Own, &mut out);
-    out.truncate(answer.length as usize);
     Ran {
         name,
         kind: Kind::Sequential,
-        table: out,
+        table: copy_in(Mode::Own, source).expect("an accepted table"),
         schedule: schedule.to_vec(),
         budget: 140_000_000,
         h,

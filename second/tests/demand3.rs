@@ -222,19 +222,10 @@ fn check_locals(program: &Program, mode: Mode, copy: &Program, schedule: &[u8], 
     }
 }
 
-/// The copy's table in a mode.
-fn copy_in(table: &[u8], mode: Mode) -> Vec<u8> {
-    let mut out = vec![0; 65_536];
-    let answer = translate(table, mode, &mut out);
-    assert_eq!(answer.number, 0);
-    out.truncate(answer.length as usize);
-    out
-}
-
 /// The program and its copy in both modes; the second is not run where it is the same.
 fn check(program: &Program, schedule: &[u8]) -> End {
     let table = write::table(program, Kind::Concurrent);
-    let (own, shared) = (copy_in(&table, Mode::Own), copy_in(&table, Mode::Shared));
+    let [own, shared] = MODES.map(|mode| copy_in(mode, &table).unwrap());
     if own != shared {
         check_copy(program, &table, Mode::Shared, &shared, schedule);
     }

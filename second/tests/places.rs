@@ -25,20 +25,16 @@ const C: [u8; 69] = [
     0x43, 0x50, 3, 0, 0, 0, 1, 0, 20, 0, 0, 0, 69, 0, 0, 0,
 ];
 
-fn copy_in(mode: Mode, table: &[u8]) -> Vec<u8> {
-    let mut out = vec![0; 65_536];
-    let answer = translate(table, mode, &mut out);
-    assert_eq!(answer.number, 0);
-    out.truncate(answer.length as usize);
-    out
+fn copy_of(mode: Mode, table: &[u8]) -> Vec<u8> {
+    copy_in(mode, table).unwrap()
 }
 
 #[test]
 fn c_in_both_modes() {
     assert_eq!(table(&c()), C);
-    let own = copy_in(Mode::Own, &C);
+    let own = copy_of(Mode::Own, &C);
     assert_eq!((own.len(), fnv(&own)), (565, 0x8b38_9fad_9a43_19b6));
-    let shared = copy_in(Mode::Shared, &C);
+    let shared = copy_of(Mode::Shared, &C);
     assert_eq!((shared.len(), fnv(&shared)), (563, 0x3409_a3c0_8443_e6d8));
 }
 
@@ -48,7 +44,7 @@ fn runs_of_c_in_both_modes() {
     let run = run_concurrent(&C, &[0; 8], &mut [], &mut []);
     assert_eq!((run.end, run.steps, run.unused, run.events), (0, 8, 0, 0));
     for mode in MODES {
-        let copy = copy_in(mode, &C);
+        let copy = copy_of(mode, &C);
         let mut cells = vec![0; 5 * read_sequential(&copy).cells as usize];
         let run = run_sequential(&copy, &[0; 8], BUDGET, 0, &mut cells, &mut []);
         let told = (run.number, run.end, run.steps, run.unused, run.events);
@@ -87,7 +83,7 @@ fn rows_of_samples() {
             sample.name
         );
         for (mode, row) in [(Mode::Own, &sample.own), (Mode::Shared, &sample.shared)] {
-            let copy = read_sequential(&copy_in(mode, &table));
+            let copy = read_sequential(&copy_of(mode, &table));
             let before = (sample.program.procedures.len() + 2) as u64;
             let threads = sample.program.mains.len() as u64;
             assert_eq!(
@@ -110,7 +106,7 @@ fn rows_of_samples() {
 #[test]
 fn sixteen_helpers() {
     let table = table(&helpers());
-    let [own, shared] = MODES.map(|mode| read_sequential(&copy_in(mode, &table)));
+    let [own, shared] = MODES.map(|mode| read_sequential(&copy_of(mode, &table)));
     assert_eq!((own.locations, own.cells), (18 + 136, 35 + 2 * 136));
     assert_eq!((shared.locations, shared.cells), (18 + 17, 35 + 2 * 17));
 }
@@ -130,7 +126,7 @@ fn number_9_by_the_mode() {
     let shorter = edge_of_9_in_the_old_mode();
     assert_eq!(lengths(&shorter), [(0, 65_536), (0, 65_534)]);
     // What the old mode refuses is written by the other, and can be run.
-    let copy = copy_in(Mode::Shared, &table(&edge_of_9(0)));
+    let copy = copy_of(Mode::Shared, &table(&edge_of_9(0)));
     assert_eq!(read_sequential(&copy).number, 0);
 }
 
@@ -217,7 +213,7 @@ fn random_programs_in_both_modes() {
         let [own, shared] = MODES.map(|mode| row(&program, mode));
         assert!(is_apart(&program, &own) && is_apart(&program, &shared));
         assert!(shared.length <= own.length);
-        let [own_copy, shared_copy] = MODES.map(|mode| copy_in(mode, &table));
+        let [own_copy, shared_copy] = MODES.map(|mode| copy_of(mode, &table));
         let saved = usize::from(own.length - shared.length);
         assert_eq!(own_copy.len(), shared_copy.len() + 2 * saved);
         // Nothing else tells them apart: the same code, with other locations.

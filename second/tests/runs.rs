@@ -2,7 +2,7 @@
 
 use second::builder::*;
 use second::calls::*;
-use second::line::line;
+use second::line::{input, line};
 use second::program::Kind;
 use second::run_samples::{ran, Ran};
 use second::samples::{b, number_9, one_thread, sequential, table_of_length, A};
@@ -162,13 +162,6 @@ fn high_bytes_of_events() {
 }
 
 // ---- the run program ----
-
-fn input(schedule: &[u8], table: &[u8]) -> Vec<u8> {
-    let mut bytes = (schedule.len() as u16).to_le_bytes().to_vec();
-    bytes.extend(schedule);
-    bytes.extend(table);
-    bytes
-}
 
 /// "If the input ends before the schedule does, the table is empty"
 #[test]

@@ -3,7 +3,7 @@
 use second::builder::*;
 use second::calls::*;
 use second::expression::Expression;
-use second::line::{line, BUDGET};
+use second::line::{input, line, BUDGET};
 use second::machine::End;
 use second::placement::Mode;
 use second::program::{Block, Instruction, Kind, Program};
@@ -16,11 +16,7 @@ const FINISHED: End = End::Finished;
 const USED: End = End::Used;
 
 fn translation(table: &[u8]) -> Vec<u8> {
-    let mut out = vec![0; 65_536];
-    let answer = translate(table, Mode::Own, &mut out);
-    assert_eq!(answer.number, 0);
-    out.truncate(answer.length as usize);
-    out
+    copy_in(Mode::Own, table).unwrap()
 }
 
 fn run_copy(table: &[u8], schedule: &[u8]) -> RunAnswer {
@@ -46,13 +42,6 @@ fn answer(end: End, steps: u64, unused: u64, events: u64) -> RunAnswer {
         events,
         reason: end.reason(),
     }
-}
-
-fn input(schedule: &[u8], table: &[u8]) -> Vec<u8> {
-    let mut bytes = (schedule.len() as u16).to_le_bytes().to_vec();
-    bytes.extend(schedule);
-    bytes.extend(table);
-    bytes
 }
 
 #[test]

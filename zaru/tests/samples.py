@@ -40,6 +40,13 @@ thread work
 thread work
 """
 
+
+def body(*lines: str, threads: int = 1) -> str:
+    """The text of a program with this procedure, in so many threads."""
+    head = ["concurrent", "location m[2]", "procedure w()", "locals p, v"]
+    return "\n".join([*head, *lines, "end", *["thread w"] * threads]) + "\n"
+
+
 MISSING = not engine.engine_path().is_file()
 if MISSING:
     reason = f"{engine.engine_path()} is missing; `make zaru` builds it"

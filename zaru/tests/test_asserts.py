@@ -6,6 +6,7 @@ from typing import List
 from unittest import mock
 
 import samples
+from samples import body
 from test_cli import Command, Result
 from zaru import asserts, engine
 from zaru import table as t
@@ -18,11 +19,6 @@ from zaru.text import table_of
 from zaru.tokens import AsmError
 
 EXAMPLE = samples.ROOT / "examples" / "lost_share.zaru"
-
-
-def body(*lines: str, threads: int = 1) -> str:
-    head = ["concurrent", "location m[2]", "procedure w()", "locals p, v"]
-    return "\n".join(head + list(lines) + ["end"] + ["thread w"] * threads) + "\n"
 
 
 class Text(unittest.TestCase):

@@ -44,19 +44,11 @@ class WithoutEngine(Command):
 
 @samples.needs_engine
 class WithEngine(Command):
-    def good(self, *words: str, given: bytes = b"") -> str:
-        result = self.zaru(*words, given=given)
-        self.assertEqual((result.status, result.err), (0, ""), result)
-        return result.out
-
     def refused(self, number: int, *words: str, given: bytes = b"") -> None:
         before = self.listed()
         told = "".join(line + "\n" for line in describe(number, words[0]))
         self.assertEqual(self.zaru(*words, "-o", "new", given=given), Result(1, "", told))
         self.assertEqual(self.listed(), before)
-
-    def content(self, name: str) -> bytes:
-        return (self.folder / name).read_bytes()
 
     def test_there_and_back(self) -> None:
         self.good("translate", "b.table", "-o", "b.copy")

@@ -58,6 +58,15 @@ class Command(unittest.TestCase):
         out.flush()
         return Result(status, out.buffer.getvalue().decode("utf-8", "replace"), err.getvalue())
 
+    def good(self, *words: str, given: bytes = b"") -> str:
+        """What a command prints that does what it should."""
+        result = self.zaru(*words, given=given)
+        self.assertEqual((result.status, result.err), (0, ""), result)
+        return result.out
+
+    def content(self, name: str) -> bytes:
+        return (self.folder / name).read_bytes()
+
     def listed(self) -> List[str]:
         return sorted(path.name for path in self.folder.iterdir())
 

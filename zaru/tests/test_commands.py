@@ -18,11 +18,6 @@ LAUNCHER = samples.ROOT / "zaru" / "zaru"
 
 @samples.needs_engine
 class WithEngine(Command):
-    def good(self, *words: str, given: bytes = b"") -> str:
-        result = self.zaru(*words, given=given)
-        self.assertEqual((result.status, result.err), (0, ""), result)
-        return result.out
-
     def refused(self, number: int, *words: str, given: bytes = b"") -> None:
         before = self.listed()
         result = self.zaru(*words, given=given)

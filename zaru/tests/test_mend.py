@@ -71,10 +71,8 @@ class WrongUse(Command):
 
 @samples.needs_engine
 class WithEngine(Command):
-    def good(self, *words: str, given: bytes = b"") -> str:
-        result = self.zaru("mend", *words, given=given)
-        self.assertEqual((result.status, result.err), (0, ""), result)
-        return result.out
+    def mended(self, *words: str, given: bytes = b"") -> str:
+        return self.good("mend", *words, given=given)
 
     def refused(self, number: int, *words: str, given: bytes = b"") -> None:
         before = self.listed()
@@ -82,12 +80,9 @@ class WithEngine(Command):
         self.assertEqual(self.zaru("mend", *words, "-o", "new", given=given), Result(1, "", told))
         self.assertEqual(self.listed(), before)
 
-    def content(self, name: str) -> bytes:
-        return (self.folder / name).read_bytes()
-
     def test_a_lost_trailer(self) -> None:
         self.file("worn", worn(samples.B))
-        lines = self.good("c", "worn", "-o", "new").splitlines()
+        lines = self.mended("c", "worn", "-o", "new").splitlines()
         self.assertEqual(lines[0], "place  old  new  part of the trailer")
         self.assertEqual(lines[1], "   41   ee   43  kind mark, byte 1 of 2")
         self.assertEqual(lines[7], "   47   ee   02  threads, byte 1 of 2")
@@ -99,7 +94,7 @@ class WithEngine(Command):
     def test_two_bytes(self) -> None:
         table = bytearray(samples.A)
         table[9], table[21] = 0x00, 0x99
-        lines = self.good("c", "-", "-o", "new", given=bytes(table)).splitlines()
+        lines = self.mended("c", "-", "-o", "new", given=bytes(table)).splitlines()
         self.assertEqual(lines[1:3], ["    9   00   43  kind mark, byte 1 of 2", "   21   99   19  length, byte 1 of 4"])
         self.assertEqual(lines[3], "new: 25 bytes, 2 of them mended")
         self.assertEqual(self.content("new"), samples.A)
@@ -107,21 +102,21 @@ class WithEngine(Command):
     def test_a_sequential_one(self) -> None:
         self.zaru("translate", "b.table", "-o", "b.copy")
         self.file("worn", worn(self.content("b.copy")))
-        lines = self.good("s", "worn", "-o", "new").splitlines()
+        lines = self.mended("s", "worn", "-o", "new").splitlines()
         self.assertEqual(lines[-2:], ["new: 419 bytes, 16 of them mended", "accepted: procedures 5, locations 6, cells 10"])
         self.assertEqual(self.content("new"), self.content("b.copy"))
 
     def test_nothing_to_mend(self) -> None:
         """In one line; the new file is there all the same."""
-        self.assertEqual(self.good("c", "b.table", "-o", "new"), "new: nothing to mend, 57 bytes as they were\n")
+        self.assertEqual(self.mended("c", "b.table", "-o", "new"), "new: nothing to mend, 57 bytes as they were\n")
         self.assertEqual(self.content("new"), samples.B)
 
     def test_in_place(self) -> None:
         self.file("worn", worn(samples.B))
-        self.assertIn("worn: 57 bytes, 16 of them mended\n", self.good("c", "worn", "--in-place"))
+        self.assertIn("worn: 57 bytes, 16 of them mended\n", self.mended("c", "worn", "--in-place"))
         self.assertEqual(self.content("worn"), samples.B)
         before = (self.folder / "worn").stat()
-        self.assertEqual(self.good("--in-place", "c", "worn"), "worn: nothing to mend, 57 bytes as they were\n")
+        self.assertEqual(self.mended("--in-place", "c", "worn"), "worn: nothing to mend, 57 bytes as they were\n")
         self.assertEqual((self.folder / "worn").stat(), before)
 
     def test_to_standard_output(self) -> None:
@@ -132,8 +127,8 @@ class WithEngine(Command):
     def test_several_choices(self) -> None:
         self.file("worn", worn(SEVERAL))
         self.refused(15, "c", "worn")
-        self.assertIn("nothing to mend", self.good("c", "-", "-o", "new", given=SEVERAL))
-        self.good("c", "-", "-o", "new", given=worn(NAMED))
+        self.assertIn("nothing to mend", self.mended("c", "-", "-o", "new", given=SEVERAL))
+        self.mended("c", "-", "-o", "new", given=worn(NAMED))
         self.assertEqual(self.content("new"), NAMED)
 
     def test_no_choice(self) -> None:

@@ -6,6 +6,7 @@ from typing import Any, Callable, Dict, List
 from unittest import mock
 
 import samples
+from samples import body
 from test_cli import Command, Result
 from zaru import engine, paper, plain
 from zaru import table as t
@@ -18,11 +19,6 @@ from zaru.told import Teller
 from zaru.values import Event
 
 TOLD = "a fault of zaru, nothing of this trace is told: after"
-
-
-def text_of(*lines: str, threads: int = 1) -> str:
-    head = ["concurrent", "location m[2]", "procedure w()", "locals p, v"]
-    return "\n".join([*head, *lines, "end", *["thread w"] * threads]) + "\n"
 
 
 def told(text: str, order: str) -> List[str]:
@@ -44,7 +40,7 @@ class Paper(unittest.TestCase):
     """The machine on paper alone."""
 
     def machine(self, *lines: str) -> paper.Paper:
-        return paper.Paper(assemble(text_of(*lines))[0])
+        return paper.Paper(assemble(body(*lines))[0])
 
     def test_a_row_for_each_block(self) -> None:
         found = self.machine("while true", "if true", "v := 1", "v := 2", "end", "v := 3", "end", "v := 4")
@@ -96,7 +92,7 @@ class Traces(unittest.TestCase):
         self.assertEqual(lines[-2:], ["used: the order ends after 0 steps", "cell[0] = 0"])
 
     def test_a_loop(self) -> None:
-        lines = told(text_of("v := 0", "while v < 1", "v := v + 1", "end", "p := m"), "0000")
+        lines = told(body("v := 0", "while v < 1", "v := v + 1", "end", "p := m"), "0000")
         rows = ["| v := v + 1", "| while v < 1 ..; p := m"]
         self.assertEqual(parts(lines, 2), ["[while : true] while v < 1", "w: v = 0", *rows])
         self.assertEqual(parts(lines, 3), ["[assign] v := v + 1", "w: v = 1", rows[1]])
@@ -115,12 +111,12 @@ class Traces(unittest.TestCase):
 
     def test_an_atomic_block(self) -> None:
         inner = ["v := p[1]", "if v = 0", "p[0] := v + 5", "else", "p[0] := m", "end"]
-        lines = told(text_of("p := m", "atomic", *inner, "end"), "00")
+        lines = told(body("p := m", "atomic", *inner, "end"), "00")
         did = "[atomic] atomic: v := p[1]; if v = 0: p[0] := v + 5 else: p[0] := m end end (read m[1] = 0; write m[0] = 5)"
         self.assertEqual(parts(lines, 2), [did, "w: p = m, v = 0", "| nothing left, it returns"])
 
     def test_a_long_row(self) -> None:
-        lines = told(text_of(*["v := 1000000000 + 2000000"] * 9), "")
+        lines = told(body(*["v := 1000000000 + 2000000"] * 9), "")
         one = "v := 1000000000 + 2000000"
         self.assertEqual(lines[1].strip(), f"| {'; '.join([one] * 3)};")
         self.assertEqual(lines[2][len("start   thread 0  ") :], f"  {'; '.join([one] * 3)};")
@@ -128,12 +124,12 @@ class Traces(unittest.TestCase):
 
     def test_blocked(self) -> None:
         """Without labels."""
-        lines = told(text_of("v := 2147483647", "v := v + 1"), "000")
+        lines = told(body("v := 2147483647", "v := v + 1"), "000")
         why = "blocked after 1 step: thread 0: the sum is outside the number range"
         self.assertEqual(lines[-3:], [why, "2 entries unused; not done: v := v + 1", "m[0..1] = 0 0"])
-        lines = told(text_of(threads=2), "00")
+        lines = told(body(threads=2), "00")
         self.assertEqual(lines[-3:-1], ["blocked after 1 step: thread 0 is finished", "1 entry unused"])
-        lines = told(text_of("v := 1", "assert v = 2"), "000")
+        lines = told(body("v := 1", "assert v = 2"), "000")
         self.assertEqual(parts(lines, 2), ["[if : false] assert v = 2", "w: v = 1", "| if 0 .."])
         why = "blocked after 2 steps: thread 0: the assertion failed"
         self.assertEqual(lines[-3:-1], [why, "1 entry unused; not done: assert v = 2"])
@@ -177,7 +173,7 @@ class Held(Command):
             self.faulty(message, "b.zaru", "0", "0", "0")
 
     def test_values(self) -> None:
-        self.file("v.zaru", text_of("v := 3").encode())
+        self.file("v.zaru", body("v := 3").encode())
         with mock.patch("zaru.paper.evaluate", lambda *_: number_bytes(4)):
             self.faulty("1 steps thread 0 has a local on paper that the copy's memory has otherwise", "v.zaru", "0")
 
@@ -224,7 +220,7 @@ class Held(Command):
         self.other_engine("this order", lambda runs: replace(runs, run=replace(runs.run, event_bytes=first.event_bytes)))
 
     def test_too_many_events(self) -> None:
-        self.file("many.zaru", text_of("p := m", "while true", "atomic", *["v := p[0]"] * 20, "end", "end").encode())
+        self.file("many.zaru", body("p := m", "while true", "atomic", *["v := p[0]"] * 20, "end", "end").encode())
         result = self.zaru("trace", "--plain", "many.zaru", "0*501")
         told = "zaru: a run with 5,000 reads and writes is too long for --plain; the most is 4,096\n"
         self.assertEqual(result, Result(2, "", told))

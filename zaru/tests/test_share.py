@@ -118,14 +118,6 @@ class WithEngine(Command):
         self.file("c.zaru", C_TEXT.encode())
         self.file("edge.zaru", edge(9).encode())
 
-    def good(self, *words: str) -> str:
-        result = self.zaru(*words)
-        self.assertEqual((result.status, result.err), (0, ""), result)
-        return result.out
-
-    def content(self, name: str) -> bytes:
-        return (self.folder / name).read_bytes()
-
     def test_translate(self) -> None:
         told = "c.copy: 563 bytes\nlocals take 3 cells in 3 locations; without --share 4 in 4\n"
         self.assertEqual(self.good("translate", "c.zaru", "-o", "c.copy", "--share"), told)

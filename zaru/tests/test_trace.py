@@ -6,6 +6,7 @@ from typing import Callable, Dict, List
 from unittest import mock
 
 import samples
+from samples import body
 from zaru import engine
 from zaru import table as t
 from zaru.asm import assemble
@@ -23,11 +24,6 @@ from zaru.trace import trace
 def told(text: str, order: str) -> list:
     program, names = assemble(text)
     return trace(program, names, t.encode(program), bytes(int(entry) for entry in order))
-
-
-def body(*lines: str, threads: int = 1) -> str:
-    head = ["concurrent", "location m[2]", "procedure w()", "locals p, v"]
-    return "\n".join(head + list(lines) + ["end"] + ["thread w"] * threads) + "\n"
 
 
 class Labels(unittest.TestCase):

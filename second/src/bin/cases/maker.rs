@@ -1,7 +1,8 @@
 //! Makers of one case, and what they need to know of a table.
 
 use second::batch::*;
-use second::calls::{read_concurrent, read_sequential, translate};
+use second::calls::{copy_in, read_concurrent, read_sequential};
+use second::line::input;
 use second::machine::EVENT;
 use second::placement::Mode;
 use second::program::Kind;
@@ -50,10 +51,7 @@ pub fn run_case(kind: Kind, table: &[u8], schedule: &[u8], cells: u32, events: u
 }
 
 pub fn line_case(schedule: &[u8], table: &[u8]) -> Case {
-    let mut input = (schedule.len() as u16).to_le_bytes().to_vec();
-    input.extend(schedule);
-    input.extend(table);
-    input_case(&input)
+    input_case(&input(schedule, table))
 }
 
 pub fn input_case(input: &[u8]) -> Case {
@@ -127,14 +125,7 @@ pub fn shown(case: Case) -> Case {
 
 /// The copy of an accepted table whose copy is not too long, in the old mode.
 pub fn copy_of(table: &[u8]) -> Option<Vec<u8>> {
-    copy_in(Mode::Own, table)
-}
-
-pub fn copy_in(mode: Mode, table: &[u8]) -> Option<Vec<u8>> {
-    let mut out = vec![0; 65_536];
-    let answer = translate(table, mode, &mut out);
-    out.truncate(answer.length as usize);
-    (answer.number == 0).then_some(out)
+    copy_in(Mode::Own, table).ok()
 }
 
 /// The bytes that the cells of a table need; 100 where it is refused.

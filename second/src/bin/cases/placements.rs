@@ -5,6 +5,7 @@ use crate::random_tables::{about, copy_case};
 use crate::Batch;
 use second::batch::Case;
 use second::builder::table;
+use second::calls::copy_in;
 use second::line::BUDGET;
 use second::place_samples::{c, edge_of_9, edge_of_9_in_the_old_mode, samples};
 use second::placement::Mode;
