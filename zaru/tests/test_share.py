@@ -18,7 +18,7 @@ from zaru.refusals import REFUSALS
 from zaru.steps import course_of
 from zaru.stored import accepted_tables
 from zaru.text import table_of
-from zaru.trace import trace
+from zaru.told import Teller
 
 # Example C: 69 bytes, copies of 565 and 563.
 C_TEXT = """\
@@ -203,24 +203,37 @@ class WithEngine(Command):
             self.assertEqual(self.good("run", HELPERS, order, "--share"), self.good("run", HELPERS, order))
 
     def test_stored_programs(self) -> None:
-        """Random programs: a trace is the same in both modes."""
+        """Random programs: what is told of each step is the same in both modes, but for what an atomic block has changed."""
         tables = [table for kind, table in accepted_tables() if kind == t.CONCURRENT]
-        told = 0
+        steps = 0
         for table in tables[5::40]:
             program = t.decode(table)
-            names = plain_names(program)
+            teller = Teller(program, plain_names(program))
             schedule = bytes(place * 7 // 3 % len(program.mains) for place in range(20))
             try:
-                lines = trace(program, names, table, schedule)
+                own = course_of(program, table, schedule)
             except Refused as refused:
                 self.assertEqual(refused.number, 9)
                 continue
-            course = course_of(program, table, schedule, Mode.SHARED)
-            self.assertEqual(len(course.steps), course.answers.run.steps)
-            with mock.patch("zaru.trace.course_of", lambda *_, course=course: course):
-                self.assertEqual(trace(program, names, table, schedule), lines)
-            told += 1
-        self.assertGreater(told, 20)
+            shared = course_of(program, table, schedule, Mode.SHARED)
+            self.assertEqual((own.labels, own.answers.run), (shared.labels, shared.answers.run))
+            for one, other in zip(own.steps, shared.steps):
+                self.assertEqual((one.label, one.events), (other.label, other.events))
+                if not isinstance(one.spot.instruction, t.Atomic):
+                    self.assertEqual(teller.did(one), teller.did(other))
+                steps += 1
+        self.assertGreater(steps, 100)
+
+    def test_what_an_atomic_block_changed(self) -> None:
+        """Told are locals whose cells changed; a cell that was another procedure's may hold the new value before."""
+        text = "concurrent\nprocedure a()\ncall b()\ncall c()\nend\nprocedure b()\nlocals x\nx := 5\nend\n"
+        text += "procedure c()\nlocals y\natomic\ny := 5\nend\nend\nthread a\n"
+        self.file("atomic.zaru", text.encode())
+        line = "   5       0      6  atomic: y := 5 end"
+        own, shared = self.good("trace", "atomic.zaru", "0*7"), self.good("trace", "atomic.zaru", "0*7", "--share")
+        self.assertIn(f"{line}  y = 5\n", own)
+        self.assertIn(f"{line}\n", shared)
+        self.assertEqual(own.replace("  y = 5\n", "\n"), shared)
 
     def test_locals_in_the_wrong_place(self) -> None:
         """Where the copy is taken for one of the other mode, nothing is told."""
