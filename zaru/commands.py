@@ -10,7 +10,6 @@ from typing import Iterator, List, Tuple
 from zaru import arguments, bench, blocked, c_text, cost, engine, files, mended, objects, picture, plain, ran, trace
 from zaru.accepted import READ_OPS, accepted_program
 from zaru.arguments import UsageError
-from zaru.blocked import plural
 from zaru.copy_names import copy_names, notes_on
 from zaru.engine import Request, Shape
 from zaru.files import TEXT_ENDING, Source, source_of, write_file
@@ -100,11 +99,12 @@ def translate(words: Namespace) -> List[str]:
 def shared_line(source: Source, copy: bytes) -> List[str]:
     """What it comes to that locals share locations."""
     program = accepted(CONCURRENT, source).program
-    own, places = Places(program), Places(program, Mode.SHARED)
-    places.hold(engine.read(engine.READ_SEQUENTIAL, copy))
-    threads = len(program.mains)
-    took = f"{own.row * threads:,} in {own.row:,}"
-    return [f"locals take {plural(places.row * threads, 'cell')} in {plural(places.row, 'location')}; without --share {took}"]
+    own, shared = Places(program), Places(program, Mode.SHARED)
+    shared.hold(engine.read(engine.READ_SEQUENTIAL, copy))
+    rows = [(places.row * len(program.mains), places.row) for places in (shared, own)]
+    (cells, locations), (own_cells, own_locations) = rows
+    took = f"cells for locals: {cells:,} in {blocked.plural(locations, 'location')}"
+    return [f"{took}; without --share {own_cells:,} in {own_locations}"]
 
 
 def written_table(output: str, table: bytes) -> List[str]:

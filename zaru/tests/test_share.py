@@ -119,7 +119,7 @@ class WithEngine(Command):
         self.file("edge.zaru", edge(9).encode())
 
     def test_translate(self) -> None:
-        told = "c.copy: 563 bytes\nlocals take 3 cells in 3 locations; without --share 4 in 4\n"
+        told = "c.copy: 563 bytes\ncells for locals: 3 in 3 locations; without --share 4 in 4\n"
         self.assertEqual(self.good("translate", "c.zaru", "-o", "c.copy", "--share"), told)
         self.assertEqual(self.good("read", "s", "c.copy"), "accepted: procedures 9, locations 8, cells 8\n")
         self.assertEqual(self.good("translate", "c.zaru", "-o", "own.copy"), "own.copy: 565 bytes\n")
@@ -198,7 +198,7 @@ class WithEngine(Command):
 
     def test_helpers(self) -> None:
         told = self.good("translate", HELPERS, "-o", "new", "--share").splitlines()
-        self.assertEqual(told[1], "locals take 28 cells in 14 locations; without --share 116 in 58")
+        self.assertEqual(told[1], "cells for locals: 28 in 14 locations; without --share 116 in 58")
         for order in ("0*519 1*10", "0*40 1*50 0*600"):
             self.assertEqual(self.good("run", HELPERS, order, "--share"), self.good("run", HELPERS, order))
 
