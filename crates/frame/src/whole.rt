@@ -1,6 +1,6 @@
 // The whole text of an accepted table: counted if nothing is lent, written into a buffer, or held against a text.
-use super::places::put_areas;
-use super::places::put_locations;
+use super::locations::put_areas;
+use super::locations::put_locations;
 use super::procedures::put_declarations;
 use super::procedures::put_definitions;
 use basics::numbers::RECORD;

@@ -1,11 +1,11 @@
--- `frame::places::put_location` meets its contract.
+-- `frame::locations::put_area` meets its contract.
 use borrow.Author.Needs.{needs}
 use Rattle.frame.proofs.Placing.{place-ways}
-use Rattle.frame.proofs.places.put_location.Statement.{statement}
-use Rattle.frame.proofs.places.put_location.Tie as tie
+use Rattle.frame.proofs.locations.put_area.Statement.{statement}
+use Rattle.frame.proofs.locations.put_area.Tie as tie
 
-pub put-location-spec : {M : Type 1} → statement M
-put-location-spec =
+pub put-area-spec : {M : Type 1} → statement M
+put-area-spec =
     tie.close
     (tie.spec
     (λ c. search needs)

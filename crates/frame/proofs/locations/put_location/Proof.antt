@@ -1,11 +1,11 @@
--- `frame::places::put_area` meets its contract.
+-- `frame::locations::put_location` meets its contract.
 use borrow.Author.Needs.{needs}
 use Rattle.frame.proofs.Placing.{place-ways}
-use Rattle.frame.proofs.places.put_area.Statement.{statement}
-use Rattle.frame.proofs.places.put_area.Tie as tie
+use Rattle.frame.proofs.locations.put_location.Statement.{statement}
+use Rattle.frame.proofs.locations.put_location.Tie as tie
 
-pub put-area-spec : {M : Type 1} → statement M
-put-area-spec =
+pub put-location-spec : {M : Type 1} → statement M
+put-location-spec =
     tie.close
     (tie.spec
     (λ c. search needs)

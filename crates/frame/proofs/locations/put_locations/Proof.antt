@@ -1,11 +1,11 @@
--- `frame::places::put_locations` meets its contract.
+-- `frame::locations::put_locations` meets its contract.
 use borrow.Author.Needs.{needs}
 use Rattle.frame.proofs.Placing.{place-ways}
 use Prim.Native.Nat.{_-_}
 use Rattle.ctext.specs.Text.{location}
 use Rattle.frame.specs.Frames.{SizesFrom}
-use Rattle.frame.proofs.places.put_locations.Statement.{statement}
-use Rattle.frame.proofs.places.put_locations.Tie as tie
+use Rattle.frame.proofs.locations.put_locations.Statement.{statement}
+use Rattle.frame.proofs.locations.put_locations.Tie as tie
 
 abbrev Inv-loop : tie.InvT-loop
 Inv-loop t from n text out₀ at k₀ p₀ out k p = SizesFrom location t text from n out₀ at k out p
