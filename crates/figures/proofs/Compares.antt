@@ -15,6 +15,7 @@ use Rattle.format.specs.Syntax.{Kind, concurrent, sequential}
 use Rattle.format.specs.Rules.{limits}
 use Rattle.reader.proofs.Verdicts.{slice-bytes}
 use Rattle.translation.specs.declared.WriteAnswer.{WriteAnswer}
+use Rattle.translation.specs.declared.Mode.{Mode}
 use Rattle.translation.specs.Calls.{translateCall}
 use Rattle.semantics.specs.declared.RunAnswer.{RunAnswer}
 use Rattle.semantics.specs.Calls.{Outcome, concurrentCall, sequentialCall}
@@ -69,22 +70,22 @@ module _ (t ts u : List ℕ) {p : RunAnswer} (P : p ≡ programAnswer t ts) wher
 abbrev longest : List ℕ
 longest = replicate (limits sequential .bytes) 0
 
-module _ (t ts : List ℕ) {o : List ℕ} {w : WriteAnswer} (W : record { answer = w; out = o } ≡ translateCall t longest) where
+module _ (mode : Mode) (t ts : List ℕ) {o : List ℕ} {w : WriteAnswer} (W : record { answer = w; out = o } ≡ translateCall mode t longest) where
   -- a table that is not translated
-  pub figures-unwritten : {r : Figures} → (w .number ≡ 0 → ⊥) → r ≡ refusal (w .number) → r ≡ figuresCall t ts
-  figures-unwritten z e = e ∙ told-unwritten t ts longest W (simp length-replicate (omega arith)) z
+  pub figures-unwritten : {r : Figures} → (w .number ≡ 0 → ⊥) → r ≡ refusal (w .number) → r ≡ figuresCall mode t ts
+  figures-unwritten z e = e ∙ told-unwritten mode t ts longest W (simp length-replicate (omega arith)) z
 
   module _ (known : Known t) (written : w .number ≡ 0) where
     -- the copy lies in the buffer
     pub copy-fits : w .length ≤ length o
-    copy-fits = told-fits t ts longest W (slice-bytes t known) written (simp length-replicate (omega arith))
+    copy-fits = told-fits mode t ts longest W (slice-bytes t known) written (simp length-replicate (omega arith))
 
     -- one that is
     pub figures-written : {r : Figures} → r ≡ compared (programAnswer t ts) (copyAnswer (take (w .length) o) ts (readCall concurrent t .locations))
-        → r ≡ figuresCall t ts
+        → r ≡ figuresCall mode t ts
     unfolding compared
     figures-written e =
         let p : RunAnswer = programAnswer t ts in
         by-test (eqb (p .number) 0)
-        (λ a. e ∙ rw a (told-both t ts longest W (slice-bytes t known) written refl (eqb-true _ _ a) refl refl))
-        (λ a. e ∙ rw a (told-not-run t ts longest W (slice-bytes t known) written refl (eqb-false _ _ a)))
+        (λ a. e ∙ rw a (told-both mode t ts longest W (slice-bytes t known) written refl (eqb-true _ _ a) refl refl))
+        (λ a. e ∙ rw a (told-not-run mode t ts longest W (slice-bytes t known) written refl (eqb-false _ _ a)))

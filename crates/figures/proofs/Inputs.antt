@@ -10,6 +10,7 @@ use borrow.Author.Tests.{lt-ltb, le-ltb}
 use Rattle.value.specs.Values.{unbytes}
 use Rattle.basics.specs.Places.{numberAt}
 use Rattle.basics.specs.Laws.Places.{number-at}
+use Rattle.translation.specs.declared.Mode.the-variants.{Own}
 use Rattle.agreement.specs.declared.Figures.{Figures}
 use Rattle.agreement.specs.Figures.{refusal, figuresCall}
 use Rattle.agreement.specs.Line.{scheduleOf, tableOf, told, line, printed, lined, maxInput}
@@ -41,7 +42,7 @@ module _ (input : List ℕ) {r : Figures} where
   -- two bytes, then the schedule from `start` to `stop`, then the table
   pub input-split : {start n stop : ℕ} → length input ≤ maxInput → start ≡ min 2 (length input) → n ≡ numberAt 2 input 0
       → stop ≡ min (start + n) (length input)
-      → r ≡ figuresCall (take (length input - stop) (drop stop input)) (take (stop - start) (drop start input)) → r ≡ told input
+      → r ≡ figuresCall Own (take (length input - stop) (drop stop input)) (take (stop - start) (drop start input)) → r ≡ told input
   unfolding told
   input-split {start} {n} {stop} h first number second e =
       let two : n ≡ unbytes (take 2 input) = number ∙ number-at 2 input 0 in

@@ -12,6 +12,7 @@ use machines::run_concurrent;
 use machines::run_sequential;
 use reader::read_concurrent;
 use semantics::RunAnswer;
+use translation::Mode;
 use translator::translate;
 ghost use mathlib.Core.Path.{_≡_};
 ghost use Rattle.format.specs.Syntax.{concurrent};
@@ -59,12 +60,12 @@ fn run_both(table: &[u8], schedule: &[u8], copy: &[u8]) -> Figures
     }
 }
 
-// The figures of a concurrent table under a schedule: refused by 1 to 8, 9 and 11, in this order, or told.
-pub fn figures(table: &[u8], schedule: &[u8]) -> Figures
-    ensures { λ r. ⌜ r ≡ figuresCall (now (table .entry)) (now (schedule .entry)) ⌝ }
+// The figures of a concurrent table and its copy in a mode, under a schedule: refused by 1 to 8, 9 and 11, in this order, or told.
+pub fn figures(table: &[u8], mode: Mode, schedule: &[u8]) -> Figures
+    ensures { λ r. ⌜ r ≡ figuresCall mode (now (table .entry)) (now (schedule .entry)) ⌝ }
 {
     let mut copy = [0u8; LONGEST];
-    let written = translate(table, &mut copy);
+    let written = translate(table, mode, &mut copy);
     if written.number != 0 {
         return refused(written.number);
     }

@@ -5,6 +5,7 @@ use super::refused;
 use agreement::Figures;
 use basics::bytes::two_bytes;
 use basics::numbers::LONGEST_INPUT;
+use translation::Mode;
 ghost use mathlib.Core.Path.{_≡_};
 ghost use Prim.Native.Nat.{min};
 ghost use Rattle.agreement.specs.Line.{told, printed, lined};
@@ -19,7 +20,8 @@ fn at_most(place: usize, end: usize) -> usize
     if place < end { place } else { end }
 }
 
-// "A schedule length (2 bytes), the schedule, a concurrent table. If the input ends before the schedule does, the table is empty."
+// "A schedule length (2 bytes), the schedule, a concurrent table. If the input ends before the schedule does, the table is empty." The copy
+// is that of the old mode.
 pub fn figures_of_input(input: &[u8]) -> Figures
     ensures { λ r. ⌜ r ≡ told (now (input .entry)) ⌝ }
 {
@@ -31,7 +33,7 @@ pub fn figures_of_input(input: &[u8]) -> Figures
     let start = at_most(2, end);
     let entries = two_bytes(input, 0) as usize;
     let stop = at_most(start + entries, end);
-    figures(&input[stop..end], &input[start..stop])
+    figures(&input[stop..end], Mode::Own, &input[start..stop])
 }
 
 // The run program: the line that it prints for its standard input, and the line's length.

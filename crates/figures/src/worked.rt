@@ -6,6 +6,7 @@ use basics::operators;
 use format::ReadAnswer;
 use machines::run_concurrent;
 use reader::read_concurrent;
+use translation::Mode;
 use translation::WriteAnswer;
 use translator::translate;
 use value::Answer;
@@ -46,21 +47,21 @@ fn a_is_translated() -> WriteAnswer
     ensures { λ r. ⌜ r ≡ record { number = 0; length = 173 } ⌝ }
 {
     let mut copy = [0u8; 173];
-    translate(&A, &mut copy)
+    translate(&A, Mode::Own, &mut copy)
 }
 
 // "Schedule 0: finished, 24 steps."
 fn a_finishes() -> Figures
     ensures { λ r. ⌜ r ≡ record { number = 0; end = 0; steps = 1; copy = 24; unused = 0; events = 0; reason = 0 } ⌝ }
 {
-    figures(&A, b"\x00")
+    figures(&A, Mode::Own, b"\x00")
 }
 
 // "A, schedule 0 0: finished, one entry unused."
 fn a_leaves_one() -> Figures
     ensures { λ r. ⌜ r ≡ record { number = 0; end = 0; steps = 1; copy = 24; unused = 1; events = 0; reason = 0 } ⌝ }
 {
-    figures(&A, b"\x00\x00")
+    figures(&A, Mode::Own, b"\x00\x00")
 }
 
 // "L = 4".
@@ -75,35 +76,35 @@ fn b_is_translated() -> WriteAnswer
     ensures { λ r. ⌜ r ≡ record { number = 0; length = 419 } ⌝ }
 {
     let mut copy = [0u8; 419];
-    translate(&B, &mut copy)
+    translate(&B, Mode::Own, &mut copy)
 }
 
 // "Prices 4, 7, 7, 4": each step costs the copy L + 2T + 10 = 18 and its price. From 9, 4 for the assignment.
 fn b_assigns() -> Figures
     ensures { λ r. ⌜ r ≡ record { number = 0; end = 1; steps = 1; copy = 31; unused = 0; events = 0; reason = 0 } ⌝ }
 {
-    figures(&B, b"\x00")
+    figures(&B, Mode::Own, b"\x00")
 }
 
 // 7 for the read.
 fn b_reads() -> Figures
     ensures { λ r. ⌜ r ≡ record { number = 0; end = 1; steps = 2; copy = 56; unused = 0; events = 1; reason = 0 } ⌝ }
 {
-    figures(&B, b"\x00\x00")
+    figures(&B, Mode::Own, b"\x00\x00")
 }
 
 // 7 for the write.
 fn b_writes() -> Figures
     ensures { λ r. ⌜ r ≡ record { number = 0; end = 1; steps = 3; copy = 81; unused = 0; events = 2; reason = 0 } ⌝ }
 {
-    figures(&B, b"\x00\x00\x00")
+    figures(&B, Mode::Own, b"\x00\x00\x00")
 }
 
 // 4 for the end label.
 fn b_returns() -> Figures
     ensures { λ r. ⌜ r ≡ record { number = 0; end = 1; steps = 4; copy = 103; unused = 0; events = 2; reason = 0 } ⌝ }
 {
-    figures(&B, b"\x00\x00\x00\x00")
+    figures(&B, Mode::Own, b"\x00\x00\x00\x00")
 }
 
 // "B, schedule 0 0 0 0 1 1 1 1: the cell ends 2."
@@ -138,28 +139,28 @@ fn b_loses_one() -> [u8; 5]
 fn b_in_turn() -> Figures
     ensures { λ r. ⌜ r ≡ record { number = 0; end = 0; steps = 8; copy = 198; unused = 0; events = 4; reason = 0 } ⌝ }
 {
-    figures(&B, b"\x00\x00\x00\x00\x01\x01\x01\x01")
+    figures(&B, Mode::Own, b"\x00\x00\x00\x00\x01\x01\x01\x01")
 }
 
 // The same of the lost update.
 fn b_mixed() -> Figures
     ensures { λ r. ⌜ r ≡ record { number = 0; end = 0; steps = 8; copy = 198; unused = 0; events = 4; reason = 0 } ⌝ }
 {
-    figures(&B, b"\x00\x00\x01\x01\x00\x01\x00\x01")
+    figures(&B, Mode::Own, b"\x00\x00\x01\x01\x00\x01\x00\x01")
 }
 
 // "B, empty schedule: used up, 0 steps; the copy took 9."
 fn b_unscheduled() -> Figures
     ensures { λ r. ⌜ r ≡ record { number = 0; end = 1; steps = 0; copy = 9; unused = 0; events = 0; reason = 0 } ⌝ }
 {
-    figures(&B, b"")
+    figures(&B, Mode::Own, b"")
 }
 
 // "4 finished thread chosen": B, schedule 0 0 0 0 0 1.
 fn b_blocks() -> Figures
     ensures { λ r. ⌜ r ≡ record { number = 0; end = 2; steps = 4; copy = 103; unused = 2; events = 2; reason = 4 } ⌝ }
 {
-    figures(&B, b"\x00\x00\x00\x00\x00\x01")
+    figures(&B, Mode::Own, b"\x00\x00\x00\x00\x00\x01")
 }
 
 // "2,147,483,647 + 1 .. no value": "1 outside the number range".

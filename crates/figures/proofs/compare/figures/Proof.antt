@@ -10,14 +10,14 @@ use Rattle.figures.proofs.compare.figures.Tie as tie
 returns : tie.Need-returns
 returns c =
     let start = c .before .before .before .before .before .before .before .before in
-    figures-unwritten (start .args .table .now) (start .args .schedule .now) (c .before .before .before .before .translate .ensures)
+    figures-unwritten (start .args .mode) (start .args .table .now) (start .args .schedule .now) (c .before .before .before .before .translate .ensures)
     (c .before .if1 .taken) (c .refused .ensures)
 
 -- the copy lies in the buffer
 array-share-prefix-copy : tie.Need-array-share-prefix-copy
 array-share-prefix-copy c =
     let known = c .before .before .before .before .before .before in
-    copy-fits (known .before .args .table .now) (known .before .args .schedule .now) (c .before .before .before .translate .ensures)
+    copy-fits (known .before .args .mode) (known .before .args .table .now) (known .before .args .schedule .now) (c .before .before .before .translate .ensures)
     (known .shared-slice-known .given) (c .if1 .left)
 
 -- so the part that is lent is as long as the copy
@@ -28,7 +28,7 @@ slice-aggregate-run-both c = let fits = array-share-prefix-copy (c .before) in s
 returns-2 : tie.Need-returns-2
 returns-2 c =
     let known = c .before .before .before .before .before .before .before .before in
-    figures-written (known .before .args .table .now) (known .before .args .schedule .now)
+    figures-written (known .before .args .mode) (known .before .args .table .now) (known .before .args .schedule .now)
     (c .before .before .before .before .before .translate .ensures)
     (known .shared-slice-known .given) (c .before .before .if1 .left) (c .run-both .ensures)
 
