@@ -7,7 +7,8 @@ use lib.ListN.{length, getD, set, drop, length-set, drop-of-length-le}
 use lib.Seq.{drop-cons}
 use Rattle.format.specs.declared.ReadAnswer.{ReadAnswer}
 use Rattle.translation.specs.declared.WriteAnswer.{WriteAnswer}
-use Rattle.translation.specs.Calls.{Written}
+use Rattle.translation.specs.declared.Mode.{Mode}
+use Rattle.translation.specs.Calls.{Written, translateCall}
 use Rattle.semantics.specs.declared.RunAnswer.{RunAnswer}
 use Rattle.semantics.specs.Calls.{Outcome}
 use Rattle.allotments.specs.declared.BenchAnswer.{BenchAnswer}
@@ -101,6 +102,12 @@ read-told r s xs ys e f = f ∙ ap (λ r. stored 0 (readNumbers r) xs) e
 pub write-told : (r : WriteAnswer) (out xs ys : List ℕ) (w : Written) → record { answer = r; out = out } ≡ w → ys ≡ stored 0 (writeNumbers r) xs
     → _≡_ {A = Translated} (record { out = out; answer = ys }) (translated w xs)
 write-told r out xs ys w e f = ap (λ ys. record { out = out; answer = ys }) f ∙ ap (λ w. translated w xs) e
+
+-- of one that is told the mode by its number
+pub mode-told : (r : WriteAnswer) (out xs ys t₀ out₀ : List ℕ) (j k : Mode) → j ≡ k → record { answer = r; out = out } ≡ translateCall j t₀ out₀
+    → ys ≡ stored 0 (writeNumbers r) xs
+    → _≡_ {A = Translated} (record { out = out; answer = ys }) (translated (translateCall k t₀ out₀) xs)
+mode-told r out xs ys t₀ out₀ j k same e f = write-told r out xs ys (translateCall k t₀ out₀) (e ∙ ap (λ k. translateCall k t₀ out₀) same) f
 
 -- of a run
 pub run-told : (r : RunAnswer) (cs es xs ys : List ℕ) (o : Outcome) → record { answer = r; cells = cs; events = es } ≡ o

@@ -11,6 +11,7 @@ ghost use Prim.Native.Nat.{_+_, _≤_};
 ghost use lib.ListN.{set};
 ghost use Rattle.format.specs.Syntax.{concurrent, sequential};
 ghost use Rattle.format.specs.Calls.{readCall};
+ghost use Rattle.translation.specs.Placement.{modeNumbered};
 ghost use Rattle.translation.specs.Calls.{translateCall};
 ghost use Rattle.ctext.specs.Calls.{printCall, readTextCall};
 ghost use Rattle.semantics.specs.Calls.{concurrentCall, plainCall, sequentialCall};
@@ -128,13 +129,13 @@ pub extern "C" fn zaru_read_sequential(table: &[u8], answer: &mut [u64])
     store_read(answer, reader::read_sequential(table));
 }
 
-// Translates a concurrent table.
+// Translates a concurrent table: in mode 0 each procedure's locals have cells of their own, in any other those of different call paths share them.
 #[no_mangle]
-pub extern "C" fn zaru_translate(table: &[u8], out: &mut [u8], answer: &mut [u64])
+pub extern "C" fn zaru_translate(table: &[u8], mode: u64, out: &mut [u8], answer: &mut [u64])
     ensures { λ _. ⌜ _≡_ {A = Translated} (record { out = now (out .exit); answer = now (answer .exit) }) (translated (translateCall
-        (now (table .entry)) (now (out .entry))) (now (answer .entry))) ⌝ }
+        (modeNumbered mode) (now (table .entry)) (now (out .entry))) (now (answer .entry))) ⌝ }
 {
-    let r = translator::translate(table, out);
+    let r = translator::translate(table, translator::mode_numbered(mode), out);
     store_write(answer, r);
 }
 

@@ -1,6 +1,6 @@
 -- `clib::zaru_translate` meets its contract.
 use borrow.Author.Needs.{needs}
-use Rattle.clib.proofs.Storing.{stores}
+use Rattle.clib.proofs.Storing.{mode-told}
 use Rattle.clib.proofs.zaru_translate.Statement.{statement}
 use Rattle.clib.proofs.zaru_translate.Tie as tie
 
@@ -10,6 +10,7 @@ zaru-translate-spec =
     (tie.spec
     (λ c κs. search needs)
     (λ c κs. search needs)
+    (λ c κs. search needs)
     (λ c. search needs)
     (λ c. search needs)
-    (λ c. search (stores, needs)))
+    (λ c. search mode-told))
