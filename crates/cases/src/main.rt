@@ -10,6 +10,7 @@
 //
 // The bench has its rounds in the budget's place and the most steps of a count in h's. The mender has the kind wanted in h's place (0
 // concurrent, 1 sequential), and its list of changes is the lent buffer for events; it mends a copy of the table, whose hash comes first.
+// A translation has its mode in h's place (0 own cells for each procedure's locals, 1 shared ones).
 //
 // The prices have their label in the budget's place; no buffer is lent to them, so that their line has no hash. A text to be read stands in the table's place.
 //
@@ -73,7 +74,7 @@ const RUN_PLAIN: u8 = 12;
 const GREETING: u8 = 90;
 
 // One more whenever a request, or a line that answers one, changes its form. `zaru/engine.py` and `second/src/batch.rs` have it too.
-const VERSION: u64 = 8;
+const VERSION: u64 = 9;
 
 // What is asked for, beside the table and the schedule.
 struct Request {
@@ -108,29 +109,30 @@ fn request_of(header: &[u8; HEADER]) -> Request {
 }
 
 // One of the calls that write into one lent buffer: a translation, a table as text, or a text as table.
-fn write(call: u8, input: &[u8], out: &mut [u8]) -> WriteAnswer {
+fn write(request: Request, input: &[u8], out: &mut [u8]) -> WriteAnswer {
+    let call = request.call;
     match call {
         PRINT => printer::print(input, out),
         READ_TEXT => fromtext::read_text(input, out),
-        _ => translator::translate(input, out),
+        _ => translator::translate(input, translator::mode_numbered(request.h as u64), out),
     }
 }
 
 // Writes into a lent buffer.
-fn answer_write(call: u8, shown: bool, input: &[u8], out: &mut [u8]) {
+fn answer_write(request: Request, input: &[u8], out: &mut [u8]) {
     buffers::fill(out);
-    let r = write(call, input, out);
-    print::writing(call, r);
+    let r = write(request, input, out);
+    print::writing(request.call, r);
     print::hash(out);
     print::end_line();
-    print::show(shown, out);
+    print::show(request.shown, out);
 }
 
 // Lends the first bytes of a buffer to such a call.
 fn lend_out(request: Request, input: &[u8], out: &mut [u8]) {
     let n = request.out;
     if n <= out.len() {
-        answer_write(request.call, request.shown, input, &mut out[..n]);
+        answer_write(request, input, &mut out[..n]);
     }
 }
 
