@@ -43,7 +43,7 @@ use Rattle.writer.specs.Laws.Put.{PutBlock}
 use Rattle.emit.specs.Laws.Sources.{Low, Sited, ExprsOf, Tests, Calls, Steps, Returns}
 use Rattle.emit.specs.Laws.Shapes.{Shaped, SiteAt}
 use Rattle.simulation.specs.Laws.Bodies.{OfLabel, Leads, Begun, BeginAt, CallsAt, PutsNode, labelCode, simulated, PutsLabel}
-use Rattle.simulation.specs.Laws.Bodies.{bodies, Simulating, PutsBodies}
+use Rattle.simulation.specs.Laws.Bodies.{bodies, KeptAt, Simulating, PutsBodies}
 use Rattle.emit.specs.declared.layout.Shape.{Shape}
 use Rattle.emit.specs.declared.layout.Site.{Site}
 use Rattle.writer.proofs.Puts.{put-none, put-then, put-same}
@@ -333,10 +333,10 @@ module _ {t : List ℕ} {h : Shape} {map bounds : List ℕ} where
   }
 
   -- one more
-  pub simulating-next : {offsets o o₁ o₂ : List ℕ} {k p p₁ p₂ : ℕ} → Simulating t h map bounds offsets k o p o₁ p₁ → k < h .labels
-      → h .labels ≤ maxLabels → PutsLabel t h map bounds (k + 1) o₁ p₁ o₂ p₂ → length o₂ ≡ length o₁
-      → Simulating t h map bounds (set offsets k p₁) (k + 1) o p o₂ p₂
-  simulating-next {offsets} {o} {o₁} {o₂} {k} {p} {p₁} {p₂} D less few L kept = record {
+  pub simulating-next : {offsets o o₁ o₂ : List ℕ} {k p p₁ p₂ z : ℕ} → Simulating t h map bounds offsets k o p o₁ p₁ → k < h .labels
+      → h .labels ≤ maxLabels → KeptAt p₁ z → PutsLabel t h map bounds (k + 1) o₁ p₁ o₂ p₂ → length o₂ ≡ length o₁
+      → Simulating t h map bounds (set offsets k z) (k + 1) o p o₂ p₂
+  simulating-next {offsets} {o} {o₁} {o₂} {k} {p} {p₁} {p₂} {z} D less few K L kept = record {
     done = λ q w m.
         let d = node-there q (suc k) (omega arith) (omega (arith, w .labels)) in
         let f : Proc S.Plain = simulated (h .mode) q (d .0) in
@@ -349,18 +349,19 @@ module _ {t : List ℕ} {h : Shape} {map bounds : List ℕ} where
         put-same (sym more) (put-then (bodies (take k all)) (block (f .body)) (D .done q w m) (one .puts));
     places = λ q w m. record { at = λ i l room. places q w m i l room };
     kept = kept ∙ D .kept;
-    long = length-set offsets k p₁ ∙ D .long;
+    long = length-set offsets k z ∙ D .long;
     most = omega arith;
   }
     where
       places : (q : Program S.Plain) → Shaped t h q → Mapped q map bounds → (i : ℕ) → i < k + 1
           → p + length (bodies (take i (laterIn (h .mode) q))) ≤ tooLong
-          → getD (set offsets k p₁) i 0 ≡ p + length (bodies (take i (laterIn (h .mode) q)))
+          → getD (set offsets k z) i 0 ≡ p + length (bodies (take i (laterIn (h .mode) q)))
       places q w m i l room = elim (ℕ-discrete i k) [
         | yes e ↦
             let room′ : p + length (bodies (take k (laterIn (h .mode) q))) ≤ tooLong = rw e at room in
-            rw e (getD-set-same offsets k p₁ 0 (omega (arith, D .long)) ∙ D .done q w m .next room′)
-        | no n ↦ getD-set-other offsets k i p₁ 0 n ∙ D .places q w m .at i (omega arith) room
+            let here : p₁ ≡ p + length (bodies (take k (laterIn (h .mode) q))) = D .done q w m .next room′ in
+            rw e (getD-set-same offsets k z 0 (omega (arith, D .long)) ∙ K .gives (omega arith) ∙ here)
+        | no n ↦ getD-set-other offsets k i z 0 n ∙ D .places q w m .at i (omega arith) room
       ]
 
   -- after the last

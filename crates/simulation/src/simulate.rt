@@ -7,6 +7,7 @@ use basics::bytes::two_bytes;
 use basics::numbers::BOUNDS;
 use basics::numbers::CALL;
 use basics::numbers::END;
+use basics::numbers::FAR;
 use basics::numbers::IF;
 use basics::numbers::LABELS;
 use basics::numbers::MAP;
@@ -26,7 +27,7 @@ ghost use mathlib.Core.Path.{_≡_};
 ghost use Prim.Native.Nat.{_≤_, _<_};
 ghost use lib.ListN.{length};
 ghost use Rattle.format.specs.Rules.{maxLabels};
-ghost use Rattle.simulation.specs.Laws.Bodies.{BeginAt, CallsAt, PutsNode, PutsLabel, PutsBodies};
+ghost use Rattle.simulation.specs.Laws.Bodies.{BeginAt, CallsAt, PutsNode, PutsLabel, KeptAt, PutsBodies};
 
 // Where procedure m begins; 0 past the last.
 pub fn begin_of(bounds: &[usize; BOUNDS], m: usize) -> usize
@@ -122,13 +123,23 @@ fn put_label(
     put_node(t, at, shape, bounds, s, next, other, out, to)
 }
 
+// Where a body begins, as it is kept: where counting has stopped, nothing is read of it.
+fn short(at: usize) -> u32
+    ensures { λ r. ⌜ KeptAt at r ⌝ }
+{
+    if FAR <= at {
+        return FAR as u32;
+    }
+    at as u32
+}
+
 // The bodies of all labels, and where each begins.
 pub fn put_bodies(
     t: &[u8],
     shape: Shape,
     map: &[usize; MAP],
     bounds: &[usize; BOUNDS],
-    offsets: &mut [usize; LABELS],
+    offsets: &mut [u32; LABELS],
     out: &mut [u8],
     to: usize,
 ) -> usize
@@ -140,7 +151,7 @@ pub fn put_bodies(
     let mut done = 0;
     let mut p = to;
     while done < labels {
-        offsets[done] = p;
+        offsets[done] = short(p);
         p = put_label(t, shape, map, bounds, done + 1, out, p);
         done += 1;
     }

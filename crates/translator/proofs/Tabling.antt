@@ -86,15 +86,15 @@ each-append item (x ∷ xs) ys = ap (item x ++_) (each-append item xs ys) ∙ sy
 
 module _ {t : List ℕ} {h : Shape} {map offsets : List ℕ} where
   -- the record of a label's procedure
-  pub head-label : {o o′ : List ℕ} {p r k n y : ℕ} → LocalsAt t h (getD map (4 * (k + 1) + 1) 0) n → y ≡ (n + 3) % 256
-      → Put o p (1 ∷ y ∷ bytes 4 (getD offsets k 0)) o′ r → HeadOf t h map offsets k o p o′ r
-  head-label {o} {o′} {p} {r} {k} {n} {y} L e P = record {
+  pub head-label : {o o′ : List ℕ} {p r k n y z : ℕ} → LocalsAt t h (getD map (4 * (k + 1) + 1) 0) n → y ≡ (n + 3) % 256
+      → z ≡ getD offsets k 0 → Put o p (1 ∷ y ∷ bytes 4 z) o′ r → HeadOf t h map offsets k o p o′ r
+  head-label {o} {o′} {p} {r} {k} {n} {y} {z} L e f P = record {
     gives = λ q d w bounds mapped node.
         let there : getD map (4 * (k + 1) + 1) 0 ≡ d .proc = mapped .proc (k + 1) d node in
         let locals : n ≡ localsOf (at (q .procs) (d .proc)) = L .gives q w ∙ ap (λ (m : ℕ). localsOf (at (q .procs) m)) there in
         let few : localsOf (at (q .procs) (d .proc)) ≤ maxLocals = node-locals q (k + 1) (w .sound) node in
         let same : y ≡ moved (localsOf (at (q .procs) (d .proc))) = omega (arith, e, locals, few) in
-        rw same at P;
+        rw (same, f) at P;
   }
 
   -- before the first

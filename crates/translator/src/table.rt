@@ -39,12 +39,19 @@ fn put_head(out: &mut [u8], at: usize, params: u8, locals: u8, offset: usize) ->
     put_four(out, q, offset)
 }
 
+// Where a body begins, as it was kept.
+fn wide(offset: u32) -> usize
+    ensures { λ r. ⌜ r ≡ offset ⌝ }
+{
+    offset as usize
+}
+
 // The record of the procedure of label k + 1: "it has parameter tid = 0, then tmp = 1, aux = 2, and local i as 3+i".
 fn put_label_head(
     t: &[u8],
     shape: Shape,
     map: &[usize; MAP],
-    offsets: &[usize; LABELS],
+    offsets: &[u32; LABELS],
     k: usize,
     out: &mut [u8],
     at: usize,
@@ -54,7 +61,7 @@ fn put_label_head(
 {
     let label = k + 1;
     let locals = locals_of(t, shape, map[NODE * label + PROCEDURE]);
-    put_head(out, at, 1, moved(locals), offsets[k])
+    put_head(out, at, 1, moved(locals), wide(offsets[k]))
 }
 
 // The records of all labels' procedures.
@@ -62,7 +69,7 @@ fn put_heads(
     t: &[u8],
     shape: Shape,
     map: &[usize; MAP],
-    offsets: &[usize; LABELS],
+    offsets: &[u32; LABELS],
     out: &mut [u8],
     at: usize,
 ) -> usize
@@ -111,7 +118,7 @@ fn put_middle(
     t: &[u8],
     shape: Shape,
     map: &[usize; MAP],
-    offsets: &[usize; LABELS],
+    offsets: &[u32; LABELS],
     out: &mut [u8],
     at: usize,
 ) -> usize
@@ -129,7 +136,7 @@ fn put_code(
     shape: Shape,
     map: &[usize; MAP],
     bounds: &[usize; BOUNDS],
-    offsets: &mut [usize; LABELS],
+    offsets: &mut [u32; LABELS],
     out: &mut [u8],
 ) -> usize
     requires { ⌜ (shape .labels ≤ maxLabels) × (length (now offsets) ≡ maxLabels) ⌝ }
@@ -185,7 +192,7 @@ pub fn put_table(
     requires { ⌜ shape .labels ≤ maxLabels ⌝ }
     ensures { λ r. ⌜ TableOf (now (t .entry)) shape (now (map .entry)) (now (bounds .entry)) (now (out .entry)) (now (out .exit)) r ⌝ }
 {
-    let mut offsets = [0usize; LABELS];
+    let mut offsets = [0u32; LABELS];
     let p = put_code(t, shape, map, bounds, &mut offsets, out);
     if FAR <= p {
         return p;

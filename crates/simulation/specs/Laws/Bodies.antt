@@ -92,6 +92,10 @@ pub record PutsLabel (t : List ℕ) (h : Shape) (map bounds : List ℕ) (l : ℕ
 abbrev pub bodies : List (Proc S.Plain) → List ℕ
 bodies ps = each block (bodiesOf ps)
 
+-- where a body begins is kept, if counting goes so far
+pub record KeptAt (p r : ℕ) : Type 0 where
+  pub gives : p ≤ tooLong → r ≡ p
+
 -- the first k bodies begin where the offsets say, from p on; said where counting goes so far
 pub record Offsets (mode : Mode) (q : Program S.Plain) (p k : ℕ) (offsets : List ℕ) : Type 0 where
   pub at : (i : ℕ) → i < k → p + length (bodies (take i (laterIn mode q))) ≤ tooLong

@@ -20,6 +20,7 @@ put-bodies-spec =
     μ-loop
     (λ c. search needs)
     (λ c. search simulate-ways)
+    (λ c κs. search needs)
     (λ c. search needs)
     (λ c. search needs)
     (λ c. search needs)
