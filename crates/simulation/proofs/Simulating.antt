@@ -18,7 +18,7 @@ use Rattle.value.specs.Laws.Lists.{Each, each-at, at-getD}
 use Rattle.value.specs.Laws.Maybes.{is-inj, missing}
 use Rattle.format.specs.Syntax.{Expr, Instr, assign, write, read, while, if, call, atomic, select, Block, end, step, _⊕_, Proc, Program, concurrent}
 use Rattle.format.specs.Syntax as S
-use Rattle.format.specs.Encode.{instr, block, each, bodiesOf}
+use Rattle.format.specs.Encode.{instr, block, bodiesOf}
 use Rattle.format.specs.Decode.{noForm, forms, maxNesting}
 use Rattle.format.specs.Labels.{first, count, counts, label, labels, labelled}
 use Rattle.format.specs.Rules.{named, allowed, Here, limits, maxLabels, maxLocals}

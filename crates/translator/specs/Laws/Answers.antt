@@ -1,5 +1,5 @@
 -- What the translator's call goes by: a table that its reader accepted, and what the copy's writer leaves.
-use Prim.Native.Nat.{ℕ, _*_, _+_, _≤_}
+use Prim.Native.Nat.{ℕ, _+_, _≤_}
 use mathlib.Core.Path.{_≡_}
 use mathlib.Core.List.{List}
 use lib.ListN.{length}

@@ -1,7 +1,7 @@
 -- What the translator promises of the whole table.
 use Prim.Native.Nat.{ℕ, _+_, _≤_, _<_}
 use mathlib.Core.Path.{_≡_}
-use mathlib.Core.List.{List, _∷_, _++_}
+use mathlib.Core.List.{List, _++_}
 use lib.ListN.{length, getD, take}
 use Rattle.value.specs.Maybe.{is}
 use Rattle.value.specs.Values.{bytes}
