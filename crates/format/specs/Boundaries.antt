@@ -17,25 +17,25 @@ use Rattle.format.specs.Calls.{readCall}
 abbrev counted : Kind → ℕ → ℕ → ℕ → ℕ → Bool
 counted k n P M T = rightCounts k (replicate n 0) (record { kind = 0; mark = 0; procs = P; places = M; threads = T; back = 0; whole = 0 })
 
--- "concurrent: over 16,384 bytes, P not 1..16, M over 64, T not 1..8"
+-- "concurrent: over 16,384 bytes, P not 1..16, M over 64, T not 1..32"
 pub concurrent-counts :
-    (counted concurrent 16384 16 64 8 ≡ true)
+    (counted concurrent 16384 16 64 32 ≡ true)
     × (counted concurrent 25 1 0 1 ≡ true)
     × (counted concurrent 16385 1 0 1 ≡ false)
     × (counted concurrent 25 0 0 1 ≡ false)
     × (counted concurrent 25 17 0 1 ≡ false)
     × (counted concurrent 25 1 65 1 ≡ false)
     × (counted concurrent 25 1 0 0 ≡ false)
-    × (counted concurrent 25 1 0 9 ≡ false)
+    × (counted concurrent 25 1 0 33 ≡ false)
 concurrent-counts = (refl, refl, refl, refl, refl, refl, refl, refl)
 
--- "Sequential: over 65,536 bytes, P not 1..512, M over 512, T not 0"
+-- "Sequential: over 65,536 bytes, P not 1..1,024, M over 512, T not 0"
 pub sequential-counts :
-    (counted sequential 65536 512 512 0 ≡ true)
+    (counted sequential 65536 1024 512 0 ≡ true)
     × (counted sequential 25 1 0 0 ≡ true)
     × (counted sequential 65537 1 0 0 ≡ false)
     × (counted sequential 25 0 0 0 ≡ false)
-    × (counted sequential 25 513 0 0 ≡ false)
+    × (counted sequential 25 1025 0 0 ≡ false)
     × (counted sequential 25 1 513 0 ≡ false)
     × (counted sequential 25 1 0 1 ≡ false)
 sequential-counts = (refl, refl, refl, refl, refl, refl, refl)
@@ -62,11 +62,11 @@ pub concurrent-records :
     × (recorded concurrent (of 0 0 ∷ of 1 1 ∷ []) [] (0 ∷ 1 ∷ []) ≡ false)
 concurrent-records = (refl, refl, refl, refl, refl, refl, refl, refl)
 
--- "(sequential 32)", "(sequential 8,192)", "(sequential: procedure 0)"
+-- "(sequential 32)", "(sequential 16,384)", "(sequential: procedure 0)"
 pub sequential-records :
-    (recorded sequential (of 0 32 ∷ []) (replicate 32 256) [] ≡ true)
+    (recorded sequential (of 0 32 ∷ []) (replicate 64 256) [] ≡ true)
     × (recorded sequential (of 0 33 ∷ []) [] [] ≡ false)
-    × (recorded sequential (of 0 0 ∷ []) (1 ∷ replicate 32 256) [] ≡ false)
+    × (recorded sequential (of 0 0 ∷ []) (1 ∷ replicate 64 256) [] ≡ false)
     × (recorded sequential (of 1 1 ∷ []) [] [] ≡ false)
 sequential-records = (refl, refl, refl, refl)
 
@@ -105,6 +105,6 @@ pub depths :
     × (answered (loops 16) ≡ 4)
 depths = (refl, refl, refl, refl)
 
--- "400 labels pass, 401 give 6"
-pub four-hundred-labels : (answered (row 399) ≡ 0) × (answered (row 400) ≡ 6)
-four-hundred-labels = (refl, refl)
+-- 1,000 labels pass, 1,001 give 6
+pub thousand-labels : (answered (row 999) ≡ 0) × (answered (row 1000) ≡ 6)
+thousand-labels = (refl, refl)

@@ -18,7 +18,7 @@ use Rattle.format.specs.Labels.{counts}
 
 -- ---- the bounds of each kind
 
--- "concurrent: over 16,384 bytes, P not 1..16, M over 64, T not 1..8. Sequential: ..", and those of rule 3
+-- "concurrent: over 16,384 bytes, P not 1..16, M over 64, T not 1..32. Sequential: ..", and those of rule 3
 pub record Limits : Type 0 where
   pub bytes : ℕ
   pub procs : ℕ
@@ -29,10 +29,10 @@ pub record Limits : Type 0 where
   pub locals : ℕ
   pub cells : ℕ
 
--- numbers 2 and 3
+-- numbers 2 and 3. Request #110: "T goes to 32", "sequential tables may have 1,024 procedures and 16,384 cells"
 abbrev pub limits : Kind → Limits
-limits concurrent = record { bytes = 16384; procs = 16; places = 64; fewest = 1; threads = 8; locals = 16; cells = 2048 }
-limits sequential = record { bytes = 65536; procs = 512; places = 512; fewest = 0; threads = 0; locals = 32; cells = 8192 }
+limits concurrent = record { bytes = 16384; procs = 16; places = 64; fewest = 1; threads = 32; locals = 16; cells = 2048 }
+limits sequential = record { bytes = 65536; procs = 1024; places = 512; fewest = 0; threads = 0; locals = 32; cells = 16384 }
 
 -- "locals over 16": the most that a procedure of a concurrent program has
 abbrev pub maxLocals : ℕ
@@ -42,9 +42,9 @@ maxLocals = limits concurrent .locals
 abbrev pub maxSize : ℕ
 maxSize = 256
 
--- number 6
+-- number 6; request #110: "labels to 1,000"
 abbrev pub maxLabels : ℕ
-maxLabels = 400
+maxLabels = 1000
 
 -- a number between two others
 abbrev pub within : ℕ → ℕ → ℕ → Bool
@@ -63,14 +63,17 @@ rightTrailer k t r =
 
 -- ---- 2: the counts
 
--- "over 16,384 bytes, P not 1..16, M over 64, T not 1..8"
-abbrev pub rightCounts : Kind → List ℕ → Trailer → Bool
-rightCounts k t r =
-    let m : Limits = limits k in
+-- "over 16,384 bytes, P not 1..16, M over 64, T not 1..32"
+abbrev pub countsWithin : Limits → List ℕ → Trailer → Bool
+countsWithin m t r =
     both (leb (length t) (m .bytes))
     (both (within 1 (m .procs) (r .procs))
     (both (leb (r .places) (m .places))
     (within (m .fewest) (m .threads) (r .threads))))
+
+-- within the bounds of a kind
+abbrev pub rightCounts : Kind → List ℕ → Trailer → Bool
+rightCounts k = countsWithin (limits k)
 
 -- ---- 3: the records
 
@@ -86,13 +89,16 @@ begun (h ∷ hs) zero = eqb (h .params) 0
 begun (h ∷ hs) (suc n) = begun hs n
 
 -- "parameters over locals; locals over 16; size not 1..256; all sizes together over 2,048; a main that is not below P or has parameters"
-abbrev pub rightRecords : Kind → Middle → Bool
-rightRecords k m =
-    let l : Limits = limits k in
+abbrev pub recordsWithin : Limits → Kind → Middle → Bool
+recordsWithin l k m =
     both (all (λ h. both (leb (h .params) (h .locals)) (leb (h .locals) (l .locals))) (m .heads))
     (both (all (within 1 maxSize) (m .sizes))
     (both (leb (sum (m .sizes)) (l .cells))
     (all (begun (m .heads)) (starts k (m .mains)))))
+
+-- within the bounds of a kind
+abbrev pub rightRecords : Kind → Middle → Bool
+rightRecords k = recordsWithin (limits k) k
 
 -- ---- 4: the bodies
 
@@ -197,10 +203,14 @@ allNamed p = all (λ q. named p (q .locals) (q .body)) (p .procs)
 
 -- ---- 6: labels
 
--- "concurrent: over 400 labels"
+-- "concurrent: over 1,000 labels"
+abbrev pub labelsWithin : {A : Type 0} → ℕ → Kind → Program A → Bool
+labelsWithin most concurrent p = leb (counts (p .procs)) most
+labelsWithin most sequential p = true
+
+-- within the bound
 abbrev pub fewLabels : {A : Type 0} → Kind → Program A → Bool
-fewLabels concurrent p = leb (counts (p .procs)) maxLabels
-fewLabels sequential p = true
+fewLabels = labelsWithin maxLabels
 
 -- ---- 7: calls
 
@@ -291,18 +301,22 @@ abbrev pub require : ℕ → Bool → Verdict → Verdict
 require n true v = v
 require n false v = refused n
 
--- "The smallest number that applies is answered"
-abbrev pub verdict : Kind → List ℕ → Verdict
-verdict k t =
+-- "The smallest number that applies is answered", by the bounds of each kind and the most labels
+abbrev pub verdictBy : (Kind → Limits) → ℕ → Kind → List ℕ → Verdict
+verdictBy bounds most k t =
     demand 1 (finish (D.trailer (last trailerSize t))) λ r.
     let body : List ℕ = but trailerSize t in
     require 1 (rightTrailer k t r)
-    (require 2 (rightCounts k t r)
+    (require 2 (countsWithin (bounds k) t r)
     (demand 1 (finish (D.middle (r .procs) (r .places) (r .threads) (last (r .back) body))) λ m.
-    require 3 (rightRecords k m)
+    require 3 (recordsWithin (bounds k) k m)
     (demand 4 (program k (but (r .back) body) m) λ p.
     require 5 (allNamed p)
-    (require 6 (fewLabels k p)
+    (require 6 (labelsWithin most k p)
     (require 7 (noCycle p)
     (require 8 (setFirst p)
     (accepted p)))))))
+
+-- by the bounds that are in force
+abbrev pub verdict : Kind → List ℕ → Verdict
+verdict = verdictBy limits maxLabels

@@ -28,7 +28,7 @@ pub record RightTrailer (k : Kind) (t rest : List ℕ) (r : Trailer) : Type 0 wh
   pub whole : r .whole ≡ length t
   pub room : r .back ≤ length t - trailerSize
 
--- 2: "over 16,384 bytes, P not 1..16, M over 64, T not 1..8"
+-- 2: "over 16,384 bytes, P not 1..16, M over 64, T not 1..32"
 pub record RightCounts (k : Kind) (t : List ℕ) (r : Trailer) : Type 0 where
   pub size : length t ≤ limits k .bytes
   pub procs : Within 1 (limits k .procs) (r .procs)

@@ -23,7 +23,7 @@ pub record LocalsRight (most : ℕ) (q : Proc Plain) : Type 0 where
   pub params : q .params ≤ q .locals
   pub locals : q .locals ≤ most
 
--- 400 labels; a sequential program has none
+-- 1,000 labels; a sequential program has none
 abbrev pub FewLabels : Kind → Program Plain → Type 0
 FewLabels concurrent p = counts (p .procs) ≤ maxLabels
 FewLabels sequential p = Unit {0}
