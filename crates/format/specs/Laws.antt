@@ -43,6 +43,8 @@ pub mod Holds
 pub mod Refusals
 -- and a table is accepted exactly if it is a sound program's
 pub mod Accepted
+-- narrower bounds: what an old reader says of a table
+pub mod Wider
 -- a sound program's table is bytes
 pub mod TableBytes
 -- the sections of a table by their places
