@@ -17,7 +17,7 @@ boundWords = 2 * limits concurrent .procs
 abbrev pub threadFrames : ℕ
 threadFrames = suc (limits concurrent .procs)
 
--- "T not 1..8"
+-- "T not 1..32"
 abbrev pub mostThreads : ℕ
 mostThreads = limits concurrent .threads
 
@@ -51,7 +51,7 @@ mostLocations = limits sequential .places
 abbrev pub startWords : ℕ
 startWords = suc mostLocations
 
--- "all sizes together over .. (sequential 8,192)"
+-- "all sizes together over .. (sequential 16,384)"
 abbrev pub cellWords : ℕ
 cellWords = limits sequential .cells
 

@@ -23,26 +23,26 @@ pub const CONCURRENT: Limits = Limits {
     procedures: 16,
     locations: 64,
     fewest: 1,
-    threads: 8,
+    threads: 32,
     locals: 16,
     cells: 2048,
 };
 
 pub const SEQUENTIAL: Limits = Limits {
     bytes: 65536,
-    procedures: 512,
+    procedures: 1024,
     locations: 512,
     fewest: 0,
     threads: 0,
     locals: 32,
-    cells: 8192,
+    cells: 16384,
 };
 
 // "size not 1..256".
 pub const LARGEST: u16 = 256;
 
-// "concurrent: over 400 labels".
-pub const LABELS: usize = 400;
+// "concurrent: over 1,000 labels".
+pub const LABELS: usize = 1000;
 
 // "schedule over 4,096 entries".
 pub const ENTRIES: usize = 4096;
