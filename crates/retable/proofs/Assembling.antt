@@ -204,7 +204,7 @@ stands-put {l} {bs} {l′} {r} P fits few =
     subst (Stands l′ 0 bs) (sym (P .next (omega arith))) (stands-at l′ 0 bs (drop (0 + length bs) l) wrote (omega arith))
 
 module _ {x o o₁ o₂ : List ℕ} {row row₁ : List ℕ} {q : ℕ} {f : Found} {c : Coded} (F : Finds x f) (D : ParsesDefinitions x (f .next) (f .procedures) o 0 row 0 o₁ row₁ c)
-    (wide : length row ≡ 3072) (M : PutsMiddle x row₁ (c .row) o₁ (c .to) o₂ q) where
+    (wide : length row ≡ recordSize * limits sequential .procs) (M : PutsMiddle x row₁ (c .row) o₁ (c .to) o₂ q) where
   -- everything before the trailer
   front-put : (p : Program Plain) → Sound sequential p → x ≡ text p → Put o 0 (front p) o₂ q
   front-put p s e =

@@ -115,7 +115,7 @@ module _ {x : List ℕ} {i h : ℕ} {o : List ℕ} {p j k : ℕ} {o₁ : List �
           rw (none .0) (record { count = omega arith; puts = put-none; ends = sym (none .1) })
 
   -- as many as there may be
-  pub sizes-full : 512 ≤ k → ParsesSizes x i h o p o₁ (record { count = k; next = j; to = q })
+  pub sizes-full : limits sequential .places ≤ k → ParsesSizes x i h o p o₁ (record { count = k; next = j; to = q })
   sizes-full f = F .back (record { gives = go })
     where
       go : (ss : List ℕ) (n : ℕ) → LocationsText x j k ss n → k + length ss ≤ limits sequential .places

@@ -164,7 +164,7 @@ module _ {x : List ℕ} {i a j b : ℕ} (F : DeclaredFrom x i a j b) where
       go (p ∷ ps) k d few l = absurd (f (at-once x j e ∙ first (d .stands)))
 
   -- as many as there may be
-  pub declared-full : 512 ≤ b → SkipsDeclarations x i a (record { count = b; next = j })
+  pub declared-full : limits sequential .procs ≤ b → SkipsDeclarations x i a (record { count = b; next = j })
   declared-full f = F .back (record { gives = go })
     where
       go : (ps : List (Proc Plain)) (k : ℕ) → DeclarationsText x j b ps k → Each Few ps → b + length ps ≤ limits sequential .procs

@@ -1,6 +1,8 @@
 -- `retable::frames::skip_declarations` meets its contract.
 use borrow.Author.Needs.{needs}
 use Prim.Native.Nat.{_-_}
+use Rattle.format.specs.Syntax.{sequential}
+use Rattle.format.specs.Rules.{limits}
 use Rattle.retable.proofs.Heading.{DeclaredFrom, declared-ways}
 use Rattle.retable.proofs.frames.skip_declarations.Statement.{statement}
 use Rattle.retable.proofs.frames.skip_declarations.Tie as tie
@@ -12,7 +14,7 @@ abbrev Inv-loop : tie.InvT-loop
 Inv-loop x at i₀ count₀ i count = DeclaredFrom x at 0 i count
 
 abbrev μ-loop : tie.MeasureT-loop
-μ-loop x at i₀ count₀ i count = 512 - count
+μ-loop x at i₀ count₀ i count = limits sequential .procs - count
 
 pub skip-declarations-spec : {M : Type 1} → statement M
 skip-declarations-spec =
