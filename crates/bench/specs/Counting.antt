@@ -18,7 +18,7 @@ pub record SaysPower (b n r : ℕ) : Type 0 where
   pub none : r ≡ 0 → suc mostAllotments ≤ b ^ n
   pub some : (r ≡ 0 → ⊥) → (r ≡ b ^ n) × (r ≤ mostAllotments)
 
--- "T not 1..8"
+-- "T not 1..32"
 pub record Threads (T : ℕ) : Type 0 where
   pub some : 1 ≤ T
   pub few : T ≤ mostThreads

@@ -41,7 +41,7 @@ const LONGEST_EVENTS: usize = EVENT * ENTRIES;
 
 const LONGEST_OUT: usize = 70000;
 
-// There are longer texts, of up to 2,720,503 bytes: so large an array is more than the prover can look at.
+// There are longer texts, of up to 3,373,119 bytes: so large an array is more than the prover can look at.
 const LONGEST_TEXT: usize = 524288;
 
 // No batch has more requests: the loop over them ends.

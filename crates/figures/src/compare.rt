@@ -1,7 +1,7 @@
 // Translates a program, runs it and its copy, and tells both runs' figures.
 //
 // Stack, beside what the lower calls use: 65,536 bytes for the copy's table; while the program runs, 10,240 for its cells; while the
-// copy runs, 40,960 for its cells. The figures have only the number of events, so the event buffers are empty.
+// copy runs, 81,920 for its cells. The figures have only the number of events, so the event buffers are empty.
 use super::refused;
 use agreement::Figures;
 use basics::numbers::BUDGET;

@@ -59,7 +59,7 @@ fn judge(table: &[u8], shape: Shape, kind: Kind) -> ReadAnswer
 {
     if names_right(table, shape.locations, shape.procedures, shape.records) {
         let labels = labels_of(table, shape, kind);
-        // "concurrent: over 400 labels"
+        // "concurrent: over 1,000 labels"
         if LABELS < labels {
             return refused(6);
         }

@@ -117,7 +117,7 @@ module _ {ps : List (Proc Plain)} {ls bs : List ℕ} where
     procs-below none = tt
     procs-below (more {f = f} F c w S) = (at-below ps (f .proc) (F .found), procs-below S)
 
-    -- "P not 1..512": the stack has no more frames than the program has procedures
+    -- "P not 1..1,024": the stack has no more frames than the program has procedures
     pub stacked-few : {k : ℕ} {s : Stack Plain} → Stacked ps ls bs k s → length s ≤ length ps
     stacked-few {s = s} S =
         omega (arith, length-map s (λ (f : Frame Plain). f .proc), distinct-below (length ps) (procsOf s) (distinct S) (procs-below S))

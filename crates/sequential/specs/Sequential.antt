@@ -38,7 +38,7 @@ use Rattle.basics.specs.Sizes.{stackFrames}
 
 -- ---- what a run keeps
 
--- "P not 1..512": no procedure runs twice in a stack, so there are at most so many frames
+-- "P not 1..1,024": no procedure runs twice in a stack, so there are at most so many frames
 abbrev pub mostFrames : ℕ
 mostFrames = limits sequential .procs
 

@@ -95,7 +95,7 @@ fn within(low: u16, high: u16, n: u16) -> bool
     n <= high
 }
 
-// "over 16,384 bytes, P not 1..16, M over 64, T not 1..8".
+// "over 16,384 bytes, P not 1..16, M over 64, T not 1..32".
 fn right_counts(table: &[u8], trailer: Trailer, kind: Kind) -> bool
     ensures { λ r. ⌜ CountsTest (kindOf kind) (now (table .entry)) (trailerOf trailer) r ⌝ }
 {
