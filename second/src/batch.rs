@@ -47,7 +47,7 @@ const HEADER: usize = 36;
 /// The lengths that a program without a heap has to be ready for.
 pub const LONGEST_TABLE: usize = 66_000;
 pub const LONGEST_SCHEDULE: usize = 5_000;
-pub const LONGEST_CELLS: u32 = 45_000;
+pub const LONGEST_CELLS: u32 = 86_000;
 /// An event for each entry of the longest schedule that is run.
 pub const LONGEST_EVENTS: u32 = EVENT as u32 * 4_096;
 pub const LONGEST_OUT: u32 = 70_000;

@@ -310,6 +310,14 @@ fn others() -> Vec<Benched> {
             &[0, 1],
             &[0],
         ),
+        found(
+            "19 threads",
+            &blocks_after(0, 19),
+            (1, 1),
+            1,
+            &[0, 0, 0, 0, 0, 0, 0, 0, 0, 0, 0, 0, 0, 0, 0, 0, 0, 0, 1],
+            &[0],
+        ),
         none("no thread ends", &spins(3), (2, 3), &[]),
         none("eight threads that never end", &spins(8), (1, 1), &[]),
         none("the last run's cells", &counts_up(), (1, 3), &[2, 2]),
@@ -322,7 +330,10 @@ fn others() -> Vec<Benched> {
 fn refused_bounds() -> Vec<Benched> {
     let (b, three) = (table(&b()), table(&spins(3)));
     let (seven, eight) = (table(&spins(7)), table(&spins(8)));
+    let (twenty, all) = (table(&spins(20)), table(&spins(32)));
     vec![
+        refused("20 threads", &twenty, (1, 1), 13),
+        refused("32 threads", &all, (1, 1), 13),
         refused("no round", &A, (0, 1), 13),
         refused("no round of 64 steps", &b, (0, 64), 13),
         refused("no step", &A, (1, 0), 13),

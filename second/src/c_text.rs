@@ -7,8 +7,8 @@ use crate::value::Value;
 /// "It is the same for every table."
 pub const PRELUDE: &str = include_str!("prelude.h");
 
-/// "the longest text has 2,720,503 bytes"
-pub const LONGEST: usize = 2_720_503;
+/// "the longest text has 3,373,119 bytes"
+pub const LONGEST: usize = 3_373_119;
 
 /// "text = PRELUDE location* `const z_area z_areas[] = {\n` area* `  { 0, 0 }\n};\n\n`
 /// declaration* definition*"

@@ -288,20 +288,20 @@ fn high_labels() -> Vec<Traced> {
         vec![assign(0, location(0))],
         skip(253),
         touch(),
-        skip(140),
+        skip(740),
         vec![assign(0, location(0))],
         touch(),
     ]
     .concat();
     let entries = vec![0; body.len() + 1];
     let long = one_thread(1, body);
-    // Each of 512 procedures calls the next; some write.
+    // Each of 1,024 procedures calls the next; some write.
     let chain = |number: u16| {
         let mut code = vec![assign(0, location(0))];
-        if [0, 1, 255, 256, 257, 511].contains(&number) {
+        if [0, 1, 255, 256, 257, 511, 1_023].contains(&number) {
             code.extend(touch());
         }
-        if number < 511 {
+        if number < 1_023 {
             code.push(call(number + 1, vec![]));
         }
         if number == 300 {
@@ -310,10 +310,12 @@ fn high_labels() -> Vec<Traced> {
         }
         procedure(0, 1, code)
     };
-    let chain = program((0..512).map(chain).collect(), &[2], &[]);
-    let numbers = [0, 0, 1, 1, 255, 255, 256, 256, 257, 257, 511, 511, 300, 300];
+    let chain = program((0..1_024).map(chain).collect(), &[2], &[]);
+    let numbers = [0, 1, 255, 256, 257, 511, 1_023, 300]
+        .map(|n| [n, n])
+        .concat();
     vec![
-        of("label 398", &long, &entries, &[255, 256, 398, 399]),
-        of("512 procedures", &chain, &[], &numbers),
+        of("label 998", &long, &entries, &[255, 256, 998, 999]),
+        of("1,024 procedures", &chain, &[], &numbers),
     ]
 }

@@ -37,4 +37,5 @@ pub mod text_samples;
 pub mod translate;
 pub mod value;
 pub mod verdict;
+pub mod wide_samples;
 pub mod write;

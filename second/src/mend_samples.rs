@@ -109,7 +109,7 @@ fn several_choices() -> Vec<Worn> {
     let lost = |name, program: &Program| is_lost(name, Kind::Concurrent, &table(program), 15);
     vec![
         lost("three mains, three choices", &two_empty(0, &[], &[1; 3])),
-        lost("eight mains, eight choices", &two_empty(0, &[], &[1; 8])),
+        lost("32 mains, 32 choices", &two_empty(0, &[], &[1; 32])),
         lost(
             "the first main could be a size",
             &two_empty(0, &[], &[1, 0]),
@@ -118,7 +118,7 @@ fn several_choices() -> Vec<Worn> {
             "the last size could be a main",
             &two_empty(0, &[9, 1], &[0]),
         ),
-        lost("63 locations, or 64", &two_empty(0, &[1; 63], &[1; 8])),
+        lost("63 locations, or 64", &two_empty(0, &[1; 63], &[1; 32])),
         lost(
             "2,048 cells, or fewer",
             &two_empty(0, &[256, 256, 256, 256, 256, 256, 256, 255, 1], &[0]),
@@ -133,16 +133,18 @@ fn one_choice() -> Vec<Worn> {
         procedures: vec![procedure(0, 0, vec![]); 5],
         ..two_empty(0, &[5], &[4])
     };
-    let most = program(vec![procedure(0, 0, vec![]); 512], &[16; 512], &[]);
+    let mut all_but_the_first = [1; 32];
+    all_but_the_first[0] = 0;
+    let most = program(vec![procedure(0, 0, vec![]); 1_024], &[32; 512], &[]);
     vec![
         back("a size that is P", &two_empty(0, &[2], &[1])),
         back("procedure 1 has a parameter", &two_empty(1, &[1], &[0])),
         back("main 0 is no size", &two_empty(0, &[256], &[0, 0, 0])),
         back(
-            "64 locations and 8 threads",
-            &two_empty(0, &[1; 64], &[1; 8]),
+            "64 locations and 32 threads",
+            &two_empty(0, &[1; 64], &[1; 32]),
         ),
-        back("8 threads", &two_empty(0, &[3], &[0, 1, 1, 1, 1, 1, 1, 1])),
+        back("32 threads", &two_empty(0, &[3], &all_but_the_first)),
         back("main 1 is no cell 2,049", &two_empty(0, &[256; 8], &[1, 0])),
         back("five procedures", &five),
         comes_back(
@@ -150,7 +152,7 @@ fn one_choice() -> Vec<Worn> {
             Kind::Sequential,
             table(&two_empty(0, &[1, 1, 1], &[])),
         ),
-        comes_back("512 of each", Kind::Sequential, table(&most)),
+        comes_back("1,024 and 512", Kind::Sequential, table(&most)),
     ]
 }
 
@@ -158,12 +160,12 @@ fn one_choice() -> Vec<Worn> {
 fn short_ones() -> Vec<Worn> {
     let one_empty = |mains: &[u16]| table(&program(vec![procedure(0, 0, vec![])], &[], mains));
     let mut all = Vec::new();
-    for length in 0..=48 {
+    for length in 0..=96 {
         for kind in [Kind::Concurrent, Kind::Sequential] {
             let outcome = match (kind, length) {
                 (_, 0..=15) => Outcome::Refused(1),
-                // 1 + 6 + 2T + 16 with T from 1 to 8
-                (Kind::Concurrent, 25..=39) if length % 2 == 1 => {
+                // 1 + 6 + 2T + 16 with T from 1 to 32
+                (Kind::Concurrent, 25..=87) if length % 2 == 1 => {
                     Outcome::Mended(one_empty(&vec![0; (length - 23) / 2]))
                 }
                 (Kind::Sequential, 23) => Outcome::Mended(one_empty(&[])),

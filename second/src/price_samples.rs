@@ -290,31 +290,32 @@ fn labels_inside() -> Priced {
     }
 }
 
-/// 400 labels of 16 procedures.
+/// 1,000 labels of 16 procedures.
 fn last_labels() -> Priced {
-    let body = |i: usize| vec![if_else(truth(true), vec![], vec![]); 24 - i % 2];
+    let body = |i: usize| vec![if_else(truth(true), vec![], vec![]); 61 + i % 2];
     let procedures = (0..16).map(|i| procedure(0, 0, body(i)));
     let mut program = program(procedures.collect(), &[], &[15]);
-    // 16 ends, 8 times 24 and 8 times 23 tests: 392 labels.
+    // 16 ends, 8 times 61 and 8 times 62 tests: 1,000 labels.
+    program.procedures[15].body.truncate(54);
     program.procedures[15].body.extend(vec![atomic(vec![]); 8]);
     Priced {
-        name: "400 labels",
+        name: "1,000 labels",
         program,
         prices: vec![
             (1, only(3)),
-            (24, only(3)),
-            (25, only(4)),
-            (26, only(3)),
-            (49, only(4)),
+            (61, only(3)),
+            (62, only(4)),
+            (63, only(3)),
+            (125, only(4)),
             (255, only(3)),
             (256, only(3)),
             (257, only(3)),
-            (367, only(3)),
-            (368, only(4)),
-            (391, only(3)),
-            (392, only(2)),
-            (399, only(2)),
-            (400, only(4)),
+            (937, only(4)),
+            (938, only(3)),
+            (991, only(3)),
+            (992, only(2)),
+            (999, only(2)),
+            (1_000, only(4)),
         ],
     }
 }

@@ -170,7 +170,7 @@ fn random_mains(signatures: &[Signature], random: &mut Random) -> Vec<u16> {
     let starters: Vec<u16> = (0..signatures.len() as u16)
         .filter(|number| signatures[usize::from(*number)].parameters == 0)
         .collect();
-    let threads = random.pick(&[1, 2, 2, 2, 3, 3, 4, 8]);
+    let threads = random.pick(&[1, 2, 2, 2, 3, 3, 4, 8, 32]);
     (0..threads).map(|_| random.pick(&starters)).collect()
 }
 

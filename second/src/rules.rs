@@ -85,9 +85,9 @@ fn counts_hold_in_expression(
     }
 }
 
-/// "6: concurrent: over 400 labels"
+/// "6: concurrent: over 400 labels"; request #110: "labels to 1,000"
 pub fn refusal_6(program: &Program) -> Result<(), u8> {
-    refuse_unless(labels::of_program(program) <= 400, 6)
+    refuse_unless(labels::of_program(program) <= 1_000, 6)
 }
 
 /// "7: some procedure can reach itself by calls"

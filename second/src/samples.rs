@@ -144,27 +144,30 @@ fn accepted() -> Vec<Judged> {
     shelf.bytes("A", A.to_vec());
     shelf.program("B", b());
     accepted_of_both(&mut shelf);
-    shelf.program("400 labels", one_thread(1, assignments(399)));
-    shelf.program("400 labels of 16 procedures", sixteen_procedures(384));
+    shelf.program("1,000 labels", one_thread(1, assignments(999)));
+    shelf.program("1,000 labels of 16 procedures", sixteen_procedures(984));
     shelf.body("an empty atomic block", vec![atomic(vec![])]);
     shelf.body(
         "an atomic block sets",
         vec![atomic(vec![assign(0, number(1))]), assign(1, local(0))],
     );
-    shelf.fields("16 locals, 64 locations, 2,048 cells, 8 threads", |f| {
+    shelf.fields("16 locals, 64 locations, 2,048 cells, 32 threads", |f| {
         f.records[0].1 = 16;
         f.sizes = vec![32; 64];
-        f.mains = vec![0; 8];
+        f.mains = vec![0; 32];
     });
     shelf.bytes("16,384 bytes", table_of_length(Kind::Concurrent, 16_384));
     let mut sequentials = Shelf::new(Kind::Sequential, 0);
     accepted_of_both(&mut sequentials);
-    sequentials.program("401 labels do not matter", sequential(1, assignments(400)));
-    sequentials.fields("32 locals, 512 locations, 8,192 cells", |f| {
+    sequentials.program(
+        "1,001 labels do not matter",
+        sequential(1, assignments(1_000)),
+    );
+    sequentials.fields("32 locals, 512 locations, 16,384 cells", |f| {
         f.records[0].1 = 32;
-        f.sizes = vec![16; 512];
+        f.sizes = vec![32; 512];
     });
-    sequentials.program("512 procedures in a chain", chain_of_calls(512));
+    sequentials.program("1,024 procedures in a chain", chain_of_calls(1_024));
     sequentials.body(
         "select in while and if",
         vec![
@@ -271,8 +274,11 @@ pub fn table_of_length(kind: Kind, length: usize) -> Vec<u8> {
     make(fours, (rest - 4 * fours) / 3)
 }
 
-/// The steps that 8 threads take together until the deepest concurrent program is finished.
-pub const DEEPEST_STEPS: usize = 8 * (15 * 16 + 3 + 15);
+/// The last 8 of the deepest program's threads take turns until they are finished.
+pub fn deepest_turns() -> Vec<u8> {
+    let steps = 8 * (15 * 16 + 3 + 15);
+    (0..steps).map(|step| 24 + (step % 8) as u8).collect()
+}
 
 /// Everything as deep and as wide as the rules allow: as many procedures as there may be, each with
 /// all its locals, calling in a row; each call of a concurrent program, and the last write of either,
@@ -280,7 +286,7 @@ pub const DEEPEST_STEPS: usize = 8 * (15 * 16 + 3 + 15);
 pub fn deepest(kind: Kind) -> Program {
     let (procedures, parameters, locals) = match kind {
         Kind::Concurrent => (16, 15, 16),
-        Kind::Sequential => (512, 4, 32),
+        Kind::Sequential => (1_024, 2, 32),
     };
     let procedures = (0..procedures).map(|i| {
         let body = match (i + 1 < procedures, kind) {
@@ -292,8 +298,8 @@ pub fn deepest(kind: Kind) -> Program {
     });
     let procedures = procedures.collect();
     match kind {
-        Kind::Concurrent => program(procedures, &[32; 64], &[0; 8]),
-        Kind::Sequential => program(procedures, &[16; 512], &[]),
+        Kind::Concurrent => program(procedures, &[32; 64], &[0; 32]),
+        Kind::Sequential => program(procedures, &[32; 512], &[]),
     }
 }
 
@@ -360,12 +366,12 @@ fn right_distance(fields: &Fields) -> u32 {
 }
 
 /// "2: concurrent: over 16,384 bytes, P not 1..16, M over 64, T not 1..8. Sequential: over 65,536
-/// bytes, P not 1..512, M over 512, T not 0"
+/// bytes, P not 1..512, M over 512, T not 0"; T and P by request #110
 fn number_2(kind: Kind) -> Vec<Judged> {
     let mut shelf = Shelf::new(kind, 2);
     let (p, m, length) = match kind {
         Kind::Concurrent => (17, 65, 16_385),
-        Kind::Sequential => (513, 513, 65_537),
+        Kind::Sequential => (1_025, 513, 65_537),
     };
     shelf.fields("P is 0", |f| f.records.clear());
     shelf.fields("P is one too many", |f| {
@@ -378,7 +384,8 @@ fn number_2(kind: Kind) -> Vec<Judged> {
     match kind {
         Kind::Concurrent => {
             shelf.fields("T is 0", |f| f.mains.clear());
-            shelf.fields("T is 9", |f| f.mains = vec![0; 9]);
+            shelf.fields("T is 33", |f| f.mains = vec![0; 33]);
+            shelf.fields("T is 256", |f| f.mains = vec![0; 256]);
         }
         Kind::Sequential => {
             shelf.fields("T is 1", |f| f.mains = vec![0]);
@@ -393,13 +400,13 @@ fn number_2(kind: Kind) -> Vec<Judged> {
 }
 
 /// "3: parameters over locals; locals over 16 (sequential 32); size not 1..256; all sizes together
-/// over 2,048 (sequential 8,192); a main that is not below P or has parameters (sequential:
-/// procedure 0)"
+/// over 2,048 (sequential 8,192; since request #110 16,384); a main that is not below P or has
+/// parameters (sequential: procedure 0)"
 fn number_3(kind: Kind) -> Vec<Judged> {
     let mut shelf = Shelf::new(kind, 3);
     let (locals, cells) = match kind {
         Kind::Concurrent => (17, 2_048),
-        Kind::Sequential => (33, 8_192),
+        Kind::Sequential => (33, 16_384),
     };
     shelf.fields("parameters over locals", |f| f.records[1].0 = 4);
     shelf.fields("one local too many", |f| f.records[0].1 = locals);
@@ -565,14 +572,14 @@ fn number_5(kind: Kind) -> Vec<Judged> {
     shelf.tables
 }
 
-/// "6: concurrent: over 400 labels"
+/// "6: concurrent: over 400 labels"; request #110: "labels to 1,000"
 fn number_6() -> Vec<Judged> {
     let mut shelf = Shelf::new(Kind::Concurrent, 6);
-    shelf.program("401 labels", one_thread(1, assignments(400)));
-    shelf.program("401 labels of 16 procedures", sixteen_procedures(385));
-    let half = assignments(199);
+    shelf.program("1,001 labels", one_thread(1, assignments(1_000)));
+    shelf.program("1,001 labels of 16 procedures", sixteen_procedures(985));
+    let half = assignments(499);
     shelf.program(
-        "401 labels in both branches",
+        "1,001 labels in both branches",
         one_thread(
             1,
             vec![
@@ -582,12 +589,12 @@ fn number_6() -> Vec<Judged> {
         ),
     );
     shelf.program(
-        "401 labels in a while",
-        one_thread(1, vec![while_do(truth(true), assignments(399))]),
+        "1,001 labels in a while",
+        one_thread(1, vec![while_do(truth(true), assignments(999))]),
     );
     shelf.program(
-        "401 empty atomic blocks and ends",
-        one_thread(0, vec![atomic(vec![]); 400]),
+        "1,001 empty atomic blocks and ends",
+        one_thread(0, vec![atomic(vec![]); 1_000]),
     );
     shelf.program("2,001 labels", one_thread(1, assignments(2_000)));
     shelf.tables
@@ -616,8 +623,8 @@ fn number_7(kind: Kind) -> Vec<Judged> {
     let ring: Vec<_> = (0..16).map(|i| calls(&[(i + 1) % 16])).collect();
     loops("a ring of 16", ring);
     if kind == Kind::Sequential {
-        let ring: Vec<_> = (0..512).map(|i| calls(&[(i + 1) % 512])).collect();
-        loops("a ring of 512", ring);
+        let ring: Vec<_> = (0..1_024).map(|i| calls(&[(i + 1) % 1_024])).collect();
+        loops("a ring of 1,024", ring);
         let all: Vec<u16> = (1..64).collect();
         let mut many: Vec<_> = (1..64).map(|i| calls(&all[i - 1..])).collect();
         many.insert(0, calls(&[1]));
@@ -740,12 +747,12 @@ fn smallest_number(kind: Kind) -> Vec<Judged> {
     if kind == Kind::Concurrent {
         let mut shelf = Shelf::new(kind, 6);
         let mut body = vec![call(0, vec![])];
-        body.extend(assignments(400));
+        body.extend(assignments(1_000));
         shelf.program("6 before 7", with_kind(kind, vec![procedure(0, 1, body)]));
         let mut shelf_5 = Shelf::new(kind, 5);
         shelf_5.program(
             "5 before 6",
-            with_kind(kind, vec![procedure(0, 0, assignments(400))]),
+            with_kind(kind, vec![procedure(0, 0, assignments(1_000))]),
         );
         all.extend(shelf.tables);
         all.extend(shelf_5.tables);
@@ -778,7 +785,7 @@ pub fn number_9() -> Vec<Judged> {
     let body = vec![assign(0, number(0)), assign(1, number(0)), atomic(copies)];
     shelf.program(
         "3,300 copies in an atomic block",
-        program(vec![procedure(0, 2, body)], &[], &[0; 8]),
+        program(vec![procedure(0, 2, body)], &[], &[0; 32]),
     );
     let reads = vec![read(1, 0, local(1)); 1_500];
     let branch = if_else(truth(true), reads.clone(), reads[..600].to_vec());

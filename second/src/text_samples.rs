@@ -158,32 +158,33 @@ fn blocks() -> Program {
     of_bodies(vec![(0, 1, body), (0, 0, empty)], &[])
 }
 
-/// 512 procedures and 512 locations.
+/// 1,024 procedures and 512 locations.
 fn three_digits() -> Program {
     let main = vec![
+        call(1_023, vec![]),
         call(511, vec![]),
         call(99, vec![]),
         select(511, 100),
         assign(0, location(511)),
     ];
     let mut procedures: Vec<Procedure> = vec![procedure(0, 1, main)];
-    procedures.extend(vec![procedure(0, 0, vec![]); 511]);
-    program(procedures, &[16; 512], &[])
+    procedures.extend(vec![procedure(0, 0, vec![]); 1_023]);
+    program(procedures, &[32; 512], &[])
 }
 
 /// The program of the longest text: 32 parameters cost no byte of a table, and nothing is longer for
 /// its bytes than an empty if at depth 15.
 pub fn longest() -> Program {
-    let mut body = vec![if_else(truth(false), vec![], vec![]); 15_473];
+    let mut body = vec![if_else(truth(false), vec![], vec![]); 14_577];
     for depth in (1..=14).rev() {
         body = match depth {
             13 | 14 => vec![if_else(truth(false), body, vec![])],
             _ => vec![while_do(truth(false), body)],
         };
     }
-    let mut procedures = vec![procedure(32, 32, vec![]); 512];
+    let mut procedures = vec![procedure(32, 32, vec![]); 1_024];
     procedures[0].parameters = 0;
-    procedures[511].body = body;
+    procedures[1_023].body = body;
     program(procedures, &[], &[])
 }
 
@@ -405,9 +406,9 @@ pub fn refused_long_programs() -> Vec<Foreign> {
     };
     let many = vec![assign(0, truth(true)); 22_000];
     vec![
-        of(of_bodies(vec![(0, 0, vec![]); 513], &[])),
+        of(of_bodies(vec![(0, 0, vec![]); 1_025], &[])),
         of(of_bodies(vec![(0, 0, vec![])], &[1; 513])),
-        of(of_bodies(vec![(0, 0, vec![])], &[256; 33])),
+        of(of_bodies(vec![(0, 0, vec![])], &[256; 65])),
         of(of_bodies(vec![(0, 1, many)], &[])),
         of(of_bodies(vec![(0, 0, vec![]); 65_537], &[])),
     ]

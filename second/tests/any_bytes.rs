@@ -13,7 +13,7 @@ use second::write;
 /// Gives a table to every call. Answers whether a reader accepted it.
 fn give_to_all_calls(bytes: &[u8], schedule: &[u8]) -> bool {
     let mut out = vec![3; 66_000];
-    let mut cells = vec![3; 45_000];
+    let mut cells = vec![3; 86_000];
     let mut events = vec![3; 500];
     let concurrent = read_concurrent(bytes);
     let sequential = read_sequential(bytes);
@@ -41,7 +41,7 @@ fn give_to_all_calls(bytes: &[u8], schedule: &[u8]) -> bool {
         assert!(cells.iter().chain(&events).all(|byte| *byte == 3));
     }
 
-    let (mut cells, mut events) = (vec![3; 45_000], vec![3; 500]);
+    let (mut cells, mut events) = (vec![3; 86_000], vec![3; 500]);
     let ran = run_sequential(bytes, schedule, 2_000, 3, &mut cells, &mut events);
     only_blocked_runs_have_a_reason(&ran);
     if ran.number != 0 {
@@ -61,7 +61,7 @@ fn give_to_other_calls(bytes: &[u8], schedule: &[u8]) {
     let concurrent = read_concurrent(bytes).number;
     let sequential = read_sequential(bytes).number;
     assert_eq!(prices(bytes, 1).number, concurrent);
-    let (mut cells, mut events) = (vec![3; 45_000], vec![3; 500]);
+    let (mut cells, mut events) = (vec![3; 86_000], vec![3; 500]);
     let ran = run_plain(bytes, schedule, &mut cells, &mut events);
     only_blocked_runs_have_a_reason(&ran);
     if ran.number != 0 {

@@ -197,7 +197,9 @@ fn random_programs_by_the_run_call() {
     let mut random = Random::new(103);
     for _ in 0..150 {
         let program = program_of(Kind::Concurrent, Scale::Small, &mut random);
-        if verdict(&table(&program), Kind::Concurrent).is_ok() {
+        // With more threads no bounds have so few allotments.
+        let few = program.mains.len() <= 8;
+        if few && verdict(&table(&program), Kind::Concurrent).is_ok() {
             let (rounds, most) = some_bounds(program.mains.len(), 300, &mut random);
             hold(&program, rounds, most);
         }

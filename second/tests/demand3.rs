@@ -14,8 +14,9 @@ use second::placement::{self, Mode, MODES};
 use second::price;
 use second::program::{Instruction, Kind, Program};
 use second::random::{program_of, schedule_for, Random, Scale};
+use second::reason::Reason;
 use second::reason_samples::{self, blocks};
-use second::samples::{deepest, DEEPEST_STEPS};
+use second::samples::{deepest, deepest_turns};
 use second::sequential::{Next, Sequential};
 use second::translate::translate as translate_tree;
 use second::value::Value;
@@ -412,7 +413,7 @@ fn demand_3_on_many_random_programs() {
 fn demand_3_on_a_long_run() {
     let inner = vec![assign(0, truth(true)); 5_400];
     let body = vec![while_do(truth(true), vec![atomic(inner)])];
-    let program = program(vec![procedure(0, 1, body)], &[1], &[0; 8]);
+    let program = program(vec![procedure(0, 1, body)], &[1], &[0; 32]);
     let schedule = [0; 4_096];
     let length = write::table(&program, Kind::Concurrent).len() as u64;
     let copy = translate_tree(&program, Mode::Own);
@@ -421,18 +422,20 @@ fn demand_3_on_a_long_run() {
     assert_eq!(story.moments, copy_story.moments);
     assert_eq!((story.end, copy_story.end), (End::Used, End::Used));
     // 3T+2 and 1; L+2T+10 for each step; 3 for each test and 2 * 5,400 + 2 for each block.
-    let steps = 26 + 1 + 4_096 * (3 + 16 + 10) + 2_048 * (3 + 10_802);
+    let steps = 98 + 1 + 4_096 * (3 + 64 + 10) + 2_048 * (3 + 10_802);
     assert_eq!(copy_story.steps, steps);
     assert!(steps < BUDGET);
 }
 
-/// Everything as deep as it may be, all threads in turns up to the end.
+/// Everything as deep as it may be, the last eight threads in turns up to their end.
 #[test]
 fn demand_3_on_the_deepest_program() {
     let program = deepest(Kind::Concurrent);
-    let schedule: Vec<u8> = (0..DEEPEST_STEPS).map(|step| (step % 8) as u8).collect();
-    assert_eq!(check(&program, &schedule), End::Finished);
-    assert_eq!(check(&program, &schedule[1..]), End::Used);
+    let mut schedule = deepest_turns();
+    assert_eq!(check(&program, &schedule), End::Used);
+    schedule.push(31);
+    let finished = End::Blocked(Reason::FinishedThread);
+    assert_eq!(check(&program, &schedule), finished);
 }
 
 /// Programs whose procedures share locations, under schedules with each thread in turn.

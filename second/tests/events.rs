@@ -10,7 +10,7 @@ use second::samples::A;
 
 /// The answer and the event buffer, whose bytes were 200; cells have room.
 fn run(sample: &Traced, events: usize) -> (RunAnswer, Vec<u8>) {
-    let mut cells = vec![200; 45_000];
+    let mut cells = vec![200; 86_000];
     let mut events = vec![200; events];
     let (table, schedule) = (&sample.table, &sample.schedule);
     let answer = match sample.kind {
@@ -110,7 +110,7 @@ fn the_bytes_of_e() {
 
     let mut copy = vec![0; 517];
     assert_eq!(translate(&E, Mode::Own, &mut copy).length, 517);
-    let mut cells = [0; 45_000];
+    let mut cells = [0; 86_000];
     let mut events = [9; 40];
     let answer = run_sequential(&copy, &[0; 6], BUDGET, 1, &mut cells, &mut events);
     assert_eq!((answer.end, answer.steps, answer.events), (0, 153, 3));

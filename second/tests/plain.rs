@@ -12,7 +12,7 @@ use second::program::{Kind, Program};
 use second::random::{damaged, program_of, schedule_for, Random, Scale};
 use second::reason_samples::{self, blocks};
 use second::run_samples::ran;
-use second::samples::{b, deepest, judged, one_thread, DEEPEST_STEPS};
+use second::samples::{b, deepest, deepest_turns, judged, one_thread};
 use second::verdict::verdict;
 use second::write;
 
@@ -219,7 +219,7 @@ fn damaged_tables() {
 #[test]
 fn the_deepest_program() {
     let program = deepest(Kind::Concurrent);
-    let schedule: Vec<u8> = (0..DEEPEST_STEPS).map(|step| (step % 8) as u8).collect();
+    let schedule = deepest_turns();
     // Each if is alone in its row, which goes away before its block comes.
     assert_eq!(in_step(&program, &schedule), 1);
     both(&table(&program), &schedule, 10_240, 500);

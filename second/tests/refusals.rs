@@ -63,7 +63,7 @@ fn refuses_to_translate(sample: &Judged, room: usize) {
 #[test]
 fn refused_tables_are_refused_by_every_call_and_nothing_is_written() {
     for sample in judged().into_iter().filter(|sample| sample.number != 0) {
-        let mut cells = vec![7; 45_000];
+        let mut cells = vec![7; 86_000];
         let mut events = vec![7; 1_000];
         let answer = run(sample.kind, &sample.table, &mut cells, &mut events);
         assert_eq!(answer, refused_run(sample.number), "{}", sample.name);

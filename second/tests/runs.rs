@@ -36,7 +36,7 @@ fn named(name: &str) -> Vec<Ran> {
 #[test]
 fn each_run_gives_its_answer() {
     for sample in ran() {
-        let (answer, _, _) = run(&sample, 45_000, 20_000);
+        let (answer, _, _) = run(&sample, 86_000, 20_000);
         assert_eq!(answer, sample.answer, "{:?}: {}", sample.kind, sample.name);
     }
 }
@@ -45,12 +45,12 @@ fn each_run_gives_its_answer() {
 #[test]
 fn events_that_fit_whole_are_written() {
     for sample in ran() {
-        let (answer, cells, all) = run(&sample, 45_000, 20_000);
+        let (answer, cells, all) = run(&sample, 86_000, 20_000);
         let count = answer.events as usize;
         let exact = 13 * count;
         let rooms = [0, 1, 11, 12, 13, 14, 22, 25, 26, 27];
         for room in [&rooms[..], &[exact.saturating_sub(1), exact, exact + 12]].concat() {
-            let (other, other_cells, some) = run(&sample, 45_000, room);
+            let (other, other_cells, some) = run(&sample, 86_000, room);
             let whole = 13 * count.min(room / 13);
             assert_eq!((other, &other_cells), (answer, &cells));
             assert_eq!(some[..whole], all[..whole], "{}", sample.name);

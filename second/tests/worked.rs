@@ -11,6 +11,7 @@ use second::samples::{b, one_thread, A};
 use second::sequential::{Next, Sequential};
 use second::value::Value;
 use second::verdict::verdict;
+use second::wide_samples;
 
 const FINISHED: End = End::Finished;
 const USED: End = End::Used;
@@ -21,7 +22,7 @@ fn translation(table: &[u8]) -> Vec<u8> {
 
 fn run_copy(table: &[u8], schedule: &[u8]) -> RunAnswer {
     let read = read_concurrent(table);
-    let mut cells = vec![0; 45_000];
+    let mut cells = vec![0; 86_000];
     let h = read.locations as u32;
     run_sequential(
         &translation(table),
@@ -331,17 +332,30 @@ fn labels_answer(count: usize) -> ReadAnswer {
     read_concurrent(&table(&one_thread(1, body)))
 }
 
-/// "400 labels pass, 401 give 6."
+/// Request #110: "labels to 1,000".
 #[test]
-fn labels_400_and_401() {
+fn labels_1000_and_1001() {
     assert_eq!(
-        (labels_answer(400).number, labels_answer(400).labels),
-        (0, 400)
+        (labels_answer(1_000).number, labels_answer(1_000).labels),
+        (0, 1_000)
     );
     assert_eq!(
-        (labels_answer(401).number, labels_answer(401).labels),
+        (labels_answer(1_001).number, labels_answer(1_001).labels),
         (6, 0)
     );
+}
+
+/// Request #110: the new bounds and one beyond.
+#[test]
+fn wide_tables_with_their_lines() {
+    for sample in wide_samples::all() {
+        let line = line(&input(&sample.schedule, &sample.table));
+        assert_eq!(line, sample.line, "{}", sample.name);
+    }
+    let (board, thousand) = (&wide_samples::all()[0], &wide_samples::all()[5]);
+    assert_eq!((board.table.len(), thousand.table.len()), (87, 3_022));
+    let copies = [board, thousand].map(|sample| translation(&sample.table).len());
+    assert_eq!(copies, [1_723, 48_127]);
 }
 
 /// "Depth 16 passes, 17 gives 4."

@@ -67,11 +67,16 @@ fn refused_benches(batch: &mut Batch) {
     }
 }
 
-/// The deepest program, all cells, 400 labels, and threads that block behind many steps.
+/// The deepest program, all cells, and threads that block behind many steps.
 fn largest_benches(batch: &mut Batch) {
     let deep = table(&deepest(Kind::Concurrent));
     let cells = cell_bytes(Kind::Concurrent, &deep);
     batch.add(bench_case(&deep, 1, 1, cells));
+    let eight = Program {
+        mains: vec![0; 8],
+        ..deepest(Kind::Concurrent)
+    };
+    batch.add(bench_case(&table(&eight), 1, 1, cells));
     let chain = Program {
         mains: vec![0],
         ..deepest(Kind::Concurrent)
@@ -106,8 +111,11 @@ pub fn random_bench(number: usize, batch: &mut Batch, random: &mut Random) {
     batch.add(bench_case(&table, rounds, most, cells));
 }
 
-/// Bounds with some thousand allotments at most.
+/// Bounds with some thousand allotments at most, if there are so few.
 fn bench_bounds(threads: usize, random: &mut Random) -> (u64, u32) {
+    if threads > 12 {
+        return (1, 1);
+    }
     loop {
         let (rounds, most) = (random.between(1, 6), random.between(1, 20) as u32);
         let allotments = u64::from(most + 1).checked_pow((rounds * threads) as u32);

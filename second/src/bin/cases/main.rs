@@ -62,6 +62,7 @@ fn whole_batch(ops: Vec<u8>) -> Batch {
         ..Case::default()
     });
     worked(&mut batch);
+    wide(&mut batch);
     batch.section = "judged tables";
     judged_tables(&mut batch);
     batch.section = "long copies";
@@ -75,6 +76,7 @@ fn whole_batch(ops: Vec<u8>) -> Batch {
     batch.section = "schedules and cell buffers";
     schedules(&mut batch);
     cell_buffers(&mut batch);
+    all_cells(&mut batch);
     batch.section = "inputs of the run program";
     inputs(&mut batch);
     batch.section = "largest programs";
@@ -123,6 +125,7 @@ fn whole_batch(ops: Vec<u8>) -> Batch {
     batch.plainly(6, ands);
     batch.plainly(2, schedules);
     batch.plainly(1, cell_buffers);
+    batch.plainly(1, wide);
     batch.plainly(1, largest_programs);
     let mut random = Random::new(SEED + 109);
     batch.plainly(1, |batch| {

@@ -11,7 +11,7 @@ use second::place_samples::{c, edge_of_9, edge_of_9_in_the_old_mode, samples};
 use second::placement::Mode;
 use second::program::Kind;
 use second::random::{damaged, program_of, schedule_for, Random, Scale};
-use second::samples::{deepest, judged, number_9, translating_to, Judged, DEEPEST_STEPS};
+use second::samples::{deepest, deepest_turns, judged, number_9, translating_to, Judged};
 use second::verdict::verdict;
 use second::write;
 
@@ -48,7 +48,7 @@ pub fn placed_samples(batch: &mut Batch) {
         let turns: Vec<u8> = (0..60).map(|step| (step % threads) as u8).collect();
         batch.add(copy_run(&copy, &turns, 600));
     }
-    let turns: Vec<u8> = (0..DEEPEST_STEPS).map(|step| (step % 8) as u8).collect();
+    let turns = deepest_turns();
     let deep = table(&deepest(Kind::Concurrent));
     let copy = copy_in(Mode::Shared, &deep).expect("the deepest program has a copy");
     batch.add(shared_case(&deep, copy.len() as u32));

@@ -9,7 +9,7 @@ use second::line::BUDGET;
 use second::program::Kind;
 use second::reason_samples::{self, blocks};
 use second::run_samples::{ran, Ran};
-use second::samples::{b, deepest, one_thread, table_of_length, translating_to, DEEPEST_STEPS};
+use second::samples::{b, deepest, deepest_turns, one_thread, table_of_length, translating_to};
 
 /// Every run written by hand, with buffers too short by one byte, exact and longer, all shown.
 pub fn runs(batch: &mut Batch) {
@@ -149,18 +149,20 @@ pub fn schedules(batch: &mut Batch) {
     long_runs(batch);
 }
 
-/// 4,096 entries and 8 threads, with few labels and with 400.
+/// 4,096 entries and 32 threads, with few labels, with 400 and with 1,000.
 fn long_runs(batch: &mut Batch) {
     let spin = vec![while_do(truth(true), vec![])];
-    let few = program(vec![procedure(0, 0, spin)], &[1], &[0; 8]);
+    let few = program(vec![procedure(0, 0, spin)], &[1], &[0; 32]);
     let count = assign(0, add(local(0), number(1)));
     let body = vec![
         assign(0, number(0)),
         while_do(truth(true), vec![count; 397]),
     ];
-    let many = program(vec![procedure(0, 1, body)], &[1], &[0; 8]);
-    let entries: Vec<u8> = (0..4_096).map(|i| (i % 8) as u8).collect();
-    for source in [table(&few), table(&many)] {
+    let many = program(vec![procedure(0, 1, body)], &[1], &[0; 32]);
+    let entries: Vec<u8> = (0..4_096).map(|i| (i % 32) as u8).collect();
+    let body = vec![while_do(truth(true), vec![assign(0, truth(false)); 998])];
+    let most = program(vec![procedure(0, 1, body)], &[1], &[0; 32]);
+    for source in [table(&few), table(&many), table(&most)] {
         let copy = copy_of(&source).expect("an accepted table");
         let cells = cell_bytes(Kind::Sequential, &copy);
         batch.add(read_case(Kind::Concurrent, &source));
@@ -214,6 +216,14 @@ pub fn cell_buffers(batch: &mut Batch) {
     }
 }
 
+/// Number 12 of the most cells that a sequential table has.
+pub fn all_cells(batch: &mut Batch) {
+    let source = table(&program(vec![procedure(0, 0, vec![])], &[256; 64], &[]));
+    for cells in [0, 81_919, 81_920, 81_921] {
+        batch.add(run_case(Kind::Sequential, &source, &[], cells, 0));
+    }
+}
+
 /// Inputs of the run program that end early, say a wrong length or are too long.
 pub fn inputs(batch: &mut Batch) {
     let b = table(&b());
@@ -251,7 +261,7 @@ pub fn inputs(batch: &mut Batch) {
 
 /// The deepest programs and the longest tables, and runs of their copies.
 pub fn largest_programs(batch: &mut Batch) {
-    let turns: Vec<u8> = (0..DEEPEST_STEPS).map(|step| (step % 8) as u8).collect();
+    let turns = deepest_turns();
     let deep = table(&deepest(Kind::Concurrent));
     batch.add(read_case(Kind::Concurrent, &deep));
     batch.add(line_case(&turns, &deep));

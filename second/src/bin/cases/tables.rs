@@ -8,6 +8,7 @@ use second::calls::read_concurrent;
 use second::line::BUDGET;
 use second::program::Kind;
 use second::samples::{b, judged, number_9, one_thread, sequential, translating_to, Judged, A};
+use second::wide_samples;
 
 /// The paper's worked cases; labels, depths and schedules stand among the judged tables and runs.
 pub fn worked(batch: &mut Batch) {
@@ -36,6 +37,25 @@ pub fn worked(batch: &mut Batch) {
         batch.add(shown(line_case(schedule, source)));
     }
     ranges(batch);
+}
+
+/// The new bounds of request #110, and one beyond: each call, and its copy's run.
+pub fn wide(batch: &mut Batch) {
+    for sample in wide_samples::all() {
+        let (source, schedule) = (&sample.table, &sample.schedule);
+        batch.add(read_case(Kind::Concurrent, source));
+        batch.add(translate_case(source, 50_000));
+        batch.add(run_case(Kind::Concurrent, source, schedule, 0, 0));
+        batch.add(line_case(schedule, source));
+        if let Some(copy) = copy_of(source) {
+            let cells = cell_bytes(Kind::Sequential, &copy);
+            batch.add(read_case(Kind::Sequential, &copy));
+            batch.add(Case {
+                budget: BUDGET,
+                ..run_case(Kind::Sequential, &copy, schedule, cells, 0)
+            });
+        }
+    }
 }
 
 /// Both ends of the range of numbers.
