@@ -35,10 +35,10 @@ LONGEST_SCHEDULE = 5_000
 # The bytes of a cell and of an event.
 CELL, EVENT = 5, 13
 # Room for every accepted table: its cells, the longest copy, and as many events as an order has entries.
-CELL_ROOM = CELL * 8_192
+CELL_ROOM = CELL * 16_384
 EVENT_ROOM = EVENT * 4_096
 COPY_ROOM = 65_536
-# Room for a C text: there are longer ones, of up to 2,720,503 bytes, which the C library prints and reads.
+# Room for a C text: there are longer ones, of up to 3,373,119 bytes, which the C library prints and reads.
 TEXT_ROOM = LONGEST_TEXT
 # A change of the mender's list: its place (4 bytes), the old and the new byte. There are at most as many as the trailer has bytes.
 CHANGE = 6

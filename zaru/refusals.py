@@ -6,15 +6,15 @@ from typing import Dict, List
 
 REFUSALS = {
     1: "under 16 bytes; wrong kind marks, distance or length; distance over length - 16",
-    2: "concurrent: over 16,384 bytes, P not 1..16, M over 64, T not 1..8. "
-    "Sequential: over 65,536 bytes, P not 1..512, M over 512, T not 0",
+    2: "concurrent: over 16,384 bytes, P not 1..16, M over 64, T not 1..32. "
+    "Sequential: over 65,536 bytes, P not 1..1,024, M over 512, T not 0",
     3: "parameters over locals; locals over 16 (sequential 32); size not 1..256; "
-    "all sizes together over 2,048 (sequential 8,192); "
+    "all sizes together over 2,048 (sequential 16,384); "
     "a main that is not below P or has parameters (sequential: procedure 0)",
     4: "bodies aren't blocks as above, are too deep, hold an instruction not allowed there, "
     "leave a gap or differ from an offset",
     5: "a local, location or procedure not below its count; n not the callee's parameters",
-    6: "concurrent: over 400 labels",
+    6: "concurrent: over 1,000 labels",
     7: "some procedure can reach itself by calls",
     8: "a local may be read before it is set",
     9: "translator: the sequential table would pass 65,536 bytes",

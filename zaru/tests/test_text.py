@@ -135,7 +135,7 @@ class RoundTrip(unittest.TestCase):
         for kind, table in itertools.islice(accepted_tables(), 0, None, 2):
             counts[kind] += 1
             self.check_table(table)
-        self.assertGreater(min(counts.values()), 500, counts)
+        self.assertGreater(min(counts.values()), 400, counts)
 
 
 LOOSE_TEXT = """\
