@@ -65,7 +65,7 @@ static struct {
     const uint8_t *table, *schedule;
     size_t table_length, schedule_length, h, cells_length, events_length, out_length;
     uint64_t budget;
-    uint8_t cells[45056], events[4096 * ZARU_EVENT], out[ZARU_LONGEST_TEXT + 97], copy[66000];
+    uint8_t cells[86016], events[4096 * ZARU_EVENT], out[ZARU_LONGEST_TEXT + 97], copy[66000];
     uint64_t answer[ZARU_BENCH_NUMBERS];
 } job;
 

@@ -92,7 +92,7 @@ static size_t translations(void)
 static void runs(size_t length)
 {
     uint64_t answer[ZARU_RUN_NUMBERS];
-    uint8_t cells[40960], events[4 * ZARU_EVENT + 12];
+    uint8_t cells[ZARU_SEQUENTIAL_CELLS], events[4 * ZARU_EVENT + 12];
     memset(cells, 0xEE, sizeof cells);
     memset(events, 0xEE, sizeof events);
     zaru_run_concurrent(B, sizeof B, LOST, sizeof LOST, cells, 5, events, sizeof events, answer, ZARU_RUN_NUMBERS);
