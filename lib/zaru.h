@@ -59,16 +59,16 @@ enum { ZARU_CONCURRENT = 0, ZARU_SEQUENTIAL = 1, ZARU_CHANGE = 6, ZARU_LONGEST_L
 /* The bytes of stack that each call needs, measured and not proved: lib/stored.c makes each call on a thread that has exactly so many, on
  * every stored case, the deepest programs among them, and at least 8 KB are left. On a smaller stack the process ends by a fault in the
  * guard page: frames are touched page by page. The main thread has enough as a rule; another gets it by pthread_attr_setstacksize. */
-#define ZARU_STACK_READ (36 * 1024)
+#define ZARU_STACK_READ (32 * 1024)
 #define ZARU_STACK_TRANSLATE (72 * 1024)
 #define ZARU_STACK_RUN_CONCURRENT (240 * 1024)
 #define ZARU_STACK_RUN_PLAIN (304 * 1024)
 #define ZARU_STACK_RUN_SEQUENTIAL (552 * 1024)
 #define ZARU_STACK_BENCH (236 * 1024)
 #define ZARU_STACK_PRICES (60 * 1024)
-#define ZARU_STACK_MEND (36 * 1024)
-#define ZARU_STACK_C_TEXT (52 * 1024)
-#define ZARU_STACK_FROM_C_TEXT (132 * 1024)
+#define ZARU_STACK_MEND (32 * 1024)
+#define ZARU_STACK_C_TEXT (48 * 1024)
+#define ZARU_STACK_FROM_C_TEXT (128 * 1024)
 
 /* answer: number, procedures, locations, threads, labels (sequential: 0), cells. */
 void zaru_read_concurrent(const uint8_t *table, size_t table_length, uint64_t *answer, size_t answer_length);
