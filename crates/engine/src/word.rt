@@ -9,8 +9,18 @@ ghost use Rattle.engine.specs.Words.{held, valueIn};
 // "All cells start as number 0": the word of that number.
 pub const ZERO: u64 = 4294967296;
 
-// A kind byte counts so much.
-const KIND: u64 = 4294967296;
+// A kind byte counts so much: the words of numbers lie from here on.
+pub const KIND: u64 = 4294967296;
+
+// The word of "not set", and of an answer that there is none.
+pub const NOTHING: u64 = 0;
+
+// The words of false and true, and of location 0: those of locations lie from there on.
+pub const FALSE: u64 = 12884901888;
+
+pub const TRUE: u64 = 17179869184;
+
+pub const FIRST_LOCATION: u64 = 8589934592;
 
 // The word that holds a value.
 pub fn pack(v: Value) -> u64

@@ -4,6 +4,7 @@ use basics::numbers::BLOCKED;
 use basics::numbers::CALL;
 use basics::numbers::CELL_WORDS;
 use basics::numbers::END;
+use basics::numbers::EVENT;
 use basics::numbers::FINISHED;
 use basics::numbers::FRAME;
 use basics::numbers::FRAMES;
@@ -27,9 +28,13 @@ use engine::event::Event;
 use engine::locals;
 use engine::memory;
 use engine::table;
+use engine::word;
 use engine::word::ZERO;
 use jumps::ways;
+use quick::turn;
+use quick::turn::Quick;
 use semantics::RunAnswer;
+use value::Answer;
 use value::Value;
 ghost use mathlib.Core.Path.{_≡_};
 ghost use Prim.Native.Nat.{_+_, _^_, _≤_, _<_};
@@ -128,6 +133,29 @@ fn record_event(
         return count + 1;
     }
     count
+}
+
+// The same for the value that a word holds. What is only counted is not taken apart.
+fn record_word(
+    events: &mut [u8],
+    h: usize,
+    back: &[u32; FRAMES],
+    state: State,
+    writes: bool,
+    location: usize,
+    index: usize,
+    w: u64,
+) -> usize {
+    let count = state.events;
+    if location >= h {
+        return count;
+    }
+    if count < events.len() / EVENT {
+        if let Answer::Is(value) = word::unpack(w) {
+            return record_event(events, h, back, state, writes, location, index, value);
+        }
+    }
+    count + 1
 }
 
 // The state in which a run goes on at `at`, with so many frames and events.
@@ -251,6 +279,69 @@ fn carry_out(
     }
 }
 
+// Carries out a quick step: `carry_out` for the step that it stands for, or for several tests that fail.
+fn carry_words(
+    t: &[u8],
+    records: usize,
+    jumps: &[u16; LONGEST],
+    words: &mut [u64; LOCAL_WORDS],
+    cells: &mut [u64; CELL_WORDS],
+    back: &mut [u32; FRAMES],
+    events: &mut [u8],
+    h: usize,
+    state: State,
+    step: Quick,
+) -> State {
+    match step {
+        Quick::Assign { x, word, next } => {
+            words[FRAME * (state.depth - 1) + x] = word;
+            moved(
+                state,
+                ways::settle(t, jumps, next),
+                state.depth,
+                state.events,
+            )
+        }
+        Quick::Read {
+            x,
+            location,
+            index,
+            word,
+            next,
+        } => {
+            words[FRAME * (state.depth - 1) + x] = word;
+            let count = record_word(events, h, back, state, false, location, index, word);
+            moved(state, ways::settle(t, jumps, next), state.depth, count)
+        }
+        Quick::Write {
+            location,
+            index,
+            cell,
+            word,
+            next,
+        } => {
+            cells[cell] = word;
+            let count = record_word(events, h, back, state, true, location, index, word);
+            moved(state, ways::settle(t, jumps, next), state.depth, count)
+        }
+        Quick::Holds { next } => {
+            moved(
+                state,
+                ways::settle(t, jumps, next),
+                state.depth,
+                state.events,
+            )
+        }
+        Quick::Fails { at, steps: _ } => moved(state, at, state.depth, state.events),
+        Quick::Call { procedure, next } => {
+            let to = ways::settle(t, jumps, next);
+            let start = enter(t, records, words, back, state.depth, procedure, to);
+            moved(state, start, state.depth + 1, state.events)
+        }
+        Quick::Left => state,
+    }
+}
+
 // The step that is due: a select asks the schedule's next entry. For the rest this does what `step::decide` does: that has other callers,
 // and so would not be compiled into the loop.
 fn due(
@@ -349,6 +440,34 @@ fn go(
         }
         if steps == budget {
             return outcome(SPENT, 0, steps, state);
+        }
+        let base = FRAME * (state.depth - 1);
+        let fast = turn::decide(
+            t,
+            jumps,
+            words,
+            base,
+            starts,
+            cells,
+            state.at,
+            budget - steps,
+        );
+        let taken = turn::steps(fast);
+        if 0 < taken {
+            state = carry_words(
+                t,
+                records,
+                jumps,
+                words,
+                cells,
+                back,
+                events,
+                h,
+                state,
+                fast,
+            );
+            steps += taken;
+            continue;
         }
         if used_up(t, schedule, state) {
             return outcome(USED, 0, steps, state);

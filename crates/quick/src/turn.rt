@@ -1,0 +1,327 @@
+// The deciding half of a frequent step, by words: what `decide` answers, with the words of its values instead of the values, and with
+// the tests in a row that fail as one. `Left` claims nothing: the run then goes the general way. So this may leave out whatever it likes.
+use super::brief;
+use super::brief::LEAVES;
+use super::brief::Worded;
+use basics::numbers::ASSIGN;
+use basics::numbers::CALL;
+use basics::numbers::CELL_WORDS;
+use basics::numbers::EQUAL;
+use basics::numbers::FRAME;
+use basics::numbers::IF;
+use basics::numbers::LOCAL;
+use basics::numbers::LOCAL_WORDS;
+use basics::numbers::LOCATIONS;
+use basics::numbers::LONGEST;
+use basics::numbers::READ;
+use basics::numbers::STARTS;
+use basics::numbers::WHILE;
+use basics::numbers::WHOLE;
+use basics::numbers::WRITE;
+use engine::memory;
+use engine::memory::Spot;
+use engine::table;
+use engine::word::FALSE;
+use engine::word::FIRST_LOCATION;
+use engine::word::KIND;
+use engine::word::NOTHING;
+use engine::word::TRUE;
+use value::Reason;
+
+// What a step does. `next` is where the instruction ends, of a test that holds where its expression ends. Of tests that fail `at` is
+// where the run goes on after so many of them. The arguments of a call are in the frame above.
+pub enum Quick {
+    Assign {
+        x: usize,
+        word: u64,
+        next: usize,
+    },
+    Read {
+        x: usize,
+        location: usize,
+        index: usize,
+        word: u64,
+        next: usize,
+    },
+    Write {
+        location: usize,
+        index: usize,
+        cell: usize,
+        word: u64,
+        next: usize,
+    },
+    Holds {
+        next: usize,
+    },
+    Fails {
+        at: usize,
+        steps: u64,
+    },
+    Call {
+        procedure: usize,
+        next: usize,
+    },
+    Left,
+}
+
+// How many steps it is: none, if it is left to the general way.
+pub fn steps(quick: Quick) -> u64 {
+    match quick {
+        Quick::Left => 0,
+        Quick::Fails { at: _, steps } => steps,
+        _ => 1,
+    }
+}
+
+// Where a run goes on after the test at `at` failed.
+fn other(jumps: &[u16; LONGEST], at: usize) -> usize {
+    jumps[at] as usize
+}
+
+// "x := e".
+fn assign(t: &[u8], at: usize, e: Worded) -> Quick {
+    if e.word == NOTHING {
+        return Quick::Left;
+    }
+    Quick::Assign {
+        x: table::byte(t, at + 1),
+        word: e.word,
+        next: e.next,
+    }
+}
+
+// No cell, for whatever reason.
+fn nowhere() -> Spot {
+    Spot::Nowhere(Reason::IndexOutside)
+}
+
+// The cell of a pointer and an index. Words of other kinds are too low, or too high for a location, or for an index of any.
+fn place(starts: &[u32; STARTS], pointer: u64, offset: u64) -> Spot {
+    if pointer < FIRST_LOCATION {
+        return nowhere();
+    }
+    let location = (pointer - FIRST_LOCATION) as usize;
+    if location >= LOCATIONS {
+        return nowhere();
+    }
+    if offset < KIND {
+        return nowhere();
+    }
+    let index = (offset - KIND) as usize;
+    let cell = memory::start(starts, location) + index;
+    if cell < memory::start(starts, location + 1) {
+        Spot::At {
+            location,
+            index,
+            cell,
+        }
+    } else {
+        nowhere()
+    }
+}
+
+// "y[o] := e" with a local o: "21 y 05 o e".
+fn write(
+    t: &[u8],
+    words: &[u64; LOCAL_WORDS],
+    base: usize,
+    starts: &[u32; STARTS],
+    at: usize,
+    e: Worded,
+) -> Quick {
+    if e.word == NOTHING {
+        return Quick::Left;
+    }
+    let pointer = brief::local(t, words, base, at + 1);
+    let offset = brief::local(t, words, base, at + 3);
+    let Spot::At {
+        location,
+        index,
+        cell,
+    } = place(starts, pointer, offset)
+    else {
+        return Quick::Left;
+    };
+    Quick::Write {
+        location,
+        index,
+        cell,
+        word: e.word,
+        next: e.next,
+    }
+}
+
+// "x := y[o]".
+fn read(
+    t: &[u8],
+    words: &[u64; LOCAL_WORDS],
+    base: usize,
+    starts: &[u32; STARTS],
+    cells: &[u64; CELL_WORDS],
+    at: usize,
+    offset: u64,
+    next: usize,
+) -> Quick {
+    let pointer = brief::local(t, words, base, at + 2);
+    let Spot::At {
+        location,
+        index,
+        cell,
+    } = place(starts, pointer, offset)
+    else {
+        return Quick::Left;
+    };
+    Quick::Read {
+        x: table::byte(t, at + 1),
+        location,
+        index,
+        word: cells[cell],
+        next,
+    }
+}
+
+// The test of a while or an if.
+fn test(jumps: &[u16; LONGEST], at: usize, e: Worded) -> Quick {
+    if e.word == TRUE {
+        return Quick::Holds { next: e.next };
+    }
+    if e.word == FALSE {
+        return Quick::Fails {
+            at: other(jumps, at),
+            steps: 1,
+        };
+    }
+    Quick::Left
+}
+
+// Whether the test at `at` is of a local and a number that are equal: "24 14 05 x 01 c".
+fn is_choice(t: &[u8], at: usize) -> bool {
+    if t[at + 1] != EQUAL {
+        return false;
+    }
+    if t[at + 2] != LOCAL {
+        return false;
+    }
+    t[at + 4] == WHOLE
+}
+
+// The bytes of such a test before its blocks.
+const CHOICE: usize = 9;
+
+// Such a test, if it holds; and if not, all that follow each other from there, ask for the same local and fail: at most `left`.
+// A copy's procedure 0 has one for each label.
+fn choose(
+    t: &[u8],
+    jumps: &[u16; LONGEST],
+    words: &[u64; LOCAL_WORDS],
+    base: usize,
+    at: usize,
+    left: u64,
+) -> Quick {
+    let head = table::four(t, at);
+    let w = brief::local(t, words, base, at + 3);
+    if w / KIND != 1 {
+        return Quick::Left;
+    }
+    let v = (w % KIND) as u32;
+    if table::four(t, at + 5) == v {
+        return Quick::Holds { next: at + CHOICE };
+    }
+    let last = t.len() - CHOICE;
+    let mut to = other(jumps, at);
+    let mut steps = 1;
+    while steps < left {
+        if last < to {
+            break;
+        }
+        if table::four(t, to) != head {
+            break;
+        }
+        if t[to + 4] != WHOLE {
+            break;
+        }
+        if table::four(t, to + 5) == v {
+            break;
+        }
+        to = other(jumps, to);
+        steps += 1;
+    }
+    Quick::Fails { at: to, steps }
+}
+
+// A call: its arguments go to the frame above, which is no part of the state before the call.
+fn call(t: &[u8], words: &mut [u64; LOCAL_WORDS], base: usize, at: usize) -> Quick {
+    let count = table::byte(t, at + 3);
+    let above = base + FRAME;
+    let mut i = 0;
+    let mut next = at + 4;
+    while i < count {
+        let e = brief::expression(t, words, base, next);
+        if e.word == NOTHING {
+            return Quick::Left;
+        }
+        words[above + i] = e.word;
+        next = e.next;
+        i += 1;
+    }
+    Quick::Call {
+        procedure: table::two(t, at + 1) as usize,
+        next,
+    }
+}
+
+// The step of the instruction at `at`, over the locals of the frame at `base`. At least one step is left.
+pub fn decide(
+    t: &[u8],
+    jumps: &[u16; LONGEST],
+    words: &mut [u64; LOCAL_WORDS],
+    base: usize,
+    starts: &[u32; STARTS],
+    cells: &[u64; CELL_WORDS],
+    at: usize,
+    left: u64,
+) -> Quick {
+    match t[at] {
+        ASSIGN => {
+            if t[at + 2] < LEAVES {
+                return assign(t, at, brief::leaf(t, words, base, at + 2));
+            }
+            assign(t, at, brief::operation(t, words, base, at + 2))
+        }
+        WRITE => {
+            if t[at + 2] != LOCAL {
+                return Quick::Left;
+            }
+            let e = brief::expression(t, words, base, at + 4);
+            write(t, words, base, starts, at, e)
+        }
+        READ => match t[at + 3] {
+            LOCAL => {
+                let o = brief::local(t, words, base, at + 4);
+                read(t, words, base, starts, cells, at, o, at + 5)
+            }
+            WHOLE => read(
+                t,
+                words,
+                base,
+                starts,
+                cells,
+                at,
+                brief::number(t, at + 4),
+                at + 8,
+            ),
+            _ => Quick::Left,
+        },
+        WHILE | IF => {
+            if is_choice(t, at) {
+                return choose(t, jumps, words, base, at, left);
+            }
+            if t[at + 1] < LEAVES {
+                return test(jumps, at, brief::leaf(t, words, base, at + 1));
+            }
+            test(jumps, at, brief::operation(t, words, base, at + 1))
+        }
+        CALL => call(t, words, base, at),
+        _ => Quick::Left,
+    }
+}
