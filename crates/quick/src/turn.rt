@@ -27,6 +27,9 @@ use engine::word::KIND;
 use engine::word::NOTHING;
 use engine::word::TRUE;
 use value::Reason;
+ghost use mathlib.Core.Path.{_≡_};
+ghost use Prim.Native.Nat.{_≤_};
+ghost use Rattle.quick.specs.Quick.{Turning, Turns, stepsOf};
 
 // What a step does. `next` is where the instruction ends, of a test that holds where its expression ends. Of tests that fail `at` is
 // where the run goes on after so many of them. The arguments of a call are in the frame above.
@@ -65,7 +68,9 @@ pub enum Quick {
 }
 
 // How many steps it is: none, if it is left to the general way.
-pub fn steps(quick: Quick) -> u64 {
+pub fn steps(quick: Quick) -> u64
+    ensures { λ r. ⌜ r ≡ stepsOf quick ⌝ }
+{
     match quick {
         Quick::Left => 0,
         Quick::Fails { at: _, steps } => steps,
@@ -280,7 +285,11 @@ pub fn decide(
     cells: &[u64; CELL_WORDS],
     at: usize,
     left: u64,
-) -> Quick {
+) -> Quick
+    requires { ⌜ Turning (now t) (now words) (now starts) (now cells) base at × (1 ≤ left) ⌝ }
+    ensures { λ r. ⌜ Turns (now (t .entry)) (now (jumps .entry)) (now (words .entry)) (now (words .exit)) (now (starts .entry))
+        (now (cells .entry)) base at left r ⌝ }
+{
     match t[at] {
         ASSIGN => {
             if t[at + 2] < LEAVES {
