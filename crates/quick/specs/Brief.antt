@@ -1,17 +1,20 @@
 -- Words of operators and of brief expressions. An answer that is NOTHING, the word 0, claims nothing: whoever asked then goes the general way. Any other is right.
-use Prim.Native.Nat.{ℕ, _<_}
+use Prim.Native.Nat.{ℕ, _+_, _*_, _^_, _<_}
 use mathlib.Core.Path.{_≡_}
 use mathlib.Core.List.{List}
+use mathlib.Core.Bool.{Bool, true}
 use lib.IntN.{ℤ}
+use lib.ListN.{length, getD}
 use Rattle.value.specs.Maybe.{Maybe, is, nothing}
 use Rattle.value.specs.Try.{Try, has}
 use Rattle.value.specs.Values.{whole}
 use Rattle.value.specs.Marks.{markOf}
 use Rattle.value.specs.declared.Value.{Value}
-use Rattle.value.specs.declared.Value.the-variants.{Whole}
+use Rattle.value.specs.declared.Value.the-variants.{Whole, Truth}
 use Rattle.value.specs.declared.Answer.{Answer}
 use Rattle.value.specs.declared.Answer.the-variants as A
 use Rattle.basics.specs.Columns.{applied₂}
+use Rattle.basics.specs.Places.{numberAt}
 use Rattle.engine.specs.Words.{held}
 use Rattle.engine.specs.Evaluated.{operated₂, Ready, valued, Evaluates}
 use Rattle.quick.specs.declared.brief.Worded.{Worded}
@@ -38,7 +41,16 @@ pub record Shown (w r : ℕ) : Type 0 where
   pub same : (r ≡ 0 → ⊥) → r ≡ w
   pub shows : (r ≡ 0 → ⊥) → Shows r
 
--- the same, as an answer of the evaluator; a word that holds nothing is that of a local that is not set
+-- a word of a truth value
+pub record IsTruth (w : ℕ) : Type 0 where
+  pub truth : Bool
+  pub holds : held w ≡ is (Truth truth)
+
+-- the test says so
+pub record SaysTruth (w : ℕ) (r : Bool) : Type 0 where
+  pub yes : r ≡ true → IsTruth w
+
+-- what a word holds, as an answer of the evaluator; a word that holds nothing is that of a local that is not set
 abbrev pub answerOf : Maybe Value → Answer
 answerOf (is v) = A.Is v
 answerOf nothing = A.WrongKind
@@ -67,16 +79,35 @@ pub record Operates (m l r w : ℕ) : Type 0 where
 
 -- ---- expressions
 
+-- a word, and where its expression ends
+abbrev pub worded : ℕ → ℕ → Worded
+worded w j = record { word = w; next = j }
+
 -- an expression stands at i, however deep, over the locals of the frame at fb
 pub record Standing (t ls : List ℕ) (fb i : ℕ) : Type 0 where
   pub d : ℕ
   pub ready : Ready t ls fb i d
 
--- what a word says of it is so: the word stands for its answer, and it ends there
+-- the local whose number stands at i is one of the words
+pub record LocalAt (t ls : List ℕ) (fb i : ℕ) : Type 0 where
+  pub inside : i < length t
+  pub word : fb + getD t i 0 < length ls
+
+-- the word of the number of four bytes at i
+pub record NumberAt (t : List ℕ) (i w : ℕ) : Type 0 where
+  pub same : w ≡ 2 ^ 32 + numberAt 4 t i
+  pub small : numberAt 4 t i < 2 ^ 32
+
+-- that of the location of two
+pub record LocationAt (t : List ℕ) (i w : ℕ) : Type 0 where
+  pub same : w ≡ 2 ^ 32 * 2 + numberAt 2 t i
+  pub small : numberAt 2 t i < 2 ^ 16
+
+-- what a word says of the expression at i is so: the word stands for its answer, and it ends there
 pub record Words (t ls : List ℕ) (fb i : ℕ) (r : Worded) : Type 0 where
   pub says : (r .word ≡ 0 → ⊥) → (d : ℕ) → Evaluates t ls fb i d (valued (answerIn (r .word)) (r .next))
 
 -- and it has a value
-pub record Valued (t ls : List ℕ) (fb i : ℕ) (r : Worded) : Type 0 where
+pub record Sure (t ls : List ℕ) (fb i : ℕ) (r : Worded) : Type 0 where
   pub words : Words t ls fb i r
   pub shows : (r .word ≡ 0 → ⊥) → Shows (r .word)

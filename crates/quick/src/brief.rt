@@ -12,6 +12,10 @@ use engine::word::FIRST_LOCATION;
 use engine::word::KIND;
 use engine::word::NOTHING;
 use engine::word::TRUE;
+ghost use mathlib.Core.Path.{_≡_};
+ghost use Prim.Native.Nat.{_+_, _≤_, _<_};
+ghost use lib.ListN.{length, getD};
+ghost use Rattle.quick.specs.Brief.{Shown, worded, Standing, LocalAt, NumberAt, LocationAt, Words, Sure};
 
 // The marks below this one begin leaves.
 pub const LEAVES: u8 = LOCAL + 1;
@@ -29,7 +33,9 @@ pub struct Worded {
 }
 
 // No word.
-fn none(at: usize) -> Worded {
+fn none(at: usize) -> Worded
+    ensures { λ r. ⌜ r ≡ worded 0 at ⌝ }
+{
     Worded {
         word: NOTHING,
         next: at,
@@ -37,22 +43,33 @@ fn none(at: usize) -> Worded {
 }
 
 // The word of the local whose number stands at `at`, whatever it holds.
-pub fn local(t: &[u8], words: &[u64; LOCAL_WORDS], base: usize, at: usize) -> u64 {
+pub fn local(t: &[u8], words: &[u64; LOCAL_WORDS], base: usize, at: usize) -> u64
+    requires { ⌜ LocalAt (now t) (now words) base at ⌝ }
+    ensures { λ r. ⌜ r ≡ getD (now (words .entry)) (base + getD (now (t .entry)) at 0) 0 ⌝ }
+{
     words[base + table::byte(t, at)]
 }
 
 // The word of the number that stands there.
-pub fn number(t: &[u8], at: usize) -> u64 {
+pub fn number(t: &[u8], at: usize) -> u64
+    requires { ⌜ at + 4 ≤ length (now t) ⌝ }
+    ensures { λ r. ⌜ NumberAt (now (t .entry)) at r ⌝ }
+{
     KIND + (table::four(t, at) as u64)
 }
 
 // That of the location.
-fn location(t: &[u8], at: usize) -> u64 {
+fn location(t: &[u8], at: usize) -> u64
+    requires { ⌜ at + 2 ≤ length (now t) ⌝ }
+    ensures { λ r. ⌜ LocationAt (now (t .entry)) at r ⌝ }
+{
     FIRST_LOCATION + (table::two(t, at) as u64)
 }
 
 // A word that shows by itself that it holds a number or a location, or NOTHING.
-fn shown(w: u64) -> u64 {
+fn shown(w: u64) -> u64
+    ensures { λ r. ⌜ Shown w r ⌝ }
+{
     if w < KIND {
         return NOTHING;
     }
@@ -63,7 +80,10 @@ fn shown(w: u64) -> u64 {
 }
 
 // A leaf.
-pub fn leaf(t: &[u8], words: &[u64; LOCAL_WORDS], base: usize, at: usize) -> Worded {
+pub fn leaf(t: &[u8], words: &[u64; LOCAL_WORDS], base: usize, at: usize) -> Worded
+    requires { ⌜ Standing (now t) (now words) base at ⌝ }
+    ensures { λ r. ⌜ Sure (now (t .entry)) (now (words .entry)) base at r ⌝ }
+{
     match t[at] {
         LOCAL => Worded {
             word: shown(local(t, words, base, at + 1)),
@@ -90,7 +110,10 @@ pub fn leaf(t: &[u8], words: &[u64; LOCAL_WORDS], base: usize, at: usize) -> Wor
 }
 
 // A local, whatever it holds, or a number.
-fn short(t: &[u8], words: &[u64; LOCAL_WORDS], base: usize, at: usize) -> Worded {
+fn short(t: &[u8], words: &[u64; LOCAL_WORDS], base: usize, at: usize) -> Worded
+    requires { ⌜ Standing (now t) (now words) base at ⌝ }
+    ensures { λ r. ⌜ Words (now (t .entry)) (now (words .entry)) base at r ⌝ }
+{
     match t[at] {
         LOCAL => Worded {
             word: local(t, words, base, at + 1),
@@ -105,7 +128,10 @@ fn short(t: &[u8], words: &[u64; LOCAL_WORDS], base: usize, at: usize) -> Worded
 }
 
 // An operator on two of these.
-fn pair(t: &[u8], words: &[u64; LOCAL_WORDS], base: usize, at: usize) -> Worded {
+fn pair(t: &[u8], words: &[u64; LOCAL_WORDS], base: usize, at: usize) -> Worded
+    requires { ⌜ Standing (now t) (now words) base at × (6 ≤ getD (now t) at 0) ⌝ }
+    ensures { λ r. ⌜ Sure (now (t .entry)) (now (words .entry)) base at r ⌝ }
+{
     let mark = t[at];
     if mark >= SINGLE {
         return none(at);
@@ -122,7 +148,10 @@ fn pair(t: &[u8], words: &[u64; LOCAL_WORDS], base: usize, at: usize) -> Worded 
 }
 
 // A local, a number, or an operator on two.
-fn operand(t: &[u8], words: &[u64; LOCAL_WORDS], base: usize, at: usize) -> Worded {
+fn operand(t: &[u8], words: &[u64; LOCAL_WORDS], base: usize, at: usize) -> Worded
+    requires { ⌜ Standing (now t) (now words) base at ⌝ }
+    ensures { λ r. ⌜ Words (now (t .entry)) (now (words .entry)) base at r ⌝ }
+{
     if t[at] < LEAVES {
         short(t, words, base, at)
     } else {
@@ -131,7 +160,10 @@ fn operand(t: &[u8], words: &[u64; LOCAL_WORDS], base: usize, at: usize) -> Word
 }
 
 // An operator on two of these.
-fn nested(t: &[u8], words: &[u64; LOCAL_WORDS], base: usize, at: usize) -> Worded {
+fn nested(t: &[u8], words: &[u64; LOCAL_WORDS], base: usize, at: usize) -> Worded
+    requires { ⌜ Standing (now t) (now words) base at × (6 ≤ getD (now t) at 0) × (getD (now t) at 0 < 22) ⌝ }
+    ensures { λ r. ⌜ Sure (now (t .entry)) (now (words .entry)) base at r ⌝ }
+{
     let mark = t[at];
     let a = operand(t, words, base, at + 1);
     if a.word == NOTHING {
@@ -145,7 +177,10 @@ fn nested(t: &[u8], words: &[u64; LOCAL_WORDS], base: usize, at: usize) -> Worde
 }
 
 // An operator's expression. "op 05 x 01 n", the most frequent one, has code of its own where it is asked for.
-pub fn operation(t: &[u8], words: &[u64; LOCAL_WORDS], base: usize, at: usize) -> Worded {
+pub fn operation(t: &[u8], words: &[u64; LOCAL_WORDS], base: usize, at: usize) -> Worded
+    requires { ⌜ Standing (now t) (now words) base at × (6 ≤ getD (now t) at 0) ⌝ }
+    ensures { λ r. ⌜ Sure (now (t .entry)) (now (words .entry)) base at r ⌝ }
+{
     let mark = t[at];
     if mark >= SINGLE {
         return none(at);
@@ -162,7 +197,10 @@ pub fn operation(t: &[u8], words: &[u64; LOCAL_WORDS], base: usize, at: usize) -
 }
 
 // Any expression.
-pub fn expression(t: &[u8], words: &[u64; LOCAL_WORDS], base: usize, at: usize) -> Worded {
+pub fn expression(t: &[u8], words: &[u64; LOCAL_WORDS], base: usize, at: usize) -> Worded
+    requires { ⌜ Standing (now t) (now words) base at ⌝ }
+    ensures { λ r. ⌜ Sure (now (t .entry)) (now (words .entry)) base at r ⌝ }
+{
     match t[at] {
         LOCAL => Worded {
             word: shown(local(t, words, base, at + 1)),
