@@ -5,7 +5,6 @@
 use super::operate::operate;
 use basics::marks;
 use basics::numbers::LOCAL;
-use basics::numbers::LOCAL_WORDS;
 use engine::table;
 use engine::word::FALSE;
 use engine::word::FIRST_LOCATION;
@@ -43,7 +42,7 @@ fn none(at: usize) -> Worded
 }
 
 // The word of the local whose number stands at `at`, whatever it holds.
-pub fn local(t: &[u8], words: &[u64; LOCAL_WORDS], base: usize, at: usize) -> u64
+pub fn local(t: &[u8], words: &[u64], base: usize, at: usize) -> u64
     requires { ⌜ LocalAt (now t) (now words) base at ⌝ }
     ensures { λ r. ⌜ r ≡ getD (now (words .entry)) (base + getD (now (t .entry)) at 0) 0 ⌝ }
 {
@@ -80,7 +79,7 @@ fn shown(w: u64) -> u64
 }
 
 // A leaf.
-pub fn leaf(t: &[u8], words: &[u64; LOCAL_WORDS], base: usize, at: usize) -> Worded
+pub fn leaf(t: &[u8], words: &[u64], base: usize, at: usize) -> Worded
     requires { ⌜ Standing (now t) (now words) base at ⌝ }
     ensures { λ r. ⌜ Sure (now (t .entry)) (now (words .entry)) base at r ⌝ }
 {
@@ -110,7 +109,7 @@ pub fn leaf(t: &[u8], words: &[u64; LOCAL_WORDS], base: usize, at: usize) -> Wor
 }
 
 // A local, whatever it holds, or a number.
-fn short(t: &[u8], words: &[u64; LOCAL_WORDS], base: usize, at: usize) -> Worded
+fn short(t: &[u8], words: &[u64], base: usize, at: usize) -> Worded
     requires { ⌜ Standing (now t) (now words) base at ⌝ }
     ensures { λ r. ⌜ Words (now (t .entry)) (now (words .entry)) base at r ⌝ }
 {
@@ -128,7 +127,7 @@ fn short(t: &[u8], words: &[u64; LOCAL_WORDS], base: usize, at: usize) -> Worded
 }
 
 // An operator on two of these.
-fn pair(t: &[u8], words: &[u64; LOCAL_WORDS], base: usize, at: usize) -> Worded
+fn pair(t: &[u8], words: &[u64], base: usize, at: usize) -> Worded
     requires { ⌜ Standing (now t) (now words) base at × (6 ≤ getD (now t) at 0) ⌝ }
     ensures { λ r. ⌜ Sure (now (t .entry)) (now (words .entry)) base at r ⌝ }
 {
@@ -148,7 +147,7 @@ fn pair(t: &[u8], words: &[u64; LOCAL_WORDS], base: usize, at: usize) -> Worded
 }
 
 // A local, a number, or an operator on two.
-fn operand(t: &[u8], words: &[u64; LOCAL_WORDS], base: usize, at: usize) -> Worded
+fn operand(t: &[u8], words: &[u64], base: usize, at: usize) -> Worded
     requires { ⌜ Standing (now t) (now words) base at ⌝ }
     ensures { λ r. ⌜ Words (now (t .entry)) (now (words .entry)) base at r ⌝ }
 {
@@ -160,7 +159,7 @@ fn operand(t: &[u8], words: &[u64; LOCAL_WORDS], base: usize, at: usize) -> Word
 }
 
 // An operator on two of these.
-fn nested(t: &[u8], words: &[u64; LOCAL_WORDS], base: usize, at: usize) -> Worded
+fn nested(t: &[u8], words: &[u64], base: usize, at: usize) -> Worded
     requires { ⌜ Standing (now t) (now words) base at × (6 ≤ getD (now t) at 0) × (getD (now t) at 0 < 22) ⌝ }
     ensures { λ r. ⌜ Sure (now (t .entry)) (now (words .entry)) base at r ⌝ }
 {
@@ -177,7 +176,7 @@ fn nested(t: &[u8], words: &[u64; LOCAL_WORDS], base: usize, at: usize) -> Worde
 }
 
 // An operator's expression. "op 05 x 01 n", the most frequent one, has code of its own where it is asked for.
-pub fn operation(t: &[u8], words: &[u64; LOCAL_WORDS], base: usize, at: usize) -> Worded
+pub fn operation(t: &[u8], words: &[u64], base: usize, at: usize) -> Worded
     requires { ⌜ Standing (now t) (now words) base at × (6 ≤ getD (now t) at 0) ⌝ }
     ensures { λ r. ⌜ Sure (now (t .entry)) (now (words .entry)) base at r ⌝ }
 {
@@ -197,7 +196,7 @@ pub fn operation(t: &[u8], words: &[u64; LOCAL_WORDS], base: usize, at: usize) -
 }
 
 // Any expression.
-pub fn expression(t: &[u8], words: &[u64; LOCAL_WORDS], base: usize, at: usize) -> Worded
+pub fn expression(t: &[u8], words: &[u64], base: usize, at: usize) -> Worded
     requires { ⌜ Standing (now t) (now words) base at ⌝ }
     ensures { λ r. ⌜ Sure (now (t .entry)) (now (words .entry)) base at r ⌝ }
 {
@@ -222,7 +221,8 @@ pub fn expression(t: &[u8], words: &[u64; LOCAL_WORDS], base: usize, at: usize) 
             word: TRUE,
             next: at + 1,
         },
-        marks::NOT | marks::NEGATE => none(at),
+        marks::NOT => none(at),
+        marks::NEGATE => none(at),
         _ => nested(t, words, base, at),
     }
 }

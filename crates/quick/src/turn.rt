@@ -5,12 +5,10 @@ use super::brief::LEAVES;
 use super::brief::Worded;
 use basics::numbers::ASSIGN;
 use basics::numbers::CALL;
-use basics::numbers::CELL_WORDS;
 use basics::numbers::EQUAL;
 use basics::numbers::FRAME;
 use basics::numbers::IF;
 use basics::numbers::LOCAL;
-use basics::numbers::LOCAL_WORDS;
 use basics::numbers::LOCATIONS;
 use basics::numbers::LONGEST;
 use basics::numbers::READ;
@@ -128,7 +126,7 @@ fn place(starts: &[u32; STARTS], pointer: u64, offset: u64) -> Spot {
 // "y[o] := e" with a local o: "21 y 05 o e".
 fn write(
     t: &[u8],
-    words: &[u64; LOCAL_WORDS],
+    words: &[u64],
     base: usize,
     starts: &[u32; STARTS],
     at: usize,
@@ -159,10 +157,10 @@ fn write(
 // "x := y[o]".
 fn read(
     t: &[u8],
-    words: &[u64; LOCAL_WORDS],
+    words: &[u64],
     base: usize,
     starts: &[u32; STARTS],
-    cells: &[u64; CELL_WORDS],
+    cells: &[u64],
     at: usize,
     offset: u64,
     next: usize,
@@ -218,7 +216,7 @@ const CHOICE: usize = 9;
 fn choose(
     t: &[u8],
     jumps: &[u16; LONGEST],
-    words: &[u64; LOCAL_WORDS],
+    words: &[u64],
     base: usize,
     at: usize,
     left: u64,
@@ -255,7 +253,7 @@ fn choose(
 }
 
 // A call: its arguments go to the frame above, which is no part of the state before the call.
-fn call(t: &[u8], words: &mut [u64; LOCAL_WORDS], base: usize, at: usize) -> Quick {
+fn call(t: &[u8], words: &mut [u64], base: usize, at: usize) -> Quick {
     let count = table::byte(t, at + 3);
     let above = base + FRAME;
     let mut i = 0;
@@ -279,10 +277,10 @@ fn call(t: &[u8], words: &mut [u64; LOCAL_WORDS], base: usize, at: usize) -> Qui
 pub fn decide(
     t: &[u8],
     jumps: &[u16; LONGEST],
-    words: &mut [u64; LOCAL_WORDS],
+    words: &mut [u64],
     base: usize,
     starts: &[u32; STARTS],
-    cells: &[u64; CELL_WORDS],
+    cells: &[u64],
     at: usize,
     left: u64,
 ) -> Quick
