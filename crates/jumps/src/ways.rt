@@ -10,7 +10,7 @@ use labels::count::count_block;
 use labels::count::count_instr;
 ghost use mathlib.Core.Path.{_≡_};
 ghost use Prim.Native.Nat.{_≤_, _<_};
-ghost use lib.ListN.{length};
+ghost use lib.ListN.{length, getD};
 ghost use Rattle.labels.specs.Walks.{BlockIn, InstrIn, BodiesIn};
 ghost use Rattle.jumps.specs.Jumps.{positions, Onward, FillsBlock, FillsInstr, FillsJumps, Settles, Branches};
 
@@ -105,4 +105,12 @@ pub fn branch(t: &[u8], jumps: &[u16; LONGEST], at: usize, truth: bool, next: us
     } else {
         wide(jumps[at])
     }
+}
+
+// Where a run goes on after the test at `at` failed.
+pub fn other(jumps: &[u16; LONGEST], at: usize) -> usize
+    requires { ⌜ at < positions ⌝ }
+    ensures { λ r. ⌜ (r ≡ getD (now (jumps .entry)) at 0) × (r < positions) ⌝ }
+{
+    wide(jumps[at])
 }

@@ -3,21 +3,23 @@
 use Prim.Native.Nat.{ℕ, suc, _+_, _^_, _≤_, _<_}
 use mathlib.Core.Path.{_≡_}
 use mathlib.Core.List.{List}
-use mathlib.Core.Bool.{true, false}
+use mathlib.Core.Bool.{Bool, true, false}
 use lib.ListN.{length, getD}
 use Rattle.value.specs.Maybe.{is}
-use Rattle.value.specs.Lists.{sum}
 use Rattle.value.specs.declared.Value.{Value}
-use Rattle.engine.specs.Words.{held, valueIn}
-use Rattle.engine.specs.Work.{Beside, frameWords, Bases, Placed}
+use Rattle.engine.specs.Words.{held}
+use Rattle.engine.specs.Work.{Beside, frameWords, cellWords, mostLocations, Places}
 use Rattle.engine.specs.declared.memory.Spot.{Spot}
 use Rattle.engine.specs.declared.memory.Spot.the-variants.{At, Nowhere}
-use Rattle.decide.specs.declared.step.Step as D
 use Rattle.decide.specs.declared.step.Step.the-variants as S
 use Rattle.decide.specs.Decided.{Poised, Kept, Lies, DecidesAll, Tests}
-use Rattle.semantics.specs.Memory.{Memory}
-use Rattle.semantics.specs.Laws.Cells.{shape}
 use Rattle.jumps.specs.Jumps.{positions}
+use Rattle.value.specs.Values.{given}
+use Rattle.basics.specs.Places.{numberAt}
+use Rattle.format.specs.Decode.{maxDepth}
+use Rattle.engine.specs.Evaluated.{valued, Evaluates}
+use Rattle.quick.specs.Brief.{answerIn, Sure}
+use Rattle.quick.specs.declared.brief.Worded.{Worded}
 use Rattle.quick.specs.declared.turn.Quick.{Quick}
 use Rattle.quick.specs.declared.turn.Quick.the-variants.{Assign, Read, Write, Holds, Fails, Call, Left}
 
@@ -29,6 +31,7 @@ pub record Turning (t ls bs cs : List ℕ) (fb i : ℕ) : Type 0 where
   pub small : length t ≤ positions
   pub poised : (getD t i 0 ≡ 0x27 → ⊥) → Poised t ls fb i
   pub kept : Kept bs cs
+  pub full : length cs ≡ cellWords
 
 -- ---- what is answered
 
@@ -63,3 +66,76 @@ stepsOf (Holds n) = 1
 stepsOf (Fails k n) = n
 stepsOf (Call m n) = 1
 stepsOf Left = 0
+
+-- ---- the parts of it
+
+-- the first cells are below 2 ^ 31, so that no index of a cell is taken for a number below zero
+pub record Small (bs : List ℕ) : Type 0 where
+  pub small : (l : ℕ) → l ≤ mostLocations → getD bs l 0 ≤ 2 ^ 31
+
+-- a cell of a pointer and an index that are these words is the right one; of none nothing is said
+pub record Spotted (bs : List ℕ) (p o : ℕ) (s : Spot) : Type 0 where
+  pub places : (l i k : ℕ) → s ≡ At l i k → Places bs (given (answerIn p)) (given (answerIn o)) s
+
+-- "x := e", by the word of e
+pub record Assigns (t : List ℕ) (i : ℕ) (e : Worded) (q : Quick) : Type 0 where
+  pub turned : (js ls bs cs : List ℕ) (fb left : ℕ) → getD t i 0 ≡ 0x20 → Sure t ls fb (i + 2) e → Turned t js ls ls bs cs fb i left q
+
+-- "y[o] := e" stands at i, with a local o and the word of e
+pub record Writing (t ls bs : List ℕ) (fb i : ℕ) (e : Worded) : Type 0 where
+  pub poised : Poised t ls fb i
+  pub mark : getD t i 0 ≡ 0x21
+  pub offset : getD t (i + 2) 0 ≡ 5
+  pub source : Sure t ls fb (i + 4) e
+  pub small : Small bs
+
+pub record Writes (t ls bs : List ℕ) (fb i : ℕ) (q : Quick) : Type 0 where
+  pub turned : (js cs : List ℕ) (left : ℕ) → Turned t js ls ls bs cs fb i left q
+
+-- "x := y[o]" stands at i, with the word of o, which ends at n
+pub record Reading (t ls bs cs : List ℕ) (fb i o n : ℕ) : Type 0 where
+  pub poised : Poised t ls fb i
+  pub mark : getD t i 0 ≡ 0x22
+  pub offset : Evaluates t ls fb (i + 3) maxDepth (valued (answerIn o) n)
+  pub kept : Kept bs cs
+  pub small : Small bs
+
+pub record Reads (t ls bs cs : List ℕ) (fb i : ℕ) (q : Quick) : Type 0 where
+  pub turned : (js : List ℕ) (left : ℕ) → Turned t js ls ls bs cs fb i left q
+
+-- the test of a while or an if, by its word
+pub record Tested (js : List ℕ) (i : ℕ) (e : Worded) (q : Quick) : Type 0 where
+  pub turned : (t ls bs cs : List ℕ) (fb left : ℕ) → Tests t i → 1 ≤ left → Sure t ls fb (i + 1) e → Turned t js ls ls bs cs fb i left q
+
+-- a while or an if stands at i
+pub record Testing (t ls : List ℕ) (fb i : ℕ) : Type 0 where
+  pub poised : Poised t ls fb i
+  pub mark : Tests t i
+
+-- its test is of a local and a number that are equal: "24 14 05 x 01 c"
+pub record Choice (t : List ℕ) (i : ℕ) : Type 0 where
+  pub equal : getD t (i + 1) 0 ≡ 0x14
+  pub local : getD t (i + 2) 0 ≡ 5
+  pub number : getD t (i + 4) 0 ≡ 1
+
+pub record SaysChoice (t : List ℕ) (i : ℕ) (r : Bool) : Type 0 where
+  pub yes : r ≡ true → Choice t i
+
+-- at k the same four bytes h stand, and a number other than v
+pub record Another (t : List ℕ) (k h v : ℕ) : Type 0 where
+  pub head : numberAt 4 t k ≡ h
+  pub number : getD t (k + 4) 0 ≡ 1
+  pub small : numberAt 4 t (k + 5) < 2 ^ 32
+  pub other : numberAt 4 t (k + 5) ≡ v → ⊥
+
+pub record SaysAnother (t : List ℕ) (k h v : ℕ) (r : Bool) : Type 0 where
+  pub yes : r ≡ true → Another t k h v
+
+-- such tests in a row
+pub record Chooses (t js ls : List ℕ) (fb i left : ℕ) (q : Quick) : Type 0 where
+  pub turned : (bs cs : List ℕ) → Turned t js ls ls bs cs fb i left q
+
+-- a call, and the words of the frame above
+pub record Calls (t ls ls′ : List ℕ) (fb i : ℕ) (q : Quick) : Type 0 where
+  pub beside : Beside ls ls′ (fb + frameWords) (fb + frameWords + frameWords)
+  pub turned : (js bs cs : List ℕ) (left : ℕ) → Turned t js ls ls′ bs cs fb i left q

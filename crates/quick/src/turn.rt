@@ -24,10 +24,15 @@ use engine::word::FIRST_LOCATION;
 use engine::word::KIND;
 use engine::word::NOTHING;
 use engine::word::TRUE;
+use jumps::ways;
 use value::Reason;
 ghost use mathlib.Core.Path.{_≡_};
-ghost use Prim.Native.Nat.{_≤_};
-ghost use Rattle.quick.specs.Quick.{Turning, Turns, stepsOf};
+ghost use Prim.Native.Nat.{_+_, _≤_, _<_};
+ghost use lib.ListN.{length, getD};
+ghost use Rattle.jumps.specs.Jumps.{positions};
+ghost use Rattle.decide.specs.Decided.{Poised};
+ghost use Rattle.quick.specs.Quick.{Turning, Turns, stepsOf, Small, Spotted, Assigns, Writing, Writes, Reading, Reads, Tested, Testing};
+ghost use Rattle.quick.specs.Quick.{Choice, SaysChoice, SaysAnother, Chooses, Calls};
 
 // What a step does. `next` is where the instruction ends, of a test that holds where its expression ends. Of tests that fail `at` is
 // where the run goes on after so many of them. The arguments of a call are in the frame above.
@@ -76,13 +81,11 @@ pub fn steps(quick: Quick) -> u64
     }
 }
 
-// Where a run goes on after the test at `at` failed.
-fn other(jumps: &[u16; LONGEST], at: usize) -> usize {
-    jumps[at] as usize
-}
-
 // "x := e".
-fn assign(t: &[u8], at: usize, e: Worded) -> Quick {
+fn assign(t: &[u8], at: usize, e: Worded) -> Quick
+    requires { ⌜ at + 1 < length (now t) ⌝ }
+    ensures { λ r. ⌜ Assigns (now (t .entry)) at e r ⌝ }
+{
     if e.word == NOTHING {
         return Quick::Left;
     }
@@ -99,7 +102,10 @@ fn nowhere() -> Spot {
 }
 
 // The cell of a pointer and an index. Words of other kinds are too low, or too high for a location, or for an index of any.
-fn place(starts: &[u32; STARTS], pointer: u64, offset: u64) -> Spot {
+fn place(starts: &[u32; STARTS], pointer: u64, offset: u64) -> Spot
+    requires { ⌜ Small (now starts) ⌝ }
+    ensures { λ r. ⌜ Spotted (now (starts .entry)) pointer offset r ⌝ }
+{
     if pointer < FIRST_LOCATION {
         return nowhere();
     }
@@ -131,7 +137,10 @@ fn write(
     starts: &[u32; STARTS],
     at: usize,
     e: Worded,
-) -> Quick {
+) -> Quick
+    requires { ⌜ Writing (now t) (now words) (now starts) base at e ⌝ }
+    ensures { λ r. ⌜ Writes (now (t .entry)) (now (words .entry)) (now (starts .entry)) base at r ⌝ }
+{
     if e.word == NOTHING {
         return Quick::Left;
     }
@@ -164,7 +173,10 @@ fn read(
     at: usize,
     offset: u64,
     next: usize,
-) -> Quick {
+) -> Quick
+    requires { ⌜ Reading (now t) (now words) (now starts) (now cells) base at offset next ⌝ }
+    ensures { λ r. ⌜ Reads (now (t .entry)) (now (words .entry)) (now (starts .entry)) (now (cells .entry)) base at r ⌝ }
+{
     let pointer = brief::local(t, words, base, at + 2);
     let Spot::At {
         location,
@@ -184,13 +196,16 @@ fn read(
 }
 
 // The test of a while or an if.
-fn test(jumps: &[u16; LONGEST], at: usize, e: Worded) -> Quick {
+fn test(jumps: &[u16; LONGEST], at: usize, e: Worded) -> Quick
+    requires { ⌜ at < positions ⌝ }
+    ensures { λ r. ⌜ Tested (now (jumps .entry)) at e r ⌝ }
+{
     if e.word == TRUE {
         return Quick::Holds { next: e.next };
     }
     if e.word == FALSE {
         return Quick::Fails {
-            at: other(jumps, at),
+            at: ways::other(jumps, at),
             steps: 1,
         };
     }
@@ -198,7 +213,10 @@ fn test(jumps: &[u16; LONGEST], at: usize, e: Worded) -> Quick {
 }
 
 // Whether the test at `at` is of a local and a number that are equal: "24 14 05 x 01 c".
-fn is_choice(t: &[u8], at: usize) -> bool {
+fn is_choice(t: &[u8], words: &[u64], base: usize, at: usize) -> bool
+    requires { ⌜ Testing (now t) (now words) base at ⌝ }
+    ensures { λ r. ⌜ SaysChoice (now (t .entry)) at r ⌝ }
+{
     if t[at + 1] != EQUAL {
         return false;
     }
@@ -211,6 +229,23 @@ fn is_choice(t: &[u8], at: usize) -> bool {
 // The bytes of such a test before its blocks.
 const CHOICE: usize = 9;
 
+// Whether one stands at `to` too, begins with the same four bytes, and has another number than v.
+fn is_another(t: &[u8], to: usize, head: u32, v: u32) -> bool
+    requires { ⌜ to < positions ⌝ }
+    ensures { λ r. ⌜ SaysAnother (now (t .entry)) to head v r ⌝ }
+{
+    if t.len() < to + CHOICE {
+        return false;
+    }
+    if table::four(t, to) != head {
+        return false;
+    }
+    if t[to + 4] != WHOLE {
+        return false;
+    }
+    table::four(t, to + 5) != v
+}
+
 // Such a test, if it holds; and if not, all that follow each other from there, ask for the same local and fail: at most `left`.
 // A copy's procedure 0 has one for each label.
 fn choose(
@@ -220,7 +255,10 @@ fn choose(
     base: usize,
     at: usize,
     left: u64,
-) -> Quick {
+) -> Quick
+    requires { ⌜ Testing (now t) (now words) base at × Choice (now t) at × (length (now t) ≤ positions) × (1 ≤ left) ⌝ }
+    ensures { λ r. ⌜ Chooses (now (t .entry)) (now (jumps .entry)) (now (words .entry)) base at left r ⌝ }
+{
     let head = table::four(t, at);
     let w = brief::local(t, words, base, at + 3);
     if w / KIND != 1 {
@@ -230,30 +268,23 @@ fn choose(
     if table::four(t, at + 5) == v {
         return Quick::Holds { next: at + CHOICE };
     }
-    let last = t.len() - CHOICE;
-    let mut to = other(jumps, at);
+    let mut to = ways::other(jumps, at);
     let mut steps = 1;
     while steps < left {
-        if last < to {
-            break;
+        if !is_another(t, to, head, v) {
+            return Quick::Fails { at: to, steps };
         }
-        if table::four(t, to) != head {
-            break;
-        }
-        if t[to + 4] != WHOLE {
-            break;
-        }
-        if table::four(t, to + 5) == v {
-            break;
-        }
-        to = other(jumps, to);
+        to = ways::other(jumps, to);
         steps += 1;
     }
     Quick::Fails { at: to, steps }
 }
 
 // A call: its arguments go to the frame above, which is no part of the state before the call.
-fn call(t: &[u8], words: &mut [u64], base: usize, at: usize) -> Quick {
+fn call(t: &[u8], words: &mut [u64], base: usize, at: usize) -> Quick
+    requires { ⌜ Poised (now t) (now words) base at × (getD (now t) at 0 ≡ 0x25) ⌝ }
+    ensures { λ r. ⌜ Calls (now (t .entry)) (now (words .entry)) (now (words .exit)) base at r ⌝ }
+{
     let count = table::byte(t, at + 3);
     let above = base + FRAME;
     let mut i = 0;
@@ -320,7 +351,7 @@ pub fn decide(
             _ => Quick::Left,
         },
         WHILE | IF => {
-            if is_choice(t, at) {
+            if is_choice(t, words, base, at) {
                 return choose(t, jumps, words, base, at, left);
             }
             if t[at + 1] < LEAVES {
