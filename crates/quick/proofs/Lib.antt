@@ -4,3 +4,9 @@
 pub mod Operating
 -- brief expressions
 pub mod Wording
+-- deciding a frequent step
+pub mod Turning
+-- tests in a row
+pub mod Choosing
+-- calls, and any instruction
+pub mod Deciding

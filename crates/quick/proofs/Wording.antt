@@ -38,7 +38,7 @@ use Rattle.quick.proofs.Operating.{number-held, true-held, false-held}
 -- ---- words
 
 -- what a word holds, as the evaluator reads it
-answer-given : (m : Maybe Value) → given (answerOf m) ≡ orLacks WrongKind m
+pub answer-given : (m : Maybe Value) → given (answerOf m) ≡ orLacks WrongKind m
 answer-given (is v) = refl
 answer-given nothing = refl
 
@@ -54,13 +54,13 @@ operated-given m l r w o =
     ∙ sym (ap₂ (λ x y. operated₂ m (given (answerOf x)) (given (answerOf y))) (o .holds-left) (o .holds-right))
 
 -- a number's
-number-is : {t : List ℕ} {i w : ℕ} → NumberAt t i w → held w ≡ is (Whole (unword (numberAt 4 t i)))
+pub number-is : {t : List ℕ} {i w : ℕ} → NumberAt t i w → held w ≡ is (Whole (unword (numberAt 4 t i)))
 number-is {t} {i} {w} n =
     let same : w ≡ 2 ^ 32 * 1 + numberAt 4 t i = omega (arith, n .same) in
     rw same (held-word 1 (numberAt 4 t i) (omega arith) (n .small))
 
 -- a location's
-location-is : (n : ℕ) → n < 2 ^ 16 → held (2 ^ 32 * 2 + n) ≡ is (Location n)
+pub location-is : (n : ℕ) → n < 2 ^ 16 → held (2 ^ 32 * 2 + n) ≡ is (Location n)
 location-is n l = held-word 2 n (omega arith) (omega arith) ∙ rw (lt-ltb n (2 ^ 16) l)
 
 -- one that shows what it holds
@@ -185,7 +185,7 @@ module _ {t ls : List ℕ} {fb i : ℕ} where
   }
 
   -- of a local, whatever it holds
-  local-eval : {w : ℕ} (d : ℕ) → getD t i 0 ≡ 5 → w ≡ getD ls (fb + getD t (i + 1) 0) 0 → Evaluates t ls fb i d (valued (answerIn w) (i + 2))
+  pub local-eval : {w : ℕ} (d : ℕ) → getD t i 0 ≡ 5 → w ≡ getD ls (fb + getD t (i + 1) 0) 0 → Evaluates t ls fb i d (valued (answerIn w) (i + 2))
   local-eval {w} d e q =
       E.as-leaf (omega arith)
       (E.eval-local (λ q. omega arith) (λ q. omega arith) (λ q. omega arith) (λ q. omega arith) (answer-given (held w) ∙ ap valueIn q))

@@ -280,6 +280,27 @@ fn choose(
     Quick::Fails { at: to, steps }
 }
 
+// The test of a while or an if, and those that fail after it.
+fn probe(
+    t: &[u8],
+    jumps: &[u16; LONGEST],
+    words: &[u64],
+    base: usize,
+    at: usize,
+    left: u64,
+) -> Quick
+    requires { ⌜ Testing (now t) (now words) base at × (length (now t) ≤ positions) × (1 ≤ left) ⌝ }
+    ensures { λ r. ⌜ Chooses (now (t .entry)) (now (jumps .entry)) (now (words .entry)) base at left r ⌝ }
+{
+    if is_choice(t, words, base, at) {
+        return choose(t, jumps, words, base, at, left);
+    }
+    if t[at + 1] < LEAVES {
+        return test(jumps, at, brief::leaf(t, words, base, at + 1));
+    }
+    test(jumps, at, brief::operation(t, words, base, at + 1))
+}
+
 // A call: its arguments go to the frame above, which is no part of the state before the call.
 fn call(t: &[u8], words: &mut [u64], base: usize, at: usize) -> Quick
     requires { ⌜ Poised (now t) (now words) base at × (getD (now t) at 0 ≡ 0x25) ⌝ }
@@ -350,15 +371,8 @@ pub fn decide(
             ),
             _ => Quick::Left,
         },
-        WHILE | IF => {
-            if is_choice(t, words, base, at) {
-                return choose(t, jumps, words, base, at, left);
-            }
-            if t[at + 1] < LEAVES {
-                return test(jumps, at, brief::leaf(t, words, base, at + 1));
-            }
-            test(jumps, at, brief::operation(t, words, base, at + 1))
-        }
+        WHILE => probe(t, jumps, words, base, at, left),
+        IF => probe(t, jumps, words, base, at, left),
         CALL => call(t, words, base, at),
         _ => Quick::Left,
     }
