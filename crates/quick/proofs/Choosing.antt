@@ -59,8 +59,11 @@ byte : (t : List ℕ) (k l : ℕ) {n : ℕ} → k ≡ l → getD t l 0 ≡ n →
 byte t k l e f = ap (λ k. getD t k 0) e ∙ f
 
 module _ {t ls : List ℕ} {fb i : ℕ} where
-  test-standing : Testing t ls fb i → Standing t ls fb (i + 1)
+  pub test-standing : Testing t ls fb i → Standing t ls fb (i + 1)
   test-standing h = record { d = maxDepth; ready = D.test-ready (h .poised) (h .mark) }
+
+  pub test-low : Testing t ls fb i → length t ≤ positions → i < positions
+  test-low h l = omega (arith, W.standing-inside (test-standing h))
 
   pub choice-first : Testing t ls fb i → i + 1 < length t
   choice-first h = W.standing-inside (test-standing h)
@@ -86,7 +89,13 @@ module _ {t ls : List ℕ} {fb i : ℕ} where
       let high : getD t (i + 1) 0 < 22 = omega (arith, c .equal) in
       omega (arith, W.plain-number (test-standing h) low high (byte t (i + 1 + 1) (i + 2) (omega arith) (c .local)) (byte t (i + 1 + 3) (i + 4) (omega arith) (c .number)))
 
+  pub choice-room : {r : Bool} → Testing t ls fb i → SaysChoice t i r → r ≡ true → i + 9 ≤ length t
+  choice-room h s e = omega (arith, choice-number h (s .yes e))
+
 module _ {t : List ℕ} {i : ℕ} where
+  pub choice-told : {r : Bool} → SaysChoice t i r → r ≡ true → Choice t i
+  choice-told s e = s .yes e
+
   pub says-none : SaysChoice t i false
   says-none = record { yes = λ e. absurd (never e) }
 
@@ -237,6 +246,14 @@ module _ {t js ls : List ℕ} {fb i left h v : ℕ} where
         low = p;
       }
 
+  pub choosing-on : {k m n : ℕ} {r : Bool} → Choosing t js ls fb i left h v k n → n < left → SaysAnother t k h v r → B.not r ≡ false → m ≡ getD js k 0
+      → m < positions → Choosing t js ls fb i left h v m (n + 1)
+  choosing-on {r = r} C l s e q p = choosing-more C l s (held-true r e) q p
+    where
+      held-true : (r : Bool) → B.not r ≡ false → r ≡ true
+      held-true true e = refl
+      held-true false e = absurd (never (sym e))
+
   pub choosing-low : {k n : ℕ} → Choosing t js ls fb i left h v k n → k < positions
   choosing-low C = C .low
 
@@ -251,6 +268,13 @@ module _ {t js ls : List ℕ} {fb i left h v : ℕ} where
 pub chooses-left : {t js ls : List ℕ} {fb i left : ℕ} → Chooses t js ls fb i left Left
 chooses-left = record { turned = λ bs cs. tt }
 
+-- any other test
+pub chooses-test : {t js ls : List ℕ} {fb i left : ℕ} {e : Worded} {q : Quick} → Testing t ls fb i → 1 ≤ left → Sure t ls fb (i + 1) e → Tested js i e q
+    → Chooses t js ls fb i left q
+chooses-test {t} {js} {ls} {fb} {i} {left} h l s A = record { turned = λ bs cs. A .turned t ls bs cs fb left (h .mark) l s }
+
+pub ruleset probe-ways = (test-standing, test-low, choice-first, choice-room, choice-told, chooses-test)
+
 pub ruleset choice-ways = (choice-first, choice-second, choice-fourth, choice-head, choice-local, choice-number, says-none, says-some, another-none, another-some)
 
-pub ruleset choosing-ways = (choosing-more, choosing-low, chooses-fails, chooses-left)
+pub ruleset choosing-ways = (choosing-more, choosing-on, choosing-low, chooses-fails, chooses-left)

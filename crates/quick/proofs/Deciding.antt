@@ -133,8 +133,23 @@ module _ {t ls bs cs : List ℕ} {fb i : ℕ} (h : Turning t ls bs cs fb i) wher
   pub turning-testing : Tests t i → Testing t ls fb i
   turning-testing m = record { poised = turning-poised m; mark = m }
 
+  pub turning-first : Tests t i → i + 1 < length t
+  turning-first m = W.standing-inside {t = t} {ls = ls} {fb = fb} (record { d = maxDepth; ready = D.test-ready (turning-poised m) m })
+
+  pub turning-small : length t ≤ positions
+  turning-small = h .small
+
   pub turning-test : Tests t i → Standing t ls fb (i + 1)
   turning-test m = record { d = maxDepth; ready = D.test-ready (turning-poised m) m }
+
+  pub turning-callee : getD t i 0 ≡ 0x25 → i + 4 ≤ length t
+  turning-callee e = D.call-inside (turning-call e) e
+
+  pub turning-while : getD t i 0 ≡ 0x23 → Testing t ls fb i
+  turning-while e = turning-testing (inl e)
+
+  pub turning-if : getD t i 0 ≡ 0x24 → Testing t ls fb i
+  turning-if e = turning-testing (inr e)
 
   -- "y[o] := e"
   pub turning-offset : getD t i 0 ≡ 0x21 → i + 2 < length t
@@ -144,6 +159,9 @@ module _ {t ls bs cs : List ℕ} {fb i : ℕ} (h : Turning t ls bs cs fb i) wher
   turning-source e f =
       let to : i + 2 + 2 ≡ i + 4 = omega arith in
       subst (Standing t ls fb) to (record { d = maxDepth; ready = D.source-ready (h .poised (λ q. omega arith)) e (W.local-eval maxDepth f refl) })
+
+  pub turning-value : getD t i 0 ≡ 0x21 → getD t (i + 2) 0 ≡ 5 → i + 4 < length t
+  turning-value e f = W.standing-inside (turning-source e f)
 
   pub turning-writing : {e : Worded} → getD t i 0 ≡ 0x21 → getD t (i + 2) 0 ≡ 5 → Sure t ls fb (i + 4) e → Writing t ls bs fb i e
   turning-writing e f s = record { poised = h .poised (λ q. omega arith); mark = e; offset = f; source = s; small = kept-small (h .kept) (h .full) }
@@ -210,8 +228,14 @@ pub ruleset turning-ways = (
   turning-inside,
   turning-low,
   turning-call,
+  turning-callee,
+  turning-value,
   turning-testing,
   turning-test,
+  turning-first,
+  turning-small,
+  turning-while,
+  turning-if,
   turning-offset,
   turning-source,
   turning-writing,

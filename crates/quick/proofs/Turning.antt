@@ -114,8 +114,8 @@ kept-small {bs} {cs} k f = record {
 }
 
 module _ {bs : List ℕ} {p o : ℕ} where
-  pub spot-none : {r : Reason} → Spotted bs p o (Nowhere r)
-  spot-none {r} = record { places = λ l i k e. clash e }
+  pub spot-none : {s : Spot} {r : Reason} → s ≡ Nowhere r → Spotted bs p o s
+  spot-none {s} {r} q = record { places = λ l i k e. clash (sym q ∙ e) }
     where
       clash : {G : Type 0} {l i k : ℕ} → _≡_ {A = Spot} (Nowhere r) (At l i k) → G
       clash e = let z : _≡_ {A = ℕ} 0 1 = cc in absurd (omega arith)

@@ -29,6 +29,8 @@ use value::Reason;
 ghost use mathlib.Core.Path.{_≡_};
 ghost use Prim.Native.Nat.{_+_, _≤_, _<_};
 ghost use lib.ListN.{length, getD};
+ghost use Rattle.value.specs.declared.Reason.the-variants.{IndexOutside};
+ghost use Rattle.engine.specs.declared.memory.Spot.the-variants.{Nowhere};
 ghost use Rattle.jumps.specs.Jumps.{positions};
 ghost use Rattle.decide.specs.Decided.{Poised};
 ghost use Rattle.quick.specs.Quick.{Turning, Turns, stepsOf, Small, Spotted, Assigns, Writing, Writes, Reading, Reads, Tested, Testing};
@@ -75,9 +77,32 @@ pub fn steps(quick: Quick) -> u64
     ensures { λ r. ⌜ r ≡ stepsOf quick ⌝ }
 {
     match quick {
-        Quick::Left => 0,
+        Quick::Assign {
+            x: _,
+            word: _,
+            next: _,
+        } => 1,
+        Quick::Read {
+            x: _,
+            location: _,
+            index: _,
+            word: _,
+            next: _,
+        } => 1,
+        Quick::Write {
+            location: _,
+            index: _,
+            cell: _,
+            word: _,
+            next: _,
+        } => 1,
+        Quick::Holds { next: _ } => 1,
         Quick::Fails { at: _, steps } => steps,
-        _ => 1,
+        Quick::Call {
+            procedure: _,
+            next: _,
+        } => 1,
+        Quick::Left => 0,
     }
 }
 
@@ -97,7 +122,9 @@ fn assign(t: &[u8], at: usize, e: Worded) -> Quick
 }
 
 // No cell, for whatever reason.
-fn nowhere() -> Spot {
+fn nowhere() -> Spot
+    ensures { λ r. ⌜ r ≡ Nowhere IndexOutside ⌝ }
+{
     Spot::Nowhere(Reason::IndexOutside)
 }
 
@@ -138,7 +165,7 @@ fn write(
     at: usize,
     e: Worded,
 ) -> Quick
-    requires { ⌜ Writing (now t) (now words) (now starts) base at e ⌝ }
+    requires { ⌜ Writing (now t) (now words) (now starts) base at e × (at + 4 < length (now t)) ⌝ }
     ensures { λ r. ⌜ Writes (now (t .entry)) (now (words .entry)) (now (starts .entry)) base at r ⌝ }
 {
     if e.word == NOTHING {
@@ -174,7 +201,7 @@ fn read(
     offset: u64,
     next: usize,
 ) -> Quick
-    requires { ⌜ Reading (now t) (now words) (now starts) (now cells) base at offset next ⌝ }
+    requires { ⌜ Reading (now t) (now words) (now starts) (now cells) base at offset next × (at + 3 < length (now t)) ⌝ }
     ensures { λ r. ⌜ Reads (now (t .entry)) (now (words .entry)) (now (starts .entry)) (now (cells .entry)) base at r ⌝ }
 {
     let pointer = brief::local(t, words, base, at + 2);
@@ -214,7 +241,7 @@ fn test(jumps: &[u16; LONGEST], at: usize, e: Worded) -> Quick
 
 // Whether the test at `at` is of a local and a number that are equal: "24 14 05 x 01 c".
 fn is_choice(t: &[u8], words: &[u64], base: usize, at: usize) -> bool
-    requires { ⌜ Testing (now t) (now words) base at ⌝ }
+    requires { ⌜ Testing (now t) (now words) base at × (at + 1 < length (now t)) ⌝ }
     ensures { λ r. ⌜ SaysChoice (now (t .entry)) at r ⌝ }
 {
     if t[at + 1] != EQUAL {
@@ -256,7 +283,7 @@ fn choose(
     at: usize,
     left: u64,
 ) -> Quick
-    requires { ⌜ Testing (now t) (now words) base at × Choice (now t) at × (length (now t) ≤ positions) × (1 ≤ left) ⌝ }
+    requires { ⌜ Testing (now t) (now words) base at × Choice (now t) at × (at + 9 ≤ length (now t)) × (length (now t) ≤ positions) × (1 ≤ left) ⌝ }
     ensures { λ r. ⌜ Chooses (now (t .entry)) (now (jumps .entry)) (now (words .entry)) base at left r ⌝ }
 {
     let head = table::four(t, at);
@@ -289,7 +316,7 @@ fn probe(
     at: usize,
     left: u64,
 ) -> Quick
-    requires { ⌜ Testing (now t) (now words) base at × (length (now t) ≤ positions) × (1 ≤ left) ⌝ }
+    requires { ⌜ Testing (now t) (now words) base at × (at + 1 < length (now t)) × (length (now t) ≤ positions) × (1 ≤ left) ⌝ }
     ensures { λ r. ⌜ Chooses (now (t .entry)) (now (jumps .entry)) (now (words .entry)) base at left r ⌝ }
 {
     if is_choice(t, words, base, at) {
@@ -303,7 +330,7 @@ fn probe(
 
 // A call: its arguments go to the frame above, which is no part of the state before the call.
 fn call(t: &[u8], words: &mut [u64], base: usize, at: usize) -> Quick
-    requires { ⌜ Poised (now t) (now words) base at × (getD (now t) at 0 ≡ 0x25) ⌝ }
+    requires { ⌜ Poised (now t) (now words) base at × (getD (now t) at 0 ≡ 0x25) × (at + 4 ≤ length (now t)) ⌝ }
     ensures { λ r. ⌜ Calls (now (t .entry)) (now (words .entry)) (now (words .exit)) base at r ⌝ }
 {
     let count = table::byte(t, at + 3);
