@@ -38,7 +38,7 @@ pub record Turning (t ls bs cs : List ℕ) (fb i : ℕ) : Type 0 where
 -- n tests in a row fail, from the one at i on, and the run goes on at k: each goes on at the jump table's entry of its own place
 pub data Row (t js ls bs cs : List ℕ) (fb i : ℕ) : ℕ → ℕ → Type 0 where
   none : Row t js ls bs cs fb i 0 i
-  more : {n k j : ℕ} → Row t js ls bs cs fb i n k → DecidesAll t ls ls fb k (Lies bs cs) (S.Test false j)
+  more : {n k j : ℕ} → Row t js ls bs cs fb i n k → Tests t k → DecidesAll t ls ls fb k (Lies bs cs) (S.Test false j)
       → Row t js ls bs cs fb i (suc n) (getD js k 0)
 
 -- the step that an answer stands for is decided, its value the one that the word holds; ls are the words of the locals before, and ls′ after it
@@ -52,9 +52,10 @@ Turned t js ls ls′ bs cs fb i left (Fails k n) = (ls′ ≡ ls) × (1 ≤ n) �
 Turned t js ls ls′ bs cs fb i left (Call m n) = DecidesAll t ls ls′ fb i (Lies bs cs) (S.Call m n)
 Turned t js ls ls′ bs cs fb i left Left = Unit {0}
 
--- and at most words of the frame above are others, even where it is left to the general way
+-- a select is left to the general way; and at most words of the frame above are others, even where it is left
 pub record Turns (t js ls ls′ bs cs : List ℕ) (fb i left : ℕ) (q : Quick) : Type 0 where
   pub beside : Beside ls ls′ (fb + frameWords) (fb + frameWords + frameWords)
+  pub other : getD t i 0 ≡ 0x27 → q ≡ Left
   pub turned : Turned t js ls ls′ bs cs fb i left q
 
 -- so many steps
