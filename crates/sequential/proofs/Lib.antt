@@ -10,6 +10,8 @@ pub mod Nexts
 pub mod DueSteps
 -- carrying out a step, way by way
 pub mod CarryingOut
+-- carrying out a quick step, way by way
+pub mod Wording
 -- the run of the definition
 pub mod RunSteps
 -- the run, step by step

@@ -4,3 +4,5 @@
 pub mod Frames
 -- the sequential machine at work
 pub mod Sequential
+-- a quick step of it
+pub mod Words

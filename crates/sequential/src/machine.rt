@@ -45,6 +45,7 @@ ghost use Rattle.value.specs.declared.Value.the-variants.{Whole};
 ghost use Rattle.jumps.specs.Jumps.{positions};
 ghost use Rattle.sequential.specs.Sequential.{mostFrames, eventIn, Recorded, movedTo, selectedTo, Enterable, Enters, Due, CarriesOut};
 ghost use Rattle.sequential.specs.Sequential.{Facing, Faces, UsedUp, ranWith, Starting, Runs, Accepted, Outcomes};
+ghost use Rattle.sequential.specs.Words.{RecordedWord, DueWords, CarriesWords};
 
 // The state of a run beside its arrays: where it goes on, how many frames there are, the thread last selected, the entries taken and
 // the events recorded.
@@ -145,7 +146,10 @@ fn record_word(
     location: usize,
     index: usize,
     w: u64,
-) -> usize {
+) -> usize
+    requires { ⌜ (state .events + 1 < 2 ^ 64) × (1 ≤ state .depth) × (state .depth ≤ mostFrames) ⌝ }
+    ensures { λ r. ⌜ RecordedWord h (now (back .entry)) (now (events .entry)) state writes location index w (now (events .exit)) r ⌝ }
+{
     let count = state.events;
     if location >= h {
         return count;
@@ -291,7 +295,12 @@ fn carry_words(
     h: usize,
     state: State,
     step: Quick,
-) -> State {
+) -> State
+    requires { ⌜ DueWords (now t) records (now jumps) (now words) (now back) (now cells) (now events) state step ⌝ }
+    ensures { λ r. ⌜ CarriesWords (now (t .entry)) records (now (jumps .entry)) h (now (words .entry)) (now (back .entry))
+        (now (cells .entry)) (now (events .entry)) state step (now (words .exit)) (now (back .exit)) (now (cells .exit))
+        (now (events .exit)) r ⌝ }
+{
     match step {
         Quick::Assign { x, word, next } => {
             words[FRAME * (state.depth - 1) + x] = word;
