@@ -223,7 +223,7 @@ same-instr : {i j : Instr Plain} {b c : Block Plain} → _≡_ {A = Block Plain}
 same-instr e = cc
 
 -- the words above the frames were stored
-present-above : {p : Program Plain} {lent ts ls ls′ bs cs es : List ℕ} {s : State} {c : C.Config} {a b : ℕ} → Sound sequential p
+pub present-above : {p : Program Plain} {lent ts ls ls′ bs cs es : List ℕ} {s : State} {c : C.Config} {a b : ℕ} → Sound sequential p
     → Present p lent ts ls bs cs es s c → Beside ls ls′ a b → frameWords * s .depth ≤ a → Present p lent ts ls′ bs cs es s c
 present-above {p} sound P B h = record {
   depth = P .depth;

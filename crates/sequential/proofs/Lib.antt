@@ -16,6 +16,8 @@ pub mod Wording
 pub mod RunSteps
 -- the run, step by step
 pub mod Running
+-- the quick way through it
+pub mod Turning
 -- deciding the step of a run
 pub mod Facing
 -- the call, from the table to the answer

@@ -71,7 +71,7 @@ module _ {t : List ℕ} {records : ℕ} {js ss ls₀ bs₀ cs₀ : List ℕ} (q 
   top = first-of (g .config .stack) (λ e. deep (g .present .depth ∙ e))
 
   -- it faces a step
-  facing-of : (getD t (s .at) 0 ≡ 0x27 → s .taken < length ts) → Facing t ts ss ls cs s
+  pub facing-of : (getD t (s .at) 0 ≡ 0x27 → s .taken < length ts) → Facing t ts ss ls cs s
   facing-of entry = record {
     records = records;
     jumps = js;
@@ -88,7 +88,7 @@ module _ {t : List ℕ} {records : ℕ} {js ss ls₀ bs₀ cs₀ : List ℕ} (q 
   }
 
   -- the table fits the jump table
-  small : length t ≤ positions
+  pub small : length t ≤ positions
   small = omega (arith, ap length (q .loaded .same), q .loaded .sound .size)
 
   -- it is in the table
@@ -281,23 +281,16 @@ module _ {t : List ℕ} {records : ℕ} {ts js ss ls₀ bs₀ cs₀ : List ℕ} 
             ended (blocked y) (f ∙ ap (λ m. ranWith 2 m k s) w) (λ q. run-ended h (q .loaded .program .procs) (n - k) k (G .from q .config)
             (next-blocked h (top q (G .from q) deep .2) (faced q .decision) z) (omega (arith, G .low)))
 
-        module _ (on : OneOf (0 ∷ 1 ∷ 2 ∷ 3 ∷ 4 ∷ 5 ∷ 6 ∷ []) (tagOf the-type x)) (room : length ts < 2 ^ 64) (fits : n < 2 ^ 64) where
-          -- the step goes on
-          goes-on : (y : Reason) → x ≡ Blocked y → ⊥
-          goes-on y z = miss (0 ∷ 1 ∷ 2 ∷ 3 ∷ 4 ∷ 5 ∷ 6 ∷ []) 7 tt (rw z at on)
-
-          -- it is due
-          step-due : (q : Starting t records js ss ls₀ bs₀ cs₀) → Due t records js ls′ bs cs es s x
-          step-due q = due-of q (G .from q) deep (U .no e) (faced q) goes-on room (omega (arith, G .low, G .counted))
-
-          pub going-due : Due t records js ls′ bs cs es s x
-          going-due = step-due (G .start)
+        module _ (on : (y : Reason) → x ≡ Blocked y → ⊥) (room : length ts < 2 ^ 64) (fits : n < 2 ^ 64) where
+          -- a step that goes on is due
+          pub step-due : (q : Starting t records js ss ls₀ bs₀ cs₀) → Due t records js ls′ bs cs es s x
+          step-due q = due-of q (G .from q) deep (U .no e) (faced q) on room (omega (arith, G .low, G .counted))
 
           -- it was carried out
-          pub going-on : {ls″ bs′ cs′ es′ : List ℕ} {s′ : State} → CarriesOut t records js h ls′ bs cs es s x ls″ bs′ cs′ es′ s′
+          pub step-on : {ls″ bs′ cs′ es′ : List ℕ} {s′ : State} → CarriesOut t records js h ls′ bs cs es s x ls″ bs′ cs′ es′ s′
               → Going t records ts js ss ls₀ bs₀ cs₀ h n lent ls″ bs′ cs′ es′ s′ (k + 1)
           unfolding step-due due-of
-          going-on {s′ = s′} K = record {
+          step-on {s′ = s′} K = record {
             start = G .start;
             from = λ q.
                 let m = K .moves (step-due q) in
@@ -313,6 +306,18 @@ module _ {t : List ℕ} {records : ℕ} {ts js ss ls₀ bs₀ cs₀ : List ℕ} 
             low = omega (arith, G .low);
             counted = omega (arith, G .counted, K .most);
           }
+
+        module _ (on : OneOf (0 ∷ 1 ∷ 2 ∷ 3 ∷ 4 ∷ 5 ∷ 6 ∷ []) (tagOf the-type x)) (room : length ts < 2 ^ 64) (fits : n < 2 ^ 64) where
+          -- the step goes on
+          goes-on : (y : Reason) → x ≡ Blocked y → ⊥
+          goes-on y z = miss (0 ∷ 1 ∷ 2 ∷ 3 ∷ 4 ∷ 5 ∷ 6 ∷ []) 7 tt (rw z at on)
+
+          pub going-due : Due t records js ls′ bs cs es s x
+          going-due = step-due goes-on room fits (G .start)
+
+          pub going-on : {ls″ bs′ cs′ es′ : List ℕ} {s′ : State} → CarriesOut t records js h ls′ bs cs es s x ls″ bs′ cs′ es′ s′
+              → Going t records ts js ss ls₀ bs₀ cs₀ h n lent ls″ bs′ cs′ es′ s′ (k + 1)
+          going-on K = step-on goes-on room fits K
 
 -- one law for each way
 pub ruleset going-ways = (

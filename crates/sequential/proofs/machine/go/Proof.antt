@@ -2,7 +2,8 @@
 use Prim.Native.Nat.{_-_}
 use borrow.Author.Needs.{needs}
 use native.Mathlib.Omega.{arith}
-use Rattle.sequential.proofs.Running.{Going, going-ways, going-due, going-on}
+use Rattle.sequential.proofs.Running.{Going, going-ways, going-long, going-inside, going-few, going-facing, going-blocked, going-due, going-on}
+use Rattle.sequential.proofs.Turning.{turned-most, turning-ways, going-left, going-above, going-asked, going-words}
 use Rattle.sequential.proofs.machine.go.Statement.{statement}
 use Rattle.sequential.proofs.machine.go.Tie as tie
 
@@ -29,44 +30,123 @@ go-spec =
     (λ c κs. search needs)
     (λ c. search going-ways)
     (λ c. search going-ways)
-    (λ c κs. (search going-ways, search going-ways))
-    (λ c κs. search needs)
-    (λ c. search going-ways)
-    (λ c. search going-ways)
-    (λ c κs. (search going-ways, search going-ways, search needs, search going-ways))
     (λ c. search needs)
+    (λ c. search (turning-ways, needs))
+    (λ c. search needs)
+    (λ c κs. (search turning-ways, search turning-ways))
     (λ c κs. search needs)
-    (λ c κs. search needs)
-    (λ c. search going-ways)
-    (λ c. search going-ways)
     (λ c κs.
-    let told = c .before .before .before .before in
-    let faced = told .before in
-    let third = faced .before .before .before in
-    let used = third .before in
-    let second = used .before in
+    let third = c .before .before .before .before in
+    let counted = third .before in
+    let turned = counted .before in
+    let second = turned .before .before .before .before in
     let first = second .before in
     let start = first .before .before in
     let entry = start .before .before .before .before .before .before in
-    going-due (start .loop .inv) (first .if1 .left) (second .if2 .left) (used .used-up .ensures) (third .if3 .left) (faced .due .ensures)
-    (told .match .keys2) (omega (arith, entry .good .1 .1 .0)) (omega (arith, entry .fits .budget)))
+    going-asked (start .loop .inv) (first .if1 .left) (turned .decide .ensures) (third .if3 .taken) (counted .steps .ensures) (second .if2 .left)
+    (omega (arith, entry .good .1 .1 .0)) (omega (arith, entry .fits .budget)))
     (λ c.
-    let second = c .before .before .before .before .before .before .before .before .before .before .before .before .before in
-    let start = second .before .before .before in
+    let third = c .before .before .before .before .before .before .before in
+    let counted = third .before in
+    let turned = counted .before in
+    let second = turned .before .before .before .before in
+    let first = second .before in
+    let start = first .before .before in
+    let entry = start .before .before .before .before .before .before in
+    let most = turned-most (turned .decide .ensures) (going-left (start .loop .inv) (first .if1 .left) (second .if2 .left)) (counted .steps .ensures) in
+    record { fits = omega (arith, start .loop .inv .low, most, entry .fits .budget) })
+    (λ c.
+    let third = c .before .before .before .before .before .before .before in
+    let counted = third .before in
+    let turned = counted .before in
+    let second = turned .before .before .before .before in
+    let first = second .before in
+    let start = first .before .before in
+    let most = turned-most (turned .decide .ensures) (going-left (start .loop .inv) (first .if1 .left) (second .if2 .left)) (counted .steps .ensures) in
+    omega (arith, start .loop .inv .low, most, third .if3 .taken))
+    (λ c.
+    let third = c .before .before .before .before .before .before .before in
+    let counted = third .before in
+    let turned = counted .before in
+    let second = turned .before .before .before .before in
+    let first = second .before in
+    let start = first .before .before in
+    let entry = start .before .before .before .before .before .before in
+    going-words (start .loop .inv) (first .if1 .left) (turned .decide .ensures) (third .if3 .taken) (counted .steps .ensures) (second .if2 .left)
+    (omega (arith, entry .good .1 .1 .0)) (omega (arith, entry .fits .budget)) (c .before .before .carry-words .ensures))
+    (λ c κs. (search (going-ways, turning-ways), search (going-ways, turning-ways)))
+    (λ c κs. search needs)
+    (λ c. search (going-ways, turning-ways))
+    (λ c. search (going-ways, turning-ways))
+    (λ c κs.
+    let test = c .before .before in
+    let used = test .before in
+    let turned = used .before .before .before in
+    let second = turned .before .before .before .before in
+    let first = second .before in
+    let start = first .before .before in
+    let left = (going-above (start .loop .inv) (first .if1 .left) (turned .decide .ensures)) in
+    (going-facing left (first .if1 .left) (second .if2 .left) (used .used-up .ensures) (test .if4 .left), going-inside left (first .if1 .left),
+    search needs, going-few left (first .if1 .left)))
+    (λ c. search needs)
+    (λ c κs. search needs)
+    (λ c κs. search needs)
+    (λ c. going-long (c .before .before .before .before .before .before .before .before .before .before .before .before .before .before .before .before .before .before .before .loop .inv))
+    (λ c.
+    let test = c .before .before .before .before .before .before .before .before in
+    let used = test .before in
+    let turned = used .before .before .before in
+    let second = turned .before .before .before .before in
+    let first = second .before in
+    let start = first .before .before in
+    let left = going-above (start .loop .inv) (first .if1 .left) (turned .decide .ensures) in
+    let faced = c .before .before .before .before .before in
+    going-blocked left (first .if1 .left) (second .if2 .left) (used .used-up .ensures) (test .if4 .left) (faced .due .ensures) (c .before .before .before .step .given .1)
+    (c .before .number .ensures) (c .outcome4 .ensures))
+    (λ c κs.
+    let told = c .before .before .before .before in
+    let faced = told .before in
+    let test = faced .before .before .before in
+    let used = test .before in
+    let turned = used .before .before .before in
+    let second = turned .before .before .before .before in
+    let first = second .before in
+    let start = first .before .before in
+    let entry = start .before .before .before .before .before .before in
+    going-due (going-above (start .loop .inv) (first .if1 .left) (turned .decide .ensures)) (first .if1 .left) (second .if2 .left)
+    (used .used-up .ensures) (test .if4 .left) (faced .due .ensures) (told .match .keys2) (omega (arith, entry .good .1 .1 .0))
+    (omega (arith, entry .fits .budget)))
+    (λ c.
+    let told = c .before .before .before .before .before .before .before in
+    let faced = told .before in
+    let test = faced .before .before .before in
+    let used = test .before in
+    let turned = used .before .before .before in
+    let second = turned .before .before .before .before in
+    let first = second .before in
+    let start = first .before .before in
     let entry = start .before .before .before .before .before .before in
     record { fits = omega (arith, start .loop .inv .low, second .if2 .left, entry .fits .budget) })
     (λ c.
-    let second = c .before .before .before .before .before .before .before .before .before .before .before .before .before in
-    let start = second .before .before .before in
+    let told = c .before .before .before .before .before .before .before in
+    let faced = told .before in
+    let test = faced .before .before .before in
+    let used = test .before in
+    let turned = used .before .before .before in
+    let second = turned .before .before .before .before in
+    let first = second .before in
+    let start = first .before .before in
     omega (arith, start .loop .inv .low, second .if2 .left))
     (λ c.
     let told = c .before .before .before .before .before .before .before in
     let faced = told .before in
-    let third = faced .before .before .before in
-    let used = third .before in
-    let second = used .before in
+    let test = faced .before .before .before in
+    let used = test .before in
+    let turned = used .before .before .before in
+    let second = turned .before .before .before .before in
     let first = second .before in
     let start = first .before .before in
     let entry = start .before .before .before .before .before .before in
-    going-on (start .loop .inv) (first .if1 .left) (second .if2 .left) (used .used-up .ensures) (third .if3 .left) (faced .due .ensures)
-    (told .match .keys2) (omega (arith, entry .good .1 .1 .0)) (omega (arith, entry .fits .budget)) (c .before .before .carry-out .ensures)))
+    going-on (going-above (start .loop .inv) (first .if1 .left) (turned .decide .ensures)) (first .if1 .left) (second .if2 .left)
+    (used .used-up .ensures) (test .if4 .left) (faced .due .ensures) (told .match .keys2) (omega (arith, entry .good .1 .1 .0))
+    (omega (arith, entry .fits .budget)) (c .before .before .carry-out .ensures)))
