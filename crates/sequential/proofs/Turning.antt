@@ -112,6 +112,7 @@ module _ {t : List ℕ} {records : ℕ} {ts js ss ls₀ bs₀ cs₀ : List ℕ} 
         small = small q g deep;
         poised = λ o. facing-poised (facing-of q g deep (λ z. absurd (o z))) (record { other = o }) (going-inside G deep);
         kept = record { memory = g .config .memory; lies = record { bases = rw (g .present .sizes) (q .loaded .starts); holds = g .present .memory } };
+        full = g .present .full;
       }
 
   -- at least one step is left

@@ -85,9 +85,12 @@ go-spec =
     let second = turned .before .before .before .before in
     let first = second .before in
     let start = first .before .before in
-    let left = (going-above (start .loop .inv) (first .if1 .left) (turned .decide .ensures)) in
-    (going-facing left (first .if1 .left) (second .if2 .left) (used .used-up .ensures) (test .if4 .left), going-inside left (first .if1 .left),
-    search needs, going-few left (first .if1 .left)))
+    let left = (going-above (start .loop .inv) (first .if1 .left) (turned .decide .ensures)) in (
+      going-facing left (first .if1 .left) (second .if2 .left) (used .used-up .ensures) (test .if4 .left),
+      going-inside left (first .if1 .left),
+      search needs,
+      going-few left (first .if1 .left),
+    ))
     (λ c. search needs)
     (λ c κs. search needs)
     (λ c κs. search needs)
