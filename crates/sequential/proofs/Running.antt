@@ -58,6 +58,9 @@ pub record Going (t : List ℕ) (records : ℕ) (ts js ss ls₀ bs₀ cs₀ : Li
   pub from : (q : Starting t records js ss ls₀ bs₀ cs₀) → GoingFrom q ts h n lent ls bs cs es s k
   pub low : k ≤ n
   pub counted : s .events ≤ k
+  -- the counts fit their words
+  pub entries : length ts < 2 ^ 64
+  pub budget : n < 2 ^ 64
 
 -- a stack with frames has a first
 first-of : (s : Stack Plain) → (length s ≡ 0 → ⊥) → (f : Frame Plain) × (b : Stack Plain) × (s ≡ f ∷ b)
@@ -175,9 +178,9 @@ module _ {t : List ℕ} {records : ℕ} {js ss ls bs cs : List ℕ} (q : Startin
       }
 
 pub going-start : {t : List ℕ} {records : ℕ} {ts js ss ls bs cs es : List ℕ} {h n v w : ℕ} → Starting t records js ss ls bs cs → v ≡ w
-    → w ≡ numberAt 4 t (records + 2)
+    → w ≡ numberAt 4 t (records + 2) → length ts < 2 ^ 64 → n < 2 ^ 64
     → Going t records ts js ss ls bs cs h n es ls bs cs es (record { at = v; depth = 1; thread = 0; taken = 0; events = 0 }) 0
-going-start {ts = ts} {es = es} {h} {n} q e f =
+going-start {ts = ts} {es = es} {h} {n} q e f room fits =
     let all : n - 0 ≡ n = omega arith in
     record {
       start = q;
@@ -188,6 +191,8 @@ going-start {ts = ts} {es = es} {h} {n} q e f =
       };
       low = omega arith;
       counted = omega arith;
+      entries = room;
+      budget = fits;
     }
 
 -- ---- one law for each way through the loop
@@ -281,10 +286,10 @@ module _ {t : List ℕ} {records : ℕ} {ts js ss ls₀ bs₀ cs₀ : List ℕ} 
             ended (blocked y) (f ∙ ap (λ m. ranWith 2 m k s) w) (λ q. run-ended h (q .loaded .program .procs) (n - k) k (G .from q .config)
             (next-blocked h (top q (G .from q) deep .2) (faced q .decision) z) (omega (arith, G .low)))
 
-        module _ (on : (y : Reason) → x ≡ Blocked y → ⊥) (room : length ts < 2 ^ 64) (fits : n < 2 ^ 64) where
+        module _ (on : (y : Reason) → x ≡ Blocked y → ⊥) where
           -- a step that goes on is due
           pub step-due : (q : Starting t records js ss ls₀ bs₀ cs₀) → Due t records js ls′ bs cs es s x
-          step-due q = due-of q (G .from q) deep (U .no e) (faced q) on room (omega (arith, G .low, G .counted))
+          step-due q = due-of q (G .from q) deep (U .no e) (faced q) on (G .entries) (omega (arith, G .low, G .counted, G .budget))
 
           -- it was carried out
           pub step-on : {ls″ bs′ cs′ es′ : List ℕ} {s′ : State} → CarriesOut t records js h ls′ bs cs es s x ls″ bs′ cs′ es′ s′
@@ -305,19 +310,21 @@ module _ {t : List ℕ} {records : ℕ} {ts js ss ls₀ bs₀ cs₀ : List ℕ} 
                 };
             low = omega (arith, G .low);
             counted = omega (arith, G .counted, K .most);
+            entries = G .entries;
+            budget = G .budget;
           }
 
-        module _ (on : OneOf (0 ∷ 1 ∷ 2 ∷ 3 ∷ 4 ∷ 5 ∷ 6 ∷ []) (tagOf the-type x)) (room : length ts < 2 ^ 64) (fits : n < 2 ^ 64) where
+        module _ (on : OneOf (0 ∷ 1 ∷ 2 ∷ 3 ∷ 4 ∷ 5 ∷ 6 ∷ []) (tagOf the-type x)) where
           -- the step goes on
           goes-on : (y : Reason) → x ≡ Blocked y → ⊥
           goes-on y z = miss (0 ∷ 1 ∷ 2 ∷ 3 ∷ 4 ∷ 5 ∷ 6 ∷ []) 7 tt (rw z at on)
 
           pub going-due : Due t records js ls′ bs cs es s x
-          going-due = step-due goes-on room fits (G .start)
+          going-due = step-due goes-on (G .start)
 
           pub going-on : {ls″ bs′ cs′ es′ : List ℕ} {s′ : State} → CarriesOut t records js h ls′ bs cs es s x ls″ bs′ cs′ es′ s′
               → Going t records ts js ss ls₀ bs₀ cs₀ h n lent ls″ bs′ cs′ es′ s′ (k + 1)
-          going-on K = step-on goes-on room fits K
+          going-on K = step-on goes-on K
 
 -- one law for each way
 pub ruleset going-ways = (

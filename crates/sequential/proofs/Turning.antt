@@ -58,7 +58,7 @@ tests-no-select : (t : List ℕ) (i : ℕ) → Tests t i → getD t i 0 ≡ 0x27
 tests-no-select t i T z = ⊎-elim (λ e. omega (arith, e, z)) (λ e. omega (arith, e, z)) T
 
 -- no more steps than are left
-pub turned-most : {t js ls ls′ ss cs : List ℕ} {fb i left r : ℕ} {q : Quick} → Turns t js ls ls′ ss cs fb i left q → 1 ≤ left → r ≡ stepsOf q → r ≤ left
+turned-most : {t js ls ls′ ss cs : List ℕ} {fb i left r : ℕ} {q : Quick} → Turns t js ls ls′ ss cs fb i left q → 1 ≤ left → r ≡ stepsOf q → r ≤ left
 turned-most {t} {js} {ls} {ls′} {ss} {cs} {fb} {i} {left} {r} {q} T some e = rw e (go q (T .turned))
   where
     go : (q : Quick) → Turned t js ls ls′ ss cs fb i left q → stepsOf q ≤ left
@@ -72,7 +72,7 @@ turned-most {t} {js} {ls} {ls′} {ss} {cs} {fb} {i} {left} {r} {q} T some e = r
 
 -- ---- the run
 
-module _ {t : List ℕ} {records : ℕ} {ts js ss ls₀ bs₀ cs₀ : List ℕ} {h n : ℕ} {lent bs cs es : List ℕ} (room : length ts < 2 ^ 64) (fits : n < 2 ^ 64) where
+module _ {t : List ℕ} {records : ℕ} {ts js ss ls₀ bs₀ cs₀ : List ℕ} {h n : ℕ} {lent bs cs es : List ℕ} where
   -- a test that fails at i is one step, and only the position is another
   test-on : {ls : List ℕ} (s : State) {k i j : ℕ} → Going t records ts js ss ls₀ bs₀ cs₀ h n lent ls bs cs es (movedTo s i (s .depth) (s .events)) k
       → (s .depth ≡ 0 → ⊥) → Tests t i → DecidesAll t ls ls (frameWords * (s .depth - 1)) i (Lies ss cs) (S.Test false j) → k < n
@@ -85,7 +85,7 @@ module _ {t : List ℕ} {records : ℕ} {ts js ss ls₀ bs₀ cs₀ : List ℕ} 
       let K : CarriesOut t records js h ls bs cs es now (S.Test false j) ls bs cs es (movedTo s (getD js i 0) (s .depth) (s .events)) =
       did-test refl (record { yes = λ z. absurd (never z); no = λ z. refl }) refl
       in
-      step-on H deep (λ z. omega (arith, z, l)) U refl F test-goes room fits K
+      step-on H deep (λ z. omega (arith, z, l)) U refl F test-goes K
 
   -- the same, counted otherwise
   recounted : {ls : List ℕ} {s : State} {k m : ℕ} → k ≡ m → Going t records ts js ss ls₀ bs₀ cs₀ h n lent ls bs cs es s k
@@ -135,9 +135,11 @@ module _ {t : List ℕ} {records : ℕ} {ts js ss ls₀ bs₀ cs₀ : List ℕ} 
       };
       low = G .low;
       counted = G .counted;
+      entries = G .entries;
+      budget = G .budget;
     }
 
-    module _ {r : ℕ} (on : 0 < r) (count : r ≡ stepsOf q) (under : k ≡ n → ⊥) (room : length ts < 2 ^ 64) (fits : n < 2 ^ 64) where
+    module _ {r : ℕ} (on : 0 < r) (count : r ≡ stepsOf q) (under : k ≡ n → ⊥) where
       -- no select stands there
       other : getD t (s .at) 0 ≡ 0x27 → ⊥
       other z = omega (arith, on, count, ap stepsOf (T .other z))
@@ -147,6 +149,17 @@ module _ {t : List ℕ} {records : ℕ} {ts js ss ls₀ bs₀ cs₀ : List ℕ} 
 
       faces : {x : Step} → DecidesAll t ls ls′ (frameWords * (s .depth - 1)) (s .at) (Lies ss cs) x → Faces t ts ss ls cs s ls′ x
       faces D = faces-act (record { other = other }) (going-inside G deep) (omega (arith, deep)) D
+
+      -- no more steps than are left
+      few : k + r ≤ n
+      few = omega (arith, turned-most T (going-left under) count, G .low)
+
+      -- the count fits its word, and fewer are left
+      pub words-fit : Fits w64 (k + r)
+      words-fit = record { fits = omega (arith, few, G .budget) }
+
+      pub words-less : n - (k + r) < n - k
+      words-less = omega (arith, few, on)
 
       -- what it stands for is due
       pub going-asked : DueWords t records js ls′ bs cs es s q
@@ -159,11 +172,11 @@ module _ {t : List ℕ} {records : ℕ} {ts js ss ls₀ bs₀ cs₀ : List ℕ} 
             small = small (G .start) g deep;
             long = T .beside .long ∙ g .present .long;
             full = g .present .full;
-            counted = omega (arith, G .low, G .counted, under, fits);
+            counted = omega (arith, G .low, G .counted, under, G .budget);
           }
         where
           go : {q : Quick} → Answered t js ls ls′ ss cs (frameWords * (s .depth - 1)) (s .at) (n - k) q → Asked t records js ls′ bs cs es s q
-          go (single x m e D) = one x m (step-due G deep under used refl (faces D) (means-goes m) room fits (G .start))
+          go (single x m e D) = one x m (step-due G deep under used refl (faces D) (means-goes m) (G .start))
           go (row e l R) = several
 
       module _ {ls″ bs′ cs′ es′ : List ℕ} {s′ : State} where
@@ -171,7 +184,7 @@ module _ {t : List ℕ} {records : ℕ} {ts js ss ls₀ bs₀ cs₀ : List ℕ} 
         one-on : {p : Quick} (x : Step) → Means p x → stepsOf p ≡ 1 → DecidesAll t ls ls′ (frameWords * (s .depth - 1)) (s .at) (Lies ss cs) x
             → CarriesWords t records js h ls′ bs cs es s p ls″ bs′ cs′ es′ s′
             → Going t records ts js ss ls₀ bs₀ cs₀ h n lent ls″ bs′ cs′ es′ s′ (k + stepsOf p)
-        one-on x m e D K = recounted room fits (ap (k +_) (sym e)) (step-on G deep under used refl (faces D) (means-goes m) room fits (K .carried x m))
+        one-on x m e D K = recounted (ap (k +_) (sym e)) (step-on G deep under used refl (faces D) (means-goes m) (K .carried x m))
 
         -- or several
         several-on : {to m : ℕ} → ls′ ≡ ls → m ≤ n - k → Row t js ls ss cs (frameWords * (s .depth - 1)) (s .at) m to
@@ -180,7 +193,7 @@ module _ {t : List ℕ} {records : ℕ} {ts js ss ls₀ bs₀ cs₀ : List ℕ} 
         several-on {to} {m} e l R K =
             let same = K .passed to m refl in
             let H : Going t records ts js ss ls₀ bs₀ cs₀ h n lent ls bs cs es (movedTo s to (s .depth) (s .events)) (k + m) =
-            row-on room fits G deep R (omega (arith, l, G .low))
+            row-on G deep R (omega (arith, l, G .low))
             in
             rw (same .0, e, same .1, same .2, same .3, same .4) H
 
@@ -193,7 +206,7 @@ module _ {t : List ℕ} {records : ℕ} {ts js ss ls₀ bs₀ cs₀ : List ℕ} 
         -- so many steps were made
         pub going-words : CarriesWords t records js h ls′ bs cs es s q ls″ bs′ cs′ es′ s′
             → Going t records ts js ss ls₀ bs₀ cs₀ h n lent ls″ bs′ cs′ es′ s′ (k + r)
-        going-words K = recounted room fits (ap (k +_) (sym count)) (made (answered q (T .turned) (omega (arith, on, count))) K)
+        going-words K = recounted (ap (k +_) (sym count)) (made (answered q (T .turned) (omega (arith, on, count))) K)
 
 -- one law for each way
-pub ruleset turning-ways = (going-turning, going-left, going-base, going-above)
+pub ruleset turning-ways = (going-turning, going-left, going-base, going-above, words-fit, words-less, going-asked, going-words)

@@ -2,8 +2,8 @@
 use Prim.Native.Nat.{_-_}
 use borrow.Author.Needs.{needs}
 use native.Mathlib.Omega.{arith}
-use Rattle.sequential.proofs.Running.{Going, going-ways, going-long, going-inside, going-few, going-facing, going-blocked, going-due, going-on}
-use Rattle.sequential.proofs.Turning.{turned-most, turning-ways, going-left, going-above, going-asked, going-words}
+use Rattle.sequential.proofs.Running.{Going, going-start, going-ways, going-long, going-inside, going-few, going-facing, going-blocked, going-due, going-on}
+use Rattle.sequential.proofs.Turning.{turning-ways, going-above}
 use Rattle.sequential.proofs.machine.go.Statement.{statement}
 use Rattle.sequential.proofs.machine.go.Tie as tie
 
@@ -23,7 +23,9 @@ go-spec =
     (λ c. search needs)
     (λ c κs. search needs)
     (λ c κs. search needs)
-    (λ c. search (going-ways, needs))
+    (λ c.
+    let entry = c .before .before .before .before .before in
+    going-start (entry .pre) (c .wide .ensures) (c .before .four .ensures) (omega (arith, entry .good .1 .1 .0)) (omega (arith, entry .fits .budget)))
     (λ c κs. search needs)
     (λ c. search going-ways)
     (λ c. search going-ways)
@@ -33,47 +35,12 @@ go-spec =
     (λ c. search needs)
     (λ c. search (turning-ways, needs))
     (λ c. search needs)
-    (λ c κs. (search turning-ways, search turning-ways))
+    (λ c κs. (search turning-ways, search (turning-ways, needs)))
     (λ c κs. search needs)
-    (λ c κs.
-    let third = c .before .before .before .before in
-    let counted = third .before in
-    let turned = counted .before in
-    let second = turned .before .before .before .before in
-    let first = second .before in
-    let start = first .before .before in
-    let entry = start .before .before .before .before .before .before in
-    going-asked (start .loop .inv) (first .if1 .left) (turned .decide .ensures) (third .if3 .taken) (counted .steps .ensures) (second .if2 .left)
-    (omega (arith, entry .good .1 .1 .0)) (omega (arith, entry .fits .budget)))
-    (λ c.
-    let third = c .before .before .before .before .before .before .before in
-    let counted = third .before in
-    let turned = counted .before in
-    let second = turned .before .before .before .before in
-    let first = second .before in
-    let start = first .before .before in
-    let entry = start .before .before .before .before .before .before in
-    let most = turned-most (turned .decide .ensures) (going-left (start .loop .inv) (first .if1 .left) (second .if2 .left)) (counted .steps .ensures) in
-    record { fits = omega (arith, start .loop .inv .low, most, entry .fits .budget) })
-    (λ c.
-    let third = c .before .before .before .before .before .before .before in
-    let counted = third .before in
-    let turned = counted .before in
-    let second = turned .before .before .before .before in
-    let first = second .before in
-    let start = first .before .before in
-    let most = turned-most (turned .decide .ensures) (going-left (start .loop .inv) (first .if1 .left) (second .if2 .left)) (counted .steps .ensures) in
-    omega (arith, start .loop .inv .low, most, third .if3 .taken))
-    (λ c.
-    let third = c .before .before .before .before .before .before .before in
-    let counted = third .before in
-    let turned = counted .before in
-    let second = turned .before .before .before .before in
-    let first = second .before in
-    let start = first .before .before in
-    let entry = start .before .before .before .before .before .before in
-    going-words (start .loop .inv) (first .if1 .left) (turned .decide .ensures) (third .if3 .taken) (counted .steps .ensures) (second .if2 .left)
-    (omega (arith, entry .good .1 .1 .0)) (omega (arith, entry .fits .budget)) (c .before .before .carry-words .ensures))
+    (λ c κs. search turning-ways)
+    (λ c. search turning-ways)
+    (λ c. search turning-ways)
+    (λ c. search turning-ways)
     (λ c κs. (search (going-ways, turning-ways), search (going-ways, turning-ways)))
     (λ c κs. search needs)
     (λ c. search (going-ways, turning-ways))
@@ -117,8 +84,7 @@ go-spec =
     let start = first .before .before in
     let entry = start .before .before .before .before .before .before in
     going-due (going-above (start .loop .inv) (first .if1 .left) (turned .decide .ensures)) (first .if1 .left) (second .if2 .left)
-    (used .used-up .ensures) (test .if4 .left) (faced .due .ensures) (told .match .keys2) (omega (arith, entry .good .1 .1 .0))
-    (omega (arith, entry .fits .budget)))
+    (used .used-up .ensures) (test .if4 .left) (faced .due .ensures) (told .match .keys2))
     (λ c.
     let told = c .before .before .before .before .before .before .before in
     let faced = told .before in
@@ -151,5 +117,5 @@ go-spec =
     let start = first .before .before in
     let entry = start .before .before .before .before .before .before in
     going-on (going-above (start .loop .inv) (first .if1 .left) (turned .decide .ensures)) (first .if1 .left) (second .if2 .left)
-    (used .used-up .ensures) (test .if4 .left) (faced .due .ensures) (told .match .keys2) (omega (arith, entry .good .1 .1 .0))
-    (omega (arith, entry .fits .budget)) (c .before .before .carry-out .ensures)))
+    (used .used-up .ensures) (test .if4 .left) (faced .due .ensures) (told .match .keys2)
+    (c .before .before .carry-out .ensures)))
