@@ -3,13 +3,17 @@ use Prim.Native.Nat.{ℕ, suc, _+_, _*_, _-_, _^_, _≤_, _<_}
 use native.Mathlib.Omega.{arith}
 use mathlib.Core.Path.{_≡_, refl, sym, ap, subst, _∙_}
 use mathlib.Core.Logic.{⊎-elim}
-use mathlib.Core.List.{List}
-use mathlib.Core.Bool.{true, false}
+use mathlib.Core.List.{List, [], _∷_}
+use mathlib.Core.Bool.{Bool, true, false}
 use lib.ListN.{length, getD}
+use types.Run.{OneOf}
+use denote.Enum.Declared.{tagOf}
 use mir.Val.{Fits}
 use mir.Syntax.{w64}
+use Rattle.value.specs.Try.{reasonNumber}
 use Rattle.value.specs.declared.Reason.{Reason}
 use Rattle.value.specs.Laws.Tests.{never}
+use Rattle.decide.proofs.step.Step.{the-type}
 use Rattle.decide.specs.declared.step.Step.{Step}
 use Rattle.decide.specs.declared.step.Step.the-variants as S
 use Rattle.decide.specs.Decided.{Lies, DecidesAll, Tests}
@@ -18,11 +22,13 @@ use Rattle.quick.specs.declared.turn.Quick.{Quick}
 use Rattle.quick.specs.declared.turn.Quick.the-variants.{Assign, Read, Write, Holds, Fails, Call, Left}
 use Rattle.quick.specs.Quick.{Turning, Turned, Turns, Row, none, more, stepsOf}
 use Rattle.sequential.specs.declared.machine.State.{State}
-use Rattle.sequential.specs.Sequential.{Starting, CarriesOut, Due, Faces, UsedUp, movedTo}
+use Rattle.sequential.specs.declared.machine.Ran.{Ran}
+use Rattle.sequential.specs.Sequential.{CarriesOut, Due, Facing, Faces, UsedUp, movedTo, ranWith, Runs}
 use Rattle.sequential.specs.Words.{Means, assigns, reads, writes, holds, calls, Asked, one, several, DueWords, CarriesWords}
 use Rattle.sequential.proofs.CarryingOut.{did-test}
-use Rattle.sequential.proofs.Facing.{NoSelect, facing-poised, faces-act, used-other, present-above}
-use Rattle.sequential.proofs.Running.{GoingFrom, Going, facing-of, small, going-inside, going-few, step-due, step-on}
+use Rattle.sequential.proofs.Facing.{facing-poised, faces-act, used-other, present-above}
+use Rattle.sequential.proofs.Running.{Going, facing-of, small, going-inside, going-few, step-due, step-on}
+use Rattle.sequential.proofs.Running.{going-facing, going-blocked, going-due, going-on}
 
 -- ---- what an answer stands for
 
@@ -119,6 +125,13 @@ module _ {t : List ℕ} {records : ℕ} {ts js ss ls₀ bs₀ cs₀ : List ℕ} 
   pub going-left : (k ≡ n → ⊥) → 1 ≤ n - k
   going-left under = omega (arith, under, G .low)
 
+  -- one step more fits the count, and leaves fewer
+  pub step-fit : (k ≡ n → ⊥) → Fits w64 (k + 1)
+  step-fit under = record { fits = omega (arith, under, G .low, G .budget) }
+
+  pub step-less : (k ≡ n → ⊥) → n - (k + 1) < n - k
+  step-less under = omega (arith, under, G .low)
+
   -- its frame is among the words
   pub going-base : Fits w64 (frameWords * (s .depth - 1))
   going-base = record { fits = omega (arith, going-few G deep) }
@@ -138,6 +151,24 @@ module _ {t : List ℕ} {records : ℕ} {ts js ss ls₀ bs₀ cs₀ : List ℕ} 
       entries = G .entries;
       budget = G .budget;
     }
+
+    -- where it is left, the general way goes on from there
+    module _ {u : Bool} (under : k ≡ n → ⊥) (U : UsedUp t ts s u) (e : u ≡ false) where
+      pub left-facing : Facing t ts ss ls′ cs s
+      left-facing = going-facing going-above deep under U e
+
+      module _ {ls″ : List ℕ} {x : Step} (F : Faces t ts ss ls′ cs s ls″ x) where
+        pub left-blocked : {a : Ran} {y : Reason} {m : ℕ} → x ≡ S.Blocked y → m ≡ reasonNumber y → a ≡ ranWith 2 m k s
+            → Runs t records ts js ss ls₀ bs₀ cs₀ h n lent cs es a
+        left-blocked z w f = going-blocked going-above deep under U e F z w f
+
+        module _ (on : OneOf (0 ∷ 1 ∷ 2 ∷ 3 ∷ 4 ∷ 5 ∷ 6 ∷ []) (tagOf the-type x)) where
+          pub left-due : Due t records js ls″ bs cs es s x
+          left-due = going-due going-above deep under U e F on
+
+          pub left-on : {ls‴ bs′ cs′ es′ : List ℕ} {s′ : State} → CarriesOut t records js h ls″ bs cs es s x ls‴ bs′ cs′ es′ s′
+              → Going t records ts js ss ls₀ bs₀ cs₀ h n lent ls‴ bs′ cs′ es′ s′ (k + 1)
+          left-on K = going-on going-above deep under U e F on K
 
     module _ {r : ℕ} (on : 0 < r) (count : r ≡ stepsOf q) (under : k ≡ n → ⊥) where
       -- no select stands there

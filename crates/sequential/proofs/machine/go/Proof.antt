@@ -2,8 +2,8 @@
 use Prim.Native.Nat.{_-_}
 use borrow.Author.Needs.{needs}
 use native.Mathlib.Omega.{arith}
-use Rattle.sequential.proofs.Running.{Going, going-start, going-ways, going-long, going-inside, going-few, going-facing, going-blocked, going-due, going-on}
-use Rattle.sequential.proofs.Turning.{turning-ways, going-above}
+use Rattle.sequential.proofs.Running.{Going, going-start, going-long, going-ways}
+use Rattle.sequential.proofs.Turning.{turning-ways, step-fit, step-less, left-facing, left-blocked, left-due, left-on}
 use Rattle.sequential.proofs.machine.go.Statement.{statement}
 use Rattle.sequential.proofs.machine.go.Tie as tie
 
@@ -41,9 +41,9 @@ go-spec =
     (λ c. search turning-ways)
     (λ c. search turning-ways)
     (λ c. search turning-ways)
-    (λ c κs. (search (going-ways, turning-ways), search (going-ways, turning-ways)))
+    (λ c κs. (search going-ways, search going-ways))
     (λ c κs. search needs)
-    (λ c. search (going-ways, turning-ways))
+    (λ c. search going-ways)
     (λ c. search (going-ways, turning-ways))
     (λ c κs.
     let test = c .before .before in
@@ -51,28 +51,26 @@ go-spec =
     let turned = used .before .before .before in
     let second = turned .before .before .before .before in
     let first = second .before in
-    let start = first .before .before in
-    let left = (going-above (start .loop .inv) (first .if1 .left) (turned .decide .ensures)) in (
-      going-facing left (first .if1 .left) (second .if2 .left) (used .used-up .ensures) (test .if4 .left),
-      going-inside left (first .if1 .left),
+    let start = first .before .before in (
+      left-facing (start .loop .inv) (first .if1 .left) (turned .decide .ensures) (second .if2 .left) (used .used-up .ensures) (test .if4 .left),
+      search going-ways,
       search needs,
-      going-few left (first .if1 .left),
+      search going-ways,
     ))
     (λ c. search needs)
     (λ c κs. search needs)
     (λ c κs. search needs)
     (λ c. going-long (c .before .before .before .before .before .before .before .before .before .before .before .before .before .before .before .before .before .before .before .loop .inv))
     (λ c.
-    let test = c .before .before .before .before .before .before .before .before in
+    let faced = c .before .before .before .before .before in
+    let test = faced .before .before .before in
     let used = test .before in
     let turned = used .before .before .before in
     let second = turned .before .before .before .before in
     let first = second .before in
     let start = first .before .before in
-    let left = going-above (start .loop .inv) (first .if1 .left) (turned .decide .ensures) in
-    let faced = c .before .before .before .before .before in
-    going-blocked left (first .if1 .left) (second .if2 .left) (used .used-up .ensures) (test .if4 .left) (faced .due .ensures) (c .before .before .before .step .given .1)
-    (c .before .number .ensures) (c .outcome4 .ensures))
+    left-blocked (start .loop .inv) (first .if1 .left) (turned .decide .ensures) (second .if2 .left) (used .used-up .ensures) (test .if4 .left)
+    (faced .due .ensures) (c .before .before .before .step .given .1) (c .before .number .ensures) (c .outcome4 .ensures))
     (λ c κs.
     let told = c .before .before .before .before in
     let faced = told .before in
@@ -82,9 +80,16 @@ go-spec =
     let second = turned .before .before .before .before in
     let first = second .before in
     let start = first .before .before in
-    let entry = start .before .before .before .before .before .before in
-    going-due (going-above (start .loop .inv) (first .if1 .left) (turned .decide .ensures)) (first .if1 .left) (second .if2 .left)
-    (used .used-up .ensures) (test .if4 .left) (faced .due .ensures) (told .match .keys2))
+    left-due (start .loop .inv) (first .if1 .left) (turned .decide .ensures) (second .if2 .left) (used .used-up .ensures) (test .if4 .left)
+    (faced .due .ensures) (told .match .keys2))
+    (λ c.
+    let second = c .before .before .before .before .before .before .before .before .before .before .before .before .before .before .before .before .before .before .before in
+    let first = second .before in
+    step-fit (first .before .before .loop .inv) (first .if1 .left) (second .if2 .left))
+    (λ c.
+    let second = c .before .before .before .before .before .before .before .before .before .before .before .before .before .before .before .before .before .before .before in
+    let first = second .before in
+    step-less (first .before .before .loop .inv) (first .if1 .left) (second .if2 .left))
     (λ c.
     let told = c .before .before .before .before .before .before .before in
     let faced = told .before in
@@ -94,28 +99,5 @@ go-spec =
     let second = turned .before .before .before .before in
     let first = second .before in
     let start = first .before .before in
-    let entry = start .before .before .before .before .before .before in
-    record { fits = omega (arith, start .loop .inv .low, second .if2 .left, entry .fits .budget) })
-    (λ c.
-    let told = c .before .before .before .before .before .before .before in
-    let faced = told .before in
-    let test = faced .before .before .before in
-    let used = test .before in
-    let turned = used .before .before .before in
-    let second = turned .before .before .before .before in
-    let first = second .before in
-    let start = first .before .before in
-    omega (arith, start .loop .inv .low, second .if2 .left))
-    (λ c.
-    let told = c .before .before .before .before .before .before .before in
-    let faced = told .before in
-    let test = faced .before .before .before in
-    let used = test .before in
-    let turned = used .before .before .before in
-    let second = turned .before .before .before .before in
-    let first = second .before in
-    let start = first .before .before in
-    let entry = start .before .before .before .before .before .before in
-    going-on (going-above (start .loop .inv) (first .if1 .left) (turned .decide .ensures)) (first .if1 .left) (second .if2 .left)
-    (used .used-up .ensures) (test .if4 .left) (faced .due .ensures) (told .match .keys2)
-    (c .before .before .carry-out .ensures)))
+    left-on (start .loop .inv) (first .if1 .left) (turned .decide .ensures) (second .if2 .left) (used .used-up .ensures) (test .if4 .left)
+    (faced .due .ensures) (told .match .keys2) (c .before .before .carry-out .ensures)))
