@@ -1,11 +1,11 @@
 -- The quick way through the loop of the sequential machine: one step, or several tests in a row that fail.
-use Prim.Native.Nat.{ℕ, suc, _+_, _*_, _-_, _^_, _≤_, _<_}
+use Prim.Native.Nat.{ℕ, _+_, _*_, _-_, _≤_, _<_}
 use native.Mathlib.Omega.{arith}
 use mathlib.Core.Path.{_≡_, refl, sym, ap, subst, _∙_}
 use mathlib.Core.Logic.{⊎-elim}
 use mathlib.Core.List.{List, [], _∷_}
 use mathlib.Core.Bool.{Bool, true, false}
-use lib.ListN.{length, getD}
+use lib.ListN.{getD}
 use types.Run.{OneOf}
 use denote.Enum.Declared.{tagOf}
 use mir.Val.{Fits}

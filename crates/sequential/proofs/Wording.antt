@@ -23,7 +23,7 @@ use Rattle.decide.specs.declared.step.Step.{Step}
 use Rattle.quick.specs.declared.turn.Quick.{Quick}
 use Rattle.quick.specs.declared.turn.Quick.the-variants.{Assign, Read, Write, Holds, Fails, Call, Left}
 use Rattle.sequential.specs.declared.machine.State.{State}
-use Rattle.engine.specs.Words.{held, valueIn}
+use Rattle.engine.specs.Words.{valueIn}
 use Rattle.engine.specs.Work.{frameWords, localWords, cellWords}
 use Rattle.engine.specs.Laws.Logging.{event-past}
 use Rattle.jumps.specs.Jumps.{Settles}
