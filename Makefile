@@ -52,10 +52,13 @@ installed: zaru lib
 	@tools/need pkg-config pkgconf
 	tools/check-install
 
-# not part of the test: instructions and time a step of the sequential machine, and an allotment of the bench
+# not part of the test: instructions and time a step of the sequential machine, beside two C interpreters where their folder is there, and an allotment of
+# the bench
+PEERS ?= ../shared/perf
 bench: zaru
 	@tools/need python3 python3
-	tools/bench
+	@tools/need cc build-essential
+	tools/bench "$(PEERS)"
 
 # not part of the test: pictures of runs, shown by a real browser, as PNG files in target/look
 look: zaru
