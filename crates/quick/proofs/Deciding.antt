@@ -115,6 +115,9 @@ module _ {t ls bs cs : List ℕ} {fb i : ℕ} (h : Turning t ls bs cs fb i) wher
   pub turning-assign : getD t i 0 ≡ 0x20 → Standing t ls fb (i + 2)
   turning-assign e = record { d = maxDepth; ready = D.assign-ready (at-assign e) e }
 
+  pub turning-second : getD t i 0 ≡ 0x20 → i + 2 < length t
+  turning-second e = W.standing-inside {t = t} {ls = ls} {fb = fb} (record { d = maxDepth; ready = D.assign-ready (at-assign e) e })
+
   pub turning-target : getD t i 0 ≡ 0x20 → i + 1 < length t
   turning-target e = D.assign-inside (at-assign e) e
 
@@ -131,16 +134,12 @@ module _ {t ls bs cs : List ℕ} {fb i : ℕ} (h : Turning t ls bs cs fb i) wher
   turning-poised m = h .poised (λ q. ⊎-elim (λ e. omega arith) (λ e. omega arith) m)
 
   pub turning-testing : Tests t i → Testing t ls fb i
-  turning-testing m = record { poised = turning-poised m; mark = m }
-
-  pub turning-first : Tests t i → i + 1 < length t
-  turning-first m = W.standing-inside {t = t} {ls = ls} {fb = fb} (record { d = maxDepth; ready = D.test-ready (turning-poised m) m })
-
-  pub turning-small : length t ≤ positions
-  turning-small = h .small
-
-  pub turning-test : Tests t i → Standing t ls fb (i + 1)
-  turning-test m = record { d = maxDepth; ready = D.test-ready (turning-poised m) m }
+  turning-testing m = record {
+    poised = turning-poised m;
+    mark = m;
+    inside = W.standing-inside {t = t} {ls = ls} {fb = fb} (record { d = maxDepth; ready = D.test-ready (turning-poised m) m });
+    small = h .small;
+  }
 
   pub turning-callee : getD t i 0 ≡ 0x25 → i + 4 ≤ length t
   turning-callee e = D.call-inside (turning-call e) e
@@ -164,7 +163,7 @@ module _ {t ls bs cs : List ℕ} {fb i : ℕ} (h : Turning t ls bs cs fb i) wher
   turning-value e f = W.standing-inside (turning-source e f)
 
   pub turning-writing : {e : Worded} → getD t i 0 ≡ 0x21 → getD t (i + 2) 0 ≡ 5 → Sure t ls fb (i + 4) e → Writing t ls bs fb i e
-  turning-writing e f s = record { poised = h .poised (λ q. omega arith); mark = e; offset = f; source = s; small = kept-small (h .kept) (h .full) }
+  turning-writing e f s = record { poised = h .poised (λ q. omega arith); mark = e; inside = W.standing-inside (turning-source e f); offset = f; source = s; small = kept-small (h .kept) (h .full) }
 
   -- "x := y[o]"
   reading-standing : getD t i 0 ≡ 0x22 → Standing t ls fb (i + 3)
@@ -180,7 +179,7 @@ module _ {t ls bs cs : List ℕ} {fb i : ℕ} (h : Turning t ls bs cs fb i) wher
   turning-number e f = omega (arith, W.number-room (reading-standing e) f)
 
   turning-reading : (o n : ℕ) → getD t i 0 ≡ 0x22 → Evaluates t ls fb (i + 3) maxDepth (valued (answerIn o) n) → Reading t ls bs cs fb i o n
-  turning-reading o n e E = record { poised = h .poised (λ q. omega arith); mark = e; offset = E; kept = h .kept; small = kept-small (h .kept) (h .full) }
+  turning-reading o n e E = record { poised = h .poised (λ q. omega arith); mark = e; inside = W.standing-inside (reading-standing e); offset = E; kept = h .kept; small = kept-small (h .kept) (h .full) }
 
   pub reading-local : {o : ℕ} → getD t i 0 ≡ 0x22 → getD t (i + 3) 0 ≡ 5 → o ≡ getD ls (fb + getD t (i + 4) 0) 0 → Reading t ls bs cs fb i o (i + 5)
   reading-local {o} e f q =
@@ -224,6 +223,7 @@ module _ {t js ls bs cs : List ℕ} {fb i left : ℕ} where
 
 pub ruleset turning-ways = (
   turning-assign,
+  turning-second,
   turning-target,
   turning-inside,
   turning-low,
@@ -231,9 +231,6 @@ pub ruleset turning-ways = (
   turning-callee,
   turning-value,
   turning-testing,
-  turning-test,
-  turning-first,
-  turning-small,
   turning-while,
   turning-if,
   turning-offset,

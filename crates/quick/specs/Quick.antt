@@ -86,6 +86,7 @@ pub record Assigns (t : List ℕ) (i : ℕ) (e : Worded) (q : Quick) : Type 0 wh
 pub record Writing (t ls bs : List ℕ) (fb i : ℕ) (e : Worded) : Type 0 where
   pub poised : Poised t ls fb i
   pub mark : getD t i 0 ≡ 0x21
+  pub inside : i + 4 < length t
   pub offset : getD t (i + 2) 0 ≡ 5
   pub source : Sure t ls fb (i + 4) e
   pub small : Small bs
@@ -97,6 +98,7 @@ pub record Writes (t ls bs : List ℕ) (fb i : ℕ) (q : Quick) : Type 0 where
 pub record Reading (t ls bs cs : List ℕ) (fb i o n : ℕ) : Type 0 where
   pub poised : Poised t ls fb i
   pub mark : getD t i 0 ≡ 0x22
+  pub inside : i + 3 < length t
   pub offset : Evaluates t ls fb (i + 3) maxDepth (valued (answerIn o) n)
   pub kept : Kept bs cs
   pub small : Small bs
@@ -112,6 +114,8 @@ pub record Tested (js : List ℕ) (i : ℕ) (e : Worded) (q : Quick) : Type 0 wh
 pub record Testing (t ls : List ℕ) (fb i : ℕ) : Type 0 where
   pub poised : Poised t ls fb i
   pub mark : Tests t i
+  pub inside : i + 1 < length t
+  pub small : length t ≤ positions
 
 -- its test is of a local and a number that are equal: "24 14 05 x 01 c"
 pub record Choice (t : List ℕ) (i : ℕ) : Type 0 where

@@ -165,7 +165,7 @@ fn write(
     at: usize,
     e: Worded,
 ) -> Quick
-    requires { ⌜ Writing (now t) (now words) (now starts) base at e × (at + 4 < length (now t)) ⌝ }
+    requires { ⌜ Writing (now t) (now words) (now starts) base at e ⌝ }
     ensures { λ r. ⌜ Writes (now (t .entry)) (now (words .entry)) (now (starts .entry)) base at r ⌝ }
 {
     if e.word == NOTHING {
@@ -201,7 +201,7 @@ fn read(
     offset: u64,
     next: usize,
 ) -> Quick
-    requires { ⌜ Reading (now t) (now words) (now starts) (now cells) base at offset next × (at + 3 < length (now t)) ⌝ }
+    requires { ⌜ Reading (now t) (now words) (now starts) (now cells) base at offset next ⌝ }
     ensures { λ r. ⌜ Reads (now (t .entry)) (now (words .entry)) (now (starts .entry)) (now (cells .entry)) base at r ⌝ }
 {
     let pointer = brief::local(t, words, base, at + 2);
@@ -241,7 +241,7 @@ fn test(jumps: &[u16; LONGEST], at: usize, e: Worded) -> Quick
 
 // Whether the test at `at` is of a local and a number that are equal: "24 14 05 x 01 c".
 fn is_choice(t: &[u8], words: &[u64], base: usize, at: usize) -> bool
-    requires { ⌜ Testing (now t) (now words) base at × (at + 1 < length (now t)) ⌝ }
+    requires { ⌜ Testing (now t) (now words) base at ⌝ }
     ensures { λ r. ⌜ SaysChoice (now (t .entry)) at r ⌝ }
 {
     if t[at + 1] != EQUAL {
@@ -316,7 +316,7 @@ fn probe(
     at: usize,
     left: u64,
 ) -> Quick
-    requires { ⌜ Testing (now t) (now words) base at × (at + 1 < length (now t)) × (length (now t) ≤ positions) × (1 ≤ left) ⌝ }
+    requires { ⌜ Testing (now t) (now words) base at × (1 ≤ left) ⌝ }
     ensures { λ r. ⌜ Chooses (now (t .entry)) (now (jumps .entry)) (now (words .entry)) base at left r ⌝ }
 {
     if is_choice(t, words, base, at) {

@@ -15,5 +15,5 @@ is-choice-spec =
     (λ c. search (choice-second, needs))
     (λ c. search (says-none, needs))
     (λ c. search (choice-fourth, needs))
-    (λ c. search (choice-fourth, needs))
+    (λ c. choice-fourth (c .before .before .before .before .before .pre) (c .before .before .before .if1 .left) (c .before .if2 .left))
     (λ c. search (says-some, needs)))
