@@ -144,11 +144,10 @@ module _ {t ls bs cs : List ℕ} {fb i : ℕ} (h : Turning t ls bs cs fb i) wher
   pub turning-callee : getD t i 0 ≡ 0x25 → i + 4 ≤ length t
   turning-callee e = D.call-inside (turning-call e) e
 
-  pub turning-while : getD t i 0 ≡ 0x23 → Testing t ls fb i
-  turning-while e = turning-testing (inl e)
-
-  pub turning-if : getD t i 0 ≡ 0x24 → Testing t ls fb i
-  turning-if e = turning-testing (inr e)
+  -- no other mark is left
+  pub turning-other : (getD t i 0 ≡ 0x27 → ⊥) → (getD t i 0 ≡ 0x25 → ⊥) → (getD t i 0 ≡ 0x00 → ⊥) → (getD t i 0 ≡ 0x20 → ⊥) → (getD t i 0 ≡ 0x21 → ⊥)
+      → (getD t i 0 ≡ 0x22 → ⊥) → Testing t ls fb i
+  turning-other n n₁ n₂ n₃ n₄ n₅ = turning-testing (D.act-tests (h .poised n) n₁ n₂ n₃ n₄ n₅)
 
   -- "y[o] := e"
   pub turning-offset : getD t i 0 ≡ 0x21 → i + 2 < length t
@@ -231,8 +230,7 @@ pub ruleset turning-ways = (
   turning-callee,
   turning-value,
   turning-testing,
-  turning-while,
-  turning-if,
+  turning-other,
   turning-offset,
   turning-source,
   turning-writing,

@@ -5,15 +5,15 @@ use super::brief::LEAVES;
 use super::brief::Worded;
 use basics::numbers::ASSIGN;
 use basics::numbers::CALL;
+use basics::numbers::END;
 use basics::numbers::EQUAL;
 use basics::numbers::FRAME;
-use basics::numbers::IF;
 use basics::numbers::LOCAL;
 use basics::numbers::LOCATIONS;
 use basics::numbers::LONGEST;
 use basics::numbers::READ;
+use basics::numbers::SELECT;
 use basics::numbers::STARTS;
-use basics::numbers::WHILE;
 use basics::numbers::WHOLE;
 use basics::numbers::WRITE;
 use engine::memory;
@@ -398,9 +398,9 @@ pub fn decide(
             ),
             _ => Quick::Left,
         },
-        WHILE => probe(t, jumps, words, base, at, left),
-        IF => probe(t, jumps, words, base, at, left),
         CALL => call(t, words, base, at),
-        _ => Quick::Left,
+        END => Quick::Left,
+        SELECT => Quick::Left,
+        _ => probe(t, jumps, words, base, at, left),
     }
 }

@@ -1,6 +1,6 @@
 -- `quick::turn::decide` meets its contract.
 use borrow.Author.Needs.{needs}
-use Rattle.quick.proofs.Deciding.{turning-writing, turning-ways}
+use Rattle.quick.proofs.Deciding.{turning-ways}
 use Rattle.quick.proofs.turn.decide.Statement.{statement}
 use Rattle.quick.proofs.turn.decide.Tie as tie
 
@@ -24,7 +24,7 @@ decide-spec =
     (λ c. search (turning-ways, needs))
     (λ c. search (turning-ways, needs))
     (λ c κs. search (turning-ways, needs))
-    (λ c κs. search (turning-writing, needs))
+    (λ c κs. search (turning-ways, needs))
     (λ c. search (turning-ways, needs))
     (λ c. search (turning-ways, needs))
     (λ c. search (turning-ways, needs))
@@ -37,8 +37,6 @@ decide-spec =
     (λ c κs. search (turning-ways, needs))
     (λ c κs. search (turning-ways, needs))
     (λ c κs. search (turning-ways, needs))
-    (λ c κs. search (turning-ways, needs))
-    (λ c. search (turning-ways, needs))
     (λ c. search (turning-ways, needs))
     (λ c. search (turning-ways, needs))
     (λ c. search (turning-ways, needs))
