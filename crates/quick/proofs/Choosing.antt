@@ -222,7 +222,7 @@ module _ {t js ls : List ℕ} {fb i left h v : ℕ} where
     first = c;
     row = λ bs cs.
         subst (Row t js ls bs cs fb i 1) (sym z)
-        (more none (choice-step false (c .mark) (c .choice) (c .word) (c .kind) (omega arith) (apart (c .w) (numberAt 4 t (i + 5)) (c .kind) (c .same) (λ y. n (q ∙ y)))));
+        (more none (c .mark) (choice-step false (c .mark) (c .choice) (c .word) (c .kind) (omega arith) (apart (c .w) (numberAt 4 t (i + 5)) (c .kind) (c .same) (λ y. n (q ∙ y)))));
     some = omega arith;
     few = o;
     low = p;
@@ -239,7 +239,7 @@ module _ {t js ls : List ℕ} {fb i left h v : ℕ} where
         row = λ bs cs.
             subst (λ n. Row t js ls bs cs fb i n m) (sym (add-one n))
             (subst (Row t js ls bs cs fb i (suc n)) (sym q)
-            (more (C .row bs cs) (choice-step false (o .0) (o .1) (c .word ∙ ap (λ x. getD ls (fb + x) 0) (sym (o .2))) (c .kind) (a .small)
+            (more (C .row bs cs) (o .0) (choice-step false (o .0) (o .1) (c .word ∙ ap (λ x. getD ls (fb + x) 0) (sym (o .2))) (c .kind) (a .small)
             (apart (c .w) (numberAt 4 t (k + 5)) (c .kind) (c .same) (a .other)))));
         some = omega (arith, C .some);
         few = omega arith;

@@ -200,25 +200,25 @@ module _ {t ls bs cs : List ℕ} {fb i : ℕ} (h : Turning t ls bs cs fb i) wher
 
 module _ {t js ls bs cs : List ℕ} {fb i left : ℕ} where
   pub turns-left : Turns t js ls ls bs cs fb i left Left
-  turns-left = record { beside = beside-same; turned = tt }
+  turns-left = record { beside = beside-same; other = λ e. refl; turned = tt }
 
   pub turns-assign : {e : Worded} {q : Quick} → getD t i 0 ≡ 0x20 → Sure t ls fb (i + 2) e → Assigns t i e q → Turns t js ls ls bs cs fb i left q
-  turns-assign m s A = record { beside = beside-same; turned = A .turned js ls bs cs fb left m s }
+  turns-assign m s A = record { beside = beside-same; other = λ z. absurd (omega (arith, m, z)); turned = A .turned js ls bs cs fb left m s }
 
-  pub turns-write : {q : Quick} → Writes t ls bs fb i q → Turns t js ls ls bs cs fb i left q
-  turns-write A = record { beside = beside-same; turned = A .turned js cs left }
+  pub turns-write : {q : Quick} → getD t i 0 ≡ 0x21 → Writes t ls bs fb i q → Turns t js ls ls bs cs fb i left q
+  turns-write m A = record { beside = beside-same; other = λ z. absurd (omega (arith, m, z)); turned = A .turned js cs left }
 
-  pub turns-read : {q : Quick} → Reads t ls bs cs fb i q → Turns t js ls ls bs cs fb i left q
-  turns-read A = record { beside = beside-same; turned = A .turned js left }
+  pub turns-read : {q : Quick} → getD t i 0 ≡ 0x22 → Reads t ls bs cs fb i q → Turns t js ls ls bs cs fb i left q
+  turns-read m A = record { beside = beside-same; other = λ z. absurd (omega (arith, m, z)); turned = A .turned js left }
 
-  pub turns-test : {e : Worded} {q : Quick} → Tests t i → 1 ≤ left → Sure t ls fb (i + 1) e → Tested js i e q → Turns t js ls ls bs cs fb i left q
-  turns-test m l s A = record { beside = beside-same; turned = A .turned t ls bs cs fb left m l s }
+  pub turns-while : {q : Quick} → getD t i 0 ≡ 0x23 → Chooses t js ls fb i left q → Turns t js ls ls bs cs fb i left q
+  turns-while m A = record { beside = beside-same; other = λ z. absurd (omega (arith, m, z)); turned = A .turned bs cs }
 
-  pub turns-choose : {q : Quick} → Chooses t js ls fb i left q → Turns t js ls ls bs cs fb i left q
-  turns-choose A = record { beside = beside-same; turned = A .turned bs cs }
+  pub turns-if : {q : Quick} → getD t i 0 ≡ 0x24 → Chooses t js ls fb i left q → Turns t js ls ls bs cs fb i left q
+  turns-if m A = record { beside = beside-same; other = λ z. absurd (omega (arith, m, z)); turned = A .turned bs cs }
 
-  pub turns-call : {ls′ : List ℕ} {q : Quick} → Calls t ls ls′ fb i q → Turns t js ls ls′ bs cs fb i left q
-  turns-call A = record { beside = A .beside; turned = A .turned js bs cs left }
+  pub turns-call : {ls′ : List ℕ} {q : Quick} → getD t i 0 ≡ 0x25 → Calls t ls ls′ fb i q → Turns t js ls ls′ bs cs fb i left q
+  turns-call m A = record { beside = A .beside; other = λ z. absurd (omega (arith, m, z)); turned = A .turned js bs cs left }
 
 pub ruleset turning-ways = (
   turning-assign,
@@ -243,7 +243,7 @@ pub ruleset turning-ways = (
   turns-assign,
   turns-write,
   turns-read,
-  turns-test,
-  turns-choose,
+  turns-while,
+  turns-if,
   turns-call,
 )

@@ -93,7 +93,7 @@ module _ {js : List ℕ} {i : ℕ} {e : Worded} where
       omega arith,
       l,
       subst (Row t js ls bs cs fb i 1) (sym q)
-          (more none (D.decides-test m (sure-known (Truth false) s (λ z. omega arith) (ap held h ∙ false-held)) (record { step = refl }))),
+          (more none m (D.decides-test m (sure-known (Truth false) s (λ z. omega arith) (ap held h ∙ false-held)) (record { step = refl }))),
     );
   }
 
