@@ -240,4 +240,4 @@ module _ {t : List ℕ} {records : ℕ} {ts js ss ls₀ bs₀ cs₀ : List ℕ} 
         going-words K = recounted (ap (k +_) (sym count)) (made (answered q (T .turned) (omega (arith, on, count))) K)
 
 -- one law for each way
-pub ruleset turning-ways = (going-turning, going-left, going-base, going-above, words-fit, words-less, going-asked, going-words)
+pub ruleset turning-ways = (going-turning, going-left, going-base, going-above, going-asked)

@@ -3,7 +3,7 @@ use Prim.Native.Nat.{_-_}
 use borrow.Author.Needs.{needs}
 use native.Mathlib.Omega.{arith}
 use Rattle.sequential.proofs.Running.{Going, going-start, going-long, going-ways}
-use Rattle.sequential.proofs.Turning.{turning-ways, step-fit, step-less, left-facing, left-blocked, left-due, left-on}
+use Rattle.sequential.proofs.Turning.{turning-ways, words-fit, words-less, going-words, step-fit, step-less, left-facing, left-blocked, left-due, left-on}
 use Rattle.sequential.proofs.machine.go.Statement.{statement}
 use Rattle.sequential.proofs.machine.go.Tie as tie
 
@@ -38,9 +38,31 @@ go-spec =
     (λ c κs. (search turning-ways, search (turning-ways, needs)))
     (λ c κs. search needs)
     (λ c κs. search turning-ways)
-    (λ c. search turning-ways)
-    (λ c. search turning-ways)
-    (λ c. search turning-ways)
+    (λ c.
+    let third = c .before .before .before .before .before .before .before in
+    let counted = third .before in
+    let turned = counted .before in
+    let second = turned .before .before .before .before .before in
+    let first = second .before in
+    let start = first .before .before in
+    words-fit (start .loop .inv) (first .if1 .left) (turned .decide .ensures) (third .if3 .taken) (counted .steps .ensures) (second .if2 .left))
+    (λ c.
+    let third = c .before .before .before .before .before .before .before in
+    let counted = third .before in
+    let turned = counted .before in
+    let second = turned .before .before .before .before .before in
+    let first = second .before in
+    let start = first .before .before in
+    words-less (start .loop .inv) (first .if1 .left) (turned .decide .ensures) (third .if3 .taken) (counted .steps .ensures) (second .if2 .left))
+    (λ c.
+    let third = c .before .before .before .before .before .before .before in
+    let counted = third .before in
+    let turned = counted .before in
+    let second = turned .before .before .before .before .before in
+    let first = second .before in
+    let start = first .before .before in
+    going-words (start .loop .inv) (first .if1 .left) (turned .decide .ensures) (third .if3 .taken) (counted .steps .ensures) (second .if2 .left)
+    (c .before .before .carry-words .ensures))
     (λ c κs. (search going-ways, search going-ways))
     (λ c κs. search needs)
     (λ c. search going-ways)
@@ -49,7 +71,7 @@ go-spec =
     let test = c .before .before in
     let used = test .before in
     let turned = used .before .before .before in
-    let second = turned .before .before .before .before in
+    let second = turned .before .before .before .before .before in
     let first = second .before in
     let start = first .before .before in (
       left-facing (start .loop .inv) (first .if1 .left) (turned .decide .ensures) (second .if2 .left) (used .used-up .ensures) (test .if4 .left),
@@ -60,13 +82,13 @@ go-spec =
     (λ c. search needs)
     (λ c κs. search needs)
     (λ c κs. search needs)
-    (λ c. going-long (c .before .before .before .before .before .before .before .before .before .before .before .before .before .before .before .before .before .before .before .loop .inv))
+    (λ c. going-long (c .before .before .before .before .before .before .before .before .before .before .before .before .before .before .before .before .before .before .before .before .loop .inv))
     (λ c.
     let faced = c .before .before .before .before .before in
     let test = faced .before .before .before in
     let used = test .before in
     let turned = used .before .before .before in
-    let second = turned .before .before .before .before in
+    let second = turned .before .before .before .before .before in
     let first = second .before in
     let start = first .before .before in
     left-blocked (start .loop .inv) (first .if1 .left) (turned .decide .ensures) (second .if2 .left) (used .used-up .ensures) (test .if4 .left)
@@ -77,17 +99,17 @@ go-spec =
     let test = faced .before .before .before in
     let used = test .before in
     let turned = used .before .before .before in
-    let second = turned .before .before .before .before in
+    let second = turned .before .before .before .before .before in
     let first = second .before in
     let start = first .before .before in
     left-due (start .loop .inv) (first .if1 .left) (turned .decide .ensures) (second .if2 .left) (used .used-up .ensures) (test .if4 .left)
     (faced .due .ensures) (told .match .keys2))
     (λ c.
-    let second = c .before .before .before .before .before .before .before .before .before .before .before .before .before .before .before .before .before .before .before in
+    let second = c .before .before .before .before .before .before .before .before .before .before .before .before .before .before .before .before .before .before .before .before in
     let first = second .before in
     step-fit (first .before .before .loop .inv) (first .if1 .left) (second .if2 .left))
     (λ c.
-    let second = c .before .before .before .before .before .before .before .before .before .before .before .before .before .before .before .before .before .before .before in
+    let second = c .before .before .before .before .before .before .before .before .before .before .before .before .before .before .before .before .before .before .before .before in
     let first = second .before in
     step-less (first .before .before .loop .inv) (first .if1 .left) (second .if2 .left))
     (λ c.
@@ -96,7 +118,7 @@ go-spec =
     let test = faced .before .before .before in
     let used = test .before in
     let turned = used .before .before .before in
-    let second = turned .before .before .before .before in
+    let second = turned .before .before .before .before .before in
     let first = second .before in
     let start = first .before .before in
     left-on (start .loop .inv) (first .if1 .left) (turned .decide .ensures) (second .if2 .left) (used .used-up .ensures) (test .if4 .left)
