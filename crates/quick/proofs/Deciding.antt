@@ -211,11 +211,8 @@ module _ {t js ls bs cs : List ℕ} {fb i left : ℕ} where
   pub turns-read : {q : Quick} → getD t i 0 ≡ 0x22 → Reads t ls bs cs fb i q → Turns t js ls ls bs cs fb i left q
   turns-read m A = record { beside = beside-same; other = λ z. absurd (omega (arith, m, z)); turned = A .turned js left }
 
-  pub turns-while : {q : Quick} → getD t i 0 ≡ 0x23 → Chooses t js ls fb i left q → Turns t js ls ls bs cs fb i left q
-  turns-while m A = record { beside = beside-same; other = λ z. absurd (omega (arith, m, z)); turned = A .turned bs cs }
-
-  pub turns-if : {q : Quick} → getD t i 0 ≡ 0x24 → Chooses t js ls fb i left q → Turns t js ls ls bs cs fb i left q
-  turns-if m A = record { beside = beside-same; other = λ z. absurd (omega (arith, m, z)); turned = A .turned bs cs }
+  pub turns-choose : {q : Quick} → (getD t i 0 ≡ 0x27 → ⊥) → Chooses t js ls fb i left q → Turns t js ls ls bs cs fb i left q
+  turns-choose n A = record { beside = beside-same; other = λ z. absurd (n z); turned = A .turned bs cs }
 
   pub turns-call : {ls′ : List ℕ} {q : Quick} → getD t i 0 ≡ 0x25 → Calls t ls ls′ fb i q → Turns t js ls ls′ bs cs fb i left q
   turns-call m A = record { beside = A .beside; other = λ z. absurd (omega (arith, m, z)); turned = A .turned js bs cs left }
@@ -243,7 +240,6 @@ pub ruleset turning-ways = (
   turns-assign,
   turns-write,
   turns-read,
-  turns-while,
-  turns-if,
+  turns-choose,
   turns-call,
 )
