@@ -69,6 +69,9 @@ module _ {t ls ls′ : List ℕ} {fb i n a k : ℕ} where
   pub calling-standing : Calling t ls ls′ fb i n a k → k < n → Standing t ls′ fb a
   calling-standing C l = record { d = maxDepth; ready = passing-ready (passable C) (C .passing) l }
 
+  pub calling-inside : Calling t ls ls′ fb i n a k → k < n → a < length t
+  calling-inside C l = W.standing-inside (calling-standing C l)
+
   pub calling-word : Calling t ls ls′ fb i n a k → k < n → fb + frameWords + k < length ls′
   calling-word C l = passing-word (passable C) (C .passing) l
 
@@ -103,7 +106,7 @@ module _ {t ls : List ℕ} {fb i : ℕ} where
   pub calling-start : {n : ℕ} → Poised t ls fb i → getD t i 0 ≡ 0x25 → n ≡ getD t (i + 3) 0 → Calling t ls ls fb i n (i + 4) 0
   calling-start h q e = record { poised = h; mark = q; count = e; passing = passing-start (D.call-ready h q e) }
 
-pub ruleset calling-ways = (D.call-inside, calling-start, calling-standing, calling-word, calling-long, calling-more, calls-left, calls-some)
+pub ruleset calling-ways = (D.call-inside, calling-start, calling-standing, calling-inside, calling-word, calling-long, calling-more, calls-left, calls-some)
 
 -- ---- any instruction
 

@@ -338,7 +338,11 @@ fn call(t: &[u8], words: &mut [u64], base: usize, at: usize) -> Quick
     let mut i = 0;
     let mut next = at + 4;
     while i < count {
-        let e = brief::expression(t, words, base, next);
+        let e = if t[next] < LEAVES {
+            brief::leaf(t, words, base, next)
+        } else {
+            brief::operation(t, words, base, next)
+        };
         if e.word == NOTHING {
             return Quick::Left;
         }
