@@ -1,56 +1,39 @@
 -- Tests in a row of one local that fail: what stands there, and one law for each way.
-use Prim.Native.Nat.{ℕ, zero, suc, _+_, _*_, _-_, _/_, _%_, _^_, _≤_, _<_}
+use Prim.Native.Nat.{ℕ, suc, _+_, _*_, _-_, _/_, _%_, _^_, _≤_, _<_}
 use native.Mathlib.Numerals.{add-one}
 use native.Mathlib.Omega.{arith}
-use mathlib.Core.Path.{_≡_, refl, sym, ap, ap₂, subst, _∙_}
+use mathlib.Core.Path.{_≡_, refl, sym, ap, subst, _∙_}
 use mathlib.Core.Logic.{_⊎_, inl, inr, ⊎-elim}
-use mathlib.Core.List.{List, [], _∷_}
+use mathlib.Core.List.{List}
 use mathlib.Core.Bool as B
 use mathlib.Core.Bool.{Bool, true, false}
-use lib.ListN.{length, getD, set, take}
-use lib.IntN.{pos}
-use lib.Dec.{eqb, ltb}
-use borrow.Author.Tests.{eqb-true, eqb-false, eq-eqb, ne-eqb, lt-ltb}
-use Rattle.value.specs.Maybe.{Maybe, is, nothing}
-use Rattle.value.specs.Try.{Try, has, lacks, _⟫_, orLacks}
-use Rattle.value.specs.Lists.{sum}
-use Rattle.value.specs.Values.{given, unword, number, place}
-use Rattle.value.specs.Laws.Tries.{has-inj, lacking}
-use Rattle.value.specs.declared.Value.{Value}
-use Rattle.value.specs.declared.Value.the-variants.{Whole, Location, Truth}
+use lib.ListN.{length, getD}
+use lib.Dec.{eqb}
+use borrow.Author.Tests.{eqb-true, eq-eqb, ne-eqb}
+use Rattle.value.specs.Maybe.{is}
+use Rattle.value.specs.Try.{has}
+use Rattle.value.specs.Values.{number, place}
+use Rattle.value.specs.declared.Value.the-variants.{Truth}
 use Rattle.value.specs.declared.Answer.the-variants as A
-use Rattle.value.specs.declared.Reason.{Reason}
-use Rattle.value.specs.declared.Reason.the-variants.{WrongKind}
 use Rattle.basics.specs.Places.{numberAt}
 use Rattle.format.specs.Decode.{maxDepth}
-use Rattle.semantics.specs.Memory.{Memory}
-use Rattle.semantics.specs.Laws.Cells.{shape}
-use Rattle.engine.specs.Words.{held, valueIn}
-use Rattle.engine.specs.Work.{Puts, Beside, frameWords, cellWords, mostLocations, Bases, IsCell, Placed, Places}
-use Rattle.engine.specs.Evaluated.{Ready, valued, Evaluates}
-use Rattle.engine.specs.Laws.Words.{held-word}
-use Rattle.engine.specs.Laws.Work.{beside-same}
-use Rattle.engine.specs.Laws.Holding.{length-flat, cell-full, cell-held, cell-word}
-use Rattle.engine.specs.Laws.Starting.{next-start}
-use Rattle.engine.specs.declared.memory.Spot.{Spot}
-use Rattle.engine.specs.declared.memory.Spot.the-variants.{At, Nowhere}
+use Rattle.engine.specs.Words.{held}
+use Rattle.engine.specs.Evaluated.{valued, Evaluates}
 use Rattle.decide.specs.declared.step.Step.the-variants as S
-use Rattle.decide.specs.Decided.{Poised, Passable, Kept, Lies, Laid, Decides, DecidesAll, PassesAll, Any, Tests}
+use Rattle.decide.specs.Decided.{Lies, DecidesAll, Tests}
 use Rattle.decide.proofs.Deciding as D
-use Rattle.decide.proofs.Passing.{Passing, passing-start, passing-ready, passing-word, passing-long, passing-more, passing-all}
 use Rattle.jumps.specs.Jumps.{positions}
 use Rattle.quick.specs.declared.brief.Worded.{Worded}
 use Rattle.quick.specs.declared.turn.Quick.{Quick}
-use Rattle.quick.specs.declared.turn.Quick.the-variants.{Assign, Read, Write, Holds, Fails, Call, Left}
-use Rattle.quick.specs.Brief.{answerOf, answerIn, worded, Standing, LocalAt, NumberAt, Words, Sure}
-use Rattle.quick.specs.Quick.{Turning, Row, none, more, Turned, Turns, Small, Spotted, Assigns, Writing, Writes, Reading, Reads, Tested, Testing}
-use Rattle.quick.specs.Quick.{Choice, SaysChoice, Another, SaysAnother, Chooses, Calls}
+use Rattle.quick.specs.declared.turn.Quick.the-variants.{Holds, Fails, Left}
+use Rattle.quick.specs.Brief.{worded, Standing, LocalAt, NumberAt, Sure}
+use Rattle.quick.specs.Quick.{Row, none, more, Tested, Testing}
+use Rattle.quick.specs.Quick.{Choice, SaysChoice, Another, SaysAnother, Chooses}
 use Rattle.quick.proofs.Operating.{true-held, false-held, operates-equal, operates-mark}
 use Rattle.quick.proofs.Turning.{sure-known}
 use Rattle.value.specs.Laws.Tests.{never}
 use Rattle.quick.specs.Brief.{Operates}
 use Rattle.quick.proofs.Wording as W
-use Rattle.quick.proofs.Wording.{answer-given, location-is}
 
 -- ---- what stands there
 

@@ -1,5 +1,5 @@
 -- One law for each way through an operator on two words.
-use Prim.Native.Nat.{ℕ, _+_, _/_, _%_, _^_, _<_}
+use Prim.Native.Nat.{ℕ, _+_, _/_, _%_, _^_}
 use native.Mathlib.Omega.{arith}
 use mathlib.Core.Path.{_≡_, refl, sym, ap, ap₂, subst, _∙_}
 use mathlib.Core.Bool.{Bool, true, false}
@@ -11,20 +11,20 @@ use mir.Syntax.{w32, w64}
 use mir.Val.{SFits, ofZ, toZ}
 use mir.Facts.{toZ-ofZ}
 use Rattle.value.specs.Maybe.{is, pick}
-use Rattle.value.specs.Try.{Try, has, lacks, _⟫_}
+use Rattle.value.specs.Try.{Try, has, _⟫_}
 use Rattle.value.specs.Values.{add, sub, mul, less, equal, and, whole, sameZ, word, unword}
 use Rattle.value.specs.Marks.{Mark, wholeMark, locationMark, noMark, yesMark, localMark, oneMark, twoMark, noExpr, markOf}
 use Rattle.value.specs.Laws.Tests.{by-test}
 use Rattle.value.specs.Laws.Tries.{lacking}
 use Rattle.value.specs.Laws.Bytes.{word-unword}
 use Rattle.value.specs.declared.Value.{Value}
-use Rattle.value.specs.declared.Value.the-variants.{Whole, Location, Truth}
+use Rattle.value.specs.declared.Value.the-variants.{Whole, Truth}
 use Rattle.basics.specs.Columns.{applied₂}
-use Rattle.basics.proofs.Wide.{read, widened, Large, large-asks, large-gives, large-add, large-sub, large-mul}
-use Rattle.basics.proofs.Ways.{within, within-fits, same-bits}
+use Rattle.basics.proofs.Wide.{read, widened, large-asks, large-gives, large-add, large-sub, large-mul}
+use Rattle.basics.proofs.Ways.{within, same-bits}
 use Rattle.engine.specs.Words.{held}
 use Rattle.engine.specs.Evaluated.{suited, decidedAt, operated₂}
-use Rattle.quick.specs.Brief.{Worth, Claims, Wholes, SaysTruth, Operated, Operates}
+use Rattle.quick.specs.Brief.{Claims, Wholes, SaysTruth, Operates}
 
 -- ---- words
 

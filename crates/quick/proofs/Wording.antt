@@ -1,15 +1,15 @@
 -- The words of brief expressions: what stands where, and one law for each way.
-use Prim.Native.Nat.{ℕ, _+_, _*_, _-_, _/_, _%_, _^_, _≤_, _<_}
+use Prim.Native.Nat.{ℕ, _+_, _*_, _-_, _%_, _^_, _≤_, _<_}
 use native.Mathlib.Omega.{arith}
 use mathlib.Core.Path.{_≡_, refl, sym, ap, ap₂, subst, _∙_}
 use mathlib.Core.List.{List}
 use mathlib.Core.Bool.{Bool, true, false}
 use lib.ListN.{length, getD}
 use lib.IntN.{ℤ}
-use lib.Dec.{eqb, ltb}
+use lib.Dec.{ltb}
 use borrow.Author.Tests.{ltb-true, ltb-false, lt-ltb}
 use mir.Syntax.{w32}
-use mir.Val.{SFits, ofZ, toZ}
+use mir.Val.{SFits}
 use mir.Facts.{toZ-ofZ}
 use Rattle.value.specs.Maybe.{Maybe, is, nothing}
 use Rattle.value.specs.Try.{has, orLacks}
@@ -19,10 +19,9 @@ use Rattle.value.specs.Laws.Bytes.{word-unword}
 use Rattle.value.specs.Laws.Maybes.{missing}
 use Rattle.value.specs.declared.Value.{Value}
 use Rattle.value.specs.declared.Value.the-variants.{Whole, Location, Truth}
-use Rattle.value.specs.declared.Answer.{Answer}
 use Rattle.value.specs.declared.Answer.the-variants as A
 use Rattle.value.specs.declared.Reason.the-variants.{WrongKind}
-use Rattle.basics.specs.Places.{numberAt, valueOf}
+use Rattle.basics.specs.Places.{numberAt}
 use Rattle.basics.specs.Columns.{operandsOf}
 use Rattle.format.specs.Syntax.{Expr, constant, local, one, two}
 use Rattle.format.specs.Laws.Stands.{first}

@@ -10,7 +10,7 @@ use Rattle.value.specs.declared.Value.{Value}
 use Rattle.engine.specs.Words.{held}
 use Rattle.engine.specs.Work.{Beside, frameWords, cellWords, mostLocations, Places}
 use Rattle.engine.specs.declared.memory.Spot.{Spot}
-use Rattle.engine.specs.declared.memory.Spot.the-variants.{At, Nowhere}
+use Rattle.engine.specs.declared.memory.Spot.the-variants.{At}
 use Rattle.decide.specs.declared.step.Step.the-variants as S
 use Rattle.decide.specs.Decided.{Poised, Kept, Lies, DecidesAll, Tests}
 use Rattle.jumps.specs.Jumps.{positions}
