@@ -38,7 +38,8 @@ enum { ZARU_BENCH_FIRST_COUNT = 3, ZARU_BENCH_COUNTS = 19, ZARU_MOST_ALLOTMENTS 
 
 /* The modes of the translator. In the first each local of each procedure has a location of its own in the copy. In the second a procedure's
  * locals begin behind the last of its callers' locals, or at the first place without callers, and procedures that are placed together share
- * locations: no fixed placement that keeps apart what is on one call path takes fewer. Runs have the same steps, reads, writes and ends. */
+ * locations: no fixed placement that keeps apart what is on one call path takes fewer. Runs have the same steps, reads, writes
+ * and ends; of a blocked run that is said of all but its last round. */
 enum { ZARU_OWN_LOCALS = 0, ZARU_SHARED_LOCALS = 1 };
 
 /* The kinds of tables for the mender; the bytes of a change in its list, and those of the longest list. */
