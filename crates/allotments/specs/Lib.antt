@@ -4,7 +4,3 @@
 pub mod Allotments
 -- what the bench answers and leaves in the lent buffer
 pub mod Bench
--- answers worked by hand
-pub mod Worked
--- what these are worth
-pub mod Laws

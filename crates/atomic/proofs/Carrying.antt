@@ -20,7 +20,7 @@ use Rattle.semantics.specs.Memory.{bound}
 use Rattle.engine.specs.Work.{Puts}
 use Rattle.engine.specs.Events.{event_of, with_event}
 use Rattle.atomic.specs.Doing.{Works, stops, goes, carried, StepFits, end_of, Carrying, Carries}
-use Rattle.semantics.specs.Laws.Cells.{shape_stored}
+use Rattle.semantics.proofs.Laws.Cells.{shape_stored}
 use Rattle.engine.specs.Laws.Work.{framed_get, framed_put, beside_put, beside_same}
 use Rattle.engine.specs.Laws.Holding.{cell_word, holds_put}
 use Rattle.engine.specs.Laws.Logging.{logged_more}

@@ -9,12 +9,12 @@ use types.Run.{OneOf, miss}
 use denote.Enum.Declared.{tag_of}
 use Rattle.value.specs.Try.{Try, has, lacks}
 use Rattle.value.specs.declared.Reason.{Reason}
-use Rattle.value.specs.Laws.Tries.{lacks_inj, lacking}
+use Rattle.value.proofs.Laws.Tries.{lacks_inj, lacking}
 use Rattle.format.specs.Syntax.{Instr, Block, Program}
 use Rattle.format.specs.Labels.{tag}
 use Rattle.labels.specs.Walks.{BlockIn, CountsBlock}
 use Rattle.labels.specs.declared.count.Counted.{Counted}
-use Rattle.format.specs.Laws.Grammar.{BlockAt, instr_inside, block_inside, block_deep}
+use Rattle.format.proofs.Laws.Grammar.{BlockAt, instr_inside, block_inside, block_deep}
 use Rattle.decide.specs.contracts.step.Step.{the_type}
 use Rattle.atomic.specs.contracts.block.Done.{the_type as done-type}
 use Rattle.decide.specs.declared.step.Step.{Step}

@@ -12,11 +12,11 @@ use types.Run.{OneOf, miss}
 use denote.Enum.Declared.{tag_of}
 use Rattle.value.specs.Try.{Try, has, lacks, ◌⟫◌}
 use Rattle.value.specs.declared.Reason.{Reason}
-use Rattle.value.specs.Laws.Tries.{lacks_inj, lacking}
-use Rattle.value.specs.Laws.Tests.{by_test, both_passed}
+use Rattle.value.proofs.Laws.Tries.{lacks_inj, lacking}
+use Rattle.value.proofs.Laws.Tests.{by_test, both_passed}
 use Rattle.format.specs.Syntax.{Block}
 use Rattle.format.specs.Rules.{allowed, allowed_i, named, named_i}
-use Rattle.format.specs.Laws.Grammar.{StepAt, end_here, step_here, instr_inside, block_inside, block_deep}
+use Rattle.format.proofs.Laws.Grammar.{StepAt, end_here, step_here, instr_inside, block_inside, block_deep}
 use Rattle.atomic.specs.contracts.block.Done.{the_type as done-type}
 use Rattle.atomic.specs.declared.block.Done.{Done}
 use Rattle.atomic.specs.declared.block.Done.TheVariants.{To, Blocked}

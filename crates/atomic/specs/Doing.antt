@@ -6,7 +6,7 @@ use Rattle.value.specs.declared.Reason.{Reason}
 use Rattle.value.specs.declared.Reason.TheVariants.{WrongKind}
 use Rattle.format.specs.Syntax.{Instr, Block, Program}
 use Rattle.format.specs.Rules.{allowed, allowed_i, named, named_i}
-use Rattle.format.specs.Laws.Grammar.{InstrAt, BlockAt}
+use Rattle.format.proofs.Laws.Grammar.{InstrAt, BlockAt}
 use Rattle.decide.specs.declared.step.Step.{Step}
 use Rattle.decide.specs.declared.step.Step.TheVariants as S
 use Rattle.atomic.specs.declared.block.Done.{Done}
@@ -16,7 +16,7 @@ use Rattle.engine.specs.Work.{frame_words, Beside, Framed, Holds, Bases, IsCell}
 use Rattle.engine.specs.Events.{Logged}
 use Rattle.semantics.specs.Threads.{Atomic}
 use Rattle.atomic.specs.Acts.{within, act_i, act}
-use Rattle.semantics.specs.Laws.Cells.{shape}
+use Rattle.semantics.proofs.Laws.Cells.{shape}
 
 -- ---- what is at work
 

@@ -17,7 +17,7 @@ use Rattle.value.specs.contracts.Value.{the_type}
 use Rattle.value.specs.Maybe.{both}
 use Rattle.value.specs.Try.{Try, has, lacks}
 use Rattle.value.specs.Values.{whole, wholes, truths, same, same_z, same_b, apply₁, not, neg}
-use Rattle.value.specs.Laws.Tests.{by_test, never}
+use Rattle.value.proofs.Laws.Tests.{by_test, never}
 use Rattle.basics.proofs.Wide.{read, Large, large_gives}
 use Rattle.value.specs.declared.Value.{Value}
 use Rattle.value.specs.declared.Value.TheVariants.{Whole, Location, Truth}

@@ -12,8 +12,8 @@ use mir.Syntax.{w32, w64}
 use mir.Val.{SFits, Fits, to_z}
 use mir.ValLaws.{to_z_pos, to_z-Fits}
 use Rattle.value.specs.Values.{word, unword}
-use Rattle.value.specs.Laws.Tests.{by_test, never}
-use Rattle.value.specs.Laws.Bytes.{word_fits}
+use Rattle.value.proofs.Laws.Tests.{by_test, never}
+use Rattle.value.proofs.Laws.Bytes.{word_fits}
 
 -- the number of a word, as the machine reads it
 pub unword_bits : (n : ℕ) → to_z w32 n ≡ unword n

@@ -7,7 +7,7 @@ use mathlib.Core.Bool.{true, false}
 use lib.ListN.{length}
 use borrow.Author.Tests.{le-leb, lt-leb}
 use Rattle.value.specs.Values.{cell_size}
-use Rattle.value.specs.Laws.Bytes.{Bytes}
+use Rattle.value.proofs.Laws.Bytes.{Bytes}
 use Rattle.format.specs.Syntax.{Program, Plain, concurrent}
 use Rattle.format.specs.declared.ReadAnswer.{ReadAnswer}
 use Rattle.format.specs.Calls.{read_call}

@@ -17,7 +17,7 @@ use Rattle.concurrent.specs.Stepping.{Present}
 use Rattle.atomic.specs.Threaded.{most_threads}
 use Rattle.allotments.specs.Allotments.{next, allotted}
 use Rattle.allotments.specs.Bench.{places}
-use Rattle.allotments.specs.Laws.Trials.{tries}
+use Rattle.allotments.proofs.Laws.Trials.{tries}
 use Rattle.bench.specs.Trying.{Ready, Taking, Led, Takes, Playing, Ends, Plays}
 
 -- ---- the states of the loops

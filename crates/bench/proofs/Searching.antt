@@ -11,7 +11,7 @@ use borrow.Author.Tests.{eqb-true, eqb-false}
 use Rattle.value.specs.Maybe.{Maybe, is, nothing}
 use Rattle.value.specs.Lists.{sum, over}
 use Rattle.value.specs.Values.{cell_size}
-use Rattle.value.specs.Laws.Tests.{by_test}
+use Rattle.value.proofs.Laws.Tests.{by_test}
 use Rattle.basics.specs.Sizes.{map_words, bound_words}
 use Rattle.format.specs.Syntax.{Program, Plain}
 use Rattle.format.specs.Encode.{trailer_size}
@@ -25,7 +25,7 @@ use Rattle.concurrent.specs.Anew.{Preparing, Prepares}
 use Rattle.concurrent.proofs.ConcurrentCall.{accepted_cells}
 use Rattle.allotments.specs.declared.BenchAnswer.{BenchAnswer}
 use Rattle.allotments.specs.Bench.{places, allotments, without, first_from, Outcome, counts_at, run_at, blocks_at, searched, search}
-use Rattle.allotments.specs.Laws.Searches.{Least, first_least, first_none}
+use Rattle.allotments.proofs.Laws.Searches.{Least, first_least, first_none}
 use Rattle.bench.specs.declared.trial.Tried.{Tried}
 use Rattle.bench.specs.declared.trial.Tried.TheVariants.{Blocks, Goes}
 use Rattle.bench.specs.Trying.{Kept, Trying, RanAt, Answers, Tries}

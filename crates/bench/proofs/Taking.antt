@@ -7,7 +7,7 @@ use mathlib.Core.Bool.{true, false}
 use lib.ListN.{length, get_or, replicate}
 use Rattle.value.specs.Maybe.{is}
 use Rattle.value.specs.Lists.{at}
-use Rattle.value.specs.Laws.Lists.{at_get_d}
+use Rattle.value.proofs.Laws.Lists.{at_get_d}
 use Rattle.value.specs.declared.Reason.{Reason}
 use Rattle.format.specs.Syntax.{Program, Plain}
 use Rattle.format.specs.Labels.{labelled}
@@ -19,7 +19,7 @@ use Rattle.concurrent.specs.declared.threads.Stepped.{Stepped}
 use Rattle.concurrent.specs.declared.threads.Stepped.TheVariants.{To, Blocked}
 use Rattle.concurrent.specs.Stepping.{Present, Stepping, Went, Stays, Answers, Steps}
 use Rattle.allotments.specs.Allotments.{rests}
-use Rattle.allotments.specs.Laws.Trials.{tries, tries_step, tries_stuck, tries_over}
+use Rattle.allotments.proofs.Laws.Trials.{tries, tries_step, tries_stuck, tries_over}
 use Rattle.bench.specs.Trying.{Taking, Led, Takes}
 
 -- ---- a finished thread

@@ -10,12 +10,12 @@ use lib.Seq.{drop_at}
 use lib.Dec.{ltb}
 use borrow.Author.Tests.{ltb-true, ltb-false}
 use Rattle.value.specs.Lists.{sum, over}
-use Rattle.value.specs.Laws.Tests.{by_test}
+use Rattle.value.proofs.Laws.Tests.{by_test}
 use Rattle.format.specs.Syntax.{Program, Plain}
 use Rattle.format.specs.Labels.{labelled}
 use Rattle.semantics.specs.Memory.{Memory}
 use Rattle.semantics.specs.Threads as Q
-use Rattle.semantics.specs.Laws.Cells.{shape}
+use Rattle.semantics.proofs.Laws.Cells.{shape}
 use Rattle.engine.specs.Work.{program_words, flat, Holds}
 use Rattle.engine.specs.Laws.Holding.{length_flat}
 use Rattle.concurrent.specs.Concurrent.{MainsAt, Accepted}
@@ -24,8 +24,8 @@ use Rattle.concurrent.proofs.ConcurrentCall.{accepted_cells, accepted_mains}
 use Rattle.concurrent.proofs.Renewing.{prepared, renewed}
 use Rattle.allotments.specs.Allotments.{counts, allotted}
 use Rattle.allotments.specs.Bench.{most_allotments, places, allotments, counts_at, run_at, blocks_at}
-use Rattle.allotments.specs.Laws.Trials.{Tried, tries, tried_by, run_tries}
-use Rattle.allotments.specs.Laws.Digits.{length_counts}
+use Rattle.allotments.proofs.Laws.Trials.{Tried, tries, tried_by, run_tries}
+use Rattle.allotments.proofs.Laws.Digits.{length_counts}
 use Rattle.bench.specs.declared.trial.Tried.TheVariants.{Blocks, Goes}
 use Rattle.bench.specs.Counting.{Threads, Benched, Filling, Fills}
 use Rattle.bench.specs.Trying.{Playing, Ends, Plays, Kept, Trying, RanAt, Tries}

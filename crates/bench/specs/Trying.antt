@@ -5,7 +5,7 @@ use Rattle.format.specs.Syntax.{Program, Plain}
 use Rattle.format.specs.Encode.{trailer_size}
 use Rattle.format.specs.Labels.{labelled}
 use Rattle.semantics.specs.Threads as P
-use Rattle.semantics.specs.Laws.Cells.{shape}
+use Rattle.semantics.proofs.Laws.Cells.{shape}
 use Rattle.engine.specs.Work.{thread_words, Holds}
 use Rattle.atomic.specs.Threaded.{most_threads, all_frames}
 use Rattle.concurrent.specs.Stepping.{Loaded, Present}
@@ -13,7 +13,7 @@ use Rattle.concurrent.specs.Concurrent.{Accepted}
 use Rattle.concurrent.specs.Anew.{Prepares}
 use Rattle.allotments.specs.Allotments.{allotted}
 use Rattle.allotments.specs.Bench.{places, allotments, counts_at, run_at, blocks_at}
-use Rattle.allotments.specs.Laws.Trials.{Tried, tries}
+use Rattle.allotments.proofs.Laws.Trials.{Tried, tries}
 use Rattle.bench.specs.declared.trial.Tried.{Tried as Answer}
 use Rattle.bench.specs.declared.trial.Tried.TheVariants.{Blocks, Goes}
 use Rattle.bench.specs.Counting.{Benched}

@@ -11,14 +11,14 @@ use borrow.Author.Tests.{eqb-true, eqb-false}
 use Rattle.value.specs.Maybe.{is, nothing}
 use Rattle.value.specs.Lists.{at}
 use Rattle.basics.specs.Places.{number_at}
-use Rattle.value.specs.Laws.Maybes.{is_inj, missing}
-use Rattle.value.specs.Laws.Tests.{by_test, never}
-use Rattle.value.specs.Laws.Lists.{at_below, at_get_d}
+use Rattle.value.proofs.Laws.Maybes.{is_inj, missing}
+use Rattle.value.proofs.Laws.Tests.{by_test, never}
+use Rattle.value.proofs.Laws.Lists.{at_below, at_get_d}
 use Rattle.format.specs.Syntax.{Proc, Program, Plain, concurrent}
 use Rattle.format.specs.Labels.{count, labels, labelled, first, ends_of, body_of, begins}
 use Rattle.labels.specs.LabelMap.{Mapped}
-use Rattle.format.specs.Laws.Procs.{main_at}
-use Rattle.format.specs.Laws.Sound.{Sound}
+use Rattle.format.proofs.Laws.Procs.{main_at}
+use Rattle.format.proofs.Laws.Sound.{Sound}
 use Rattle.labels.specs.Laws.Spots.{remains_body}
 use Rattle.semantics.specs.Step.{Stack, entered}
 use Rattle.semantics.specs.Threads as P

@@ -12,9 +12,9 @@ use Rattle.value.specs.Maybe.{is, both}
 use Rattle.value.specs.Lists.{at, all, sum, over}
 use Rattle.value.specs.Values.{bytes, cell_size}
 use Rattle.basics.specs.Places.{number_at}
-use Rattle.value.specs.Laws.Tests.{by_test, both_passed, never}
-use Rattle.value.specs.Laws.Lists.{Each, each_so, each_at, at_below, at_get_d, all_passed}
-use Rattle.value.specs.Laws.Bytes.{Bytes}
+use Rattle.value.proofs.Laws.Tests.{by_test, both_passed, never}
+use Rattle.value.proofs.Laws.Lists.{Each, each_so, each_at, at_below, at_get_d, all_passed}
+use Rattle.value.proofs.Laws.Bytes.{Bytes}
 use Rattle.basics.specs.Laws.Places.{number_at_lem}
 use Rattle.format.specs.Syntax.{Program, Plain, concurrent}
 use Rattle.format.specs.Encode.{each, block, bodies_of, head, heads, trailer, trailer_of, table, record_size, trailer_size}
@@ -24,15 +24,15 @@ use Rattle.format.specs.declared.ReadAnswer.{ReadAnswer}
 use Rattle.format.specs.Calls.{read_as, read_call}
 use Rattle.format.specs.Rules.{Verdict, refused, accepted, verdict}
 use Rattle.labels.specs.Walks.{BodiesIn, MapsLabels}
-use Rattle.format.specs.Laws.Accepted.{bodies_fit, sound_formed, accepted_exactly}
-use Rattle.format.specs.Laws.Formed.{Formed}
-use Rattle.format.specs.Laws.Heads.{length_heads}
-use Rattle.format.specs.Laws.Procs.{main_at}
-use Rattle.format.specs.Laws.Refusals.{refused_within}
-use Rattle.format.specs.Laws.Sections.{length_each}
-use Rattle.format.specs.Laws.Stands.{Stands, whole, front, back}
-use Rattle.format.specs.Laws.Stands as S
-use Rattle.format.specs.Laws.TablePlaces.{records_at, all_bodies, main_stands, trailer_at, length_table}
+use Rattle.format.proofs.Laws.Accepted.{bodies_fit, sound_formed, accepted_exactly}
+use Rattle.format.proofs.Laws.Formed.{Formed}
+use Rattle.format.proofs.Laws.Heads.{length_heads}
+use Rattle.format.proofs.Laws.Procs.{main_at}
+use Rattle.format.proofs.Laws.Refusals.{refused_within}
+use Rattle.format.proofs.Laws.Sections.{length_each}
+use Rattle.format.proofs.Laws.Stands.{Stands, whole, front, back}
+use Rattle.format.proofs.Laws.Stands as S
+use Rattle.format.proofs.Laws.TablePlaces.{records_at, all_bodies, main_stands, trailer_at, length_table}
 use Rattle.semantics.specs.declared.RunAnswer.{RunAnswer}
 use Rattle.concurrent.specs.declared.machine.Ran.{Ran}
 use Rattle.semantics.specs.Memory.{Memory}

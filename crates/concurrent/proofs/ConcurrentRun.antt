@@ -22,8 +22,8 @@ use Rattle.semantics.specs.Calls.{end_number, reason_of, concurrent_run}
 use Rattle.atomic.specs.Threaded.{most_threads}
 use Rattle.concurrent.specs.Stepping.{Present, Stepping, Went, Stays, Answers, Steps}
 use Rattle.concurrent.specs.Concurrent.{AllDone, ran_with, Starting, Runs}
-use Rattle.semantics.specs.Laws.Cells.{shape_fresh}
-use Rattle.semantics.specs.Laws.Ends.{finished_run, used_run, blocked_run, step_run}
+use Rattle.semantics.proofs.Laws.Cells.{shape_fresh}
+use Rattle.semantics.proofs.Laws.Ends.{finished_run, used_run, blocked_run, step_run}
 use Rattle.engine.specs.Laws.Logging.{logged_none, logged_long}
 use Rattle.concurrent.proofs.Beginning.{done_of}
 

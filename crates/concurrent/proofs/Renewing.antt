@@ -7,14 +7,14 @@ use lib.ListN.{length, get_or, set, length-set, get_or-replicate}
 use lib.Seq.{get_or-set_same, get_or-set_other}
 use lib.Dec.{eqb}
 use borrow.Author.Tests.{eqb-true, eqb-false}
-use Rattle.value.specs.Laws.Tests.{by_test}
+use Rattle.value.proofs.Laws.Tests.{by_test}
 use Rattle.value.specs.Lists.{sum}
 use Rattle.format.specs.Encode.{trailer_size}
 use Rattle.format.specs.Labels.{labelled}
 use Rattle.labels.specs.Walks.{BodiesIn, MapsLabels}
 use Rattle.semantics.specs.Memory.{fresh}
 use Rattle.semantics.specs.Threads as Q
-use Rattle.semantics.specs.Laws.Cells.{shape_fresh}
+use Rattle.semantics.proofs.Laws.Cells.{shape_fresh}
 use Rattle.engine.specs.Words.{held}
 use Rattle.engine.specs.Work.{frame_words, thread_words, most_locations, program_words, Clears, flat, Holds, Bases, sizes_at, Starts}
 use Rattle.engine.specs.Laws.Holding.{length_flat, holds_fresh}

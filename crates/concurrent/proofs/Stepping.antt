@@ -11,8 +11,8 @@ use Rattle.value.specs.declared.Reason.{Reason}
 use Rattle.value.specs.declared.Reason.TheVariants.{FinishedThread}
 use Rattle.value.specs.Lists.{at}
 use Rattle.value.specs.declared.Value.{Value}
-use Rattle.value.specs.Laws.Maybes.{is_inj, missing}
-use Rattle.value.specs.Laws.Lists.{at_below, at_get_d}
+use Rattle.value.proofs.Laws.Maybes.{is_inj, missing}
+use Rattle.value.proofs.Laws.Lists.{at_below, at_get_d}
 use Rattle.format.specs.Syntax.{Instr, Block, end, step, Proc, Program, Plain}
 use Rattle.format.specs.Labels.{labelled, first, ends_of, body_of}
 use Rattle.format.specs.Rules.{max_labels}
@@ -34,7 +34,7 @@ use Rattle.concurrent.specs.Turning.{Turning, code_of, Turns}
 use Rattle.concurrent.specs.Turning as U
 use Rattle.concurrent.specs.Stepping.{Stepping, Went, Stays, Answers, Steps, test_label, labels_after, depths_after, answer_of, Callee}
 use Rattle.concurrent.specs.Stepping.{Moving, Moves}
-use Rattle.semantics.specs.Laws.Shapes.{thread_shape}
+use Rattle.semantics.proofs.Laws.Shapes.{thread_shape}
 use Rattle.atomic.specs.Laws.Standing.{LabelAt, label_at}
 use Rattle.concurrent.specs.Laws.Leading.{label_after, remains_branch}
 use Rattle.atomic.specs.Laws.Linked.{no_cycle_lem, few_frames, length_labels}

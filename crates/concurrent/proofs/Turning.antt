@@ -11,8 +11,8 @@ use Rattle.value.specs.Maybe.{is, nothing}
 use Rattle.value.specs.Try.{Try, has, lacks}
 use Rattle.value.specs.declared.Reason.{Reason}
 use Rattle.value.specs.declared.Value.{Value}
-use Rattle.value.specs.Laws.Maybes.{is_inj, missing}
-use Rattle.value.specs.Laws.Tries.{has_inj, lacks_inj, lacking}
+use Rattle.value.proofs.Laws.Maybes.{is_inj, missing}
+use Rattle.value.proofs.Laws.Tries.{has_inj, lacks_inj, lacking}
 use Rattle.format.specs.Syntax.{Instr, Block, step}
 use Rattle.format.specs.Labels.{labelled, first, ends_of}
 use Rattle.labels.specs.LabelMap as Map

@@ -9,17 +9,17 @@ use lib.Dec.{eqb}
 use borrow.Author.Tests.{eqb-true, eqb-false}
 use Rattle.value.specs.Maybe.{is}
 use Rattle.value.specs.Lists.{at, all}
-use Rattle.value.specs.Laws.Maybes.{is_inj, missing}
-use Rattle.value.specs.Laws.Tests.{by_test, never, both_passed}
+use Rattle.value.proofs.Laws.Maybes.{is_inj, missing}
+use Rattle.value.proofs.Laws.Tests.{by_test, never, both_passed}
 use Rattle.format.specs.Syntax.{local, Instr, assign, write, read, while, if, call, atomic}
 use Rattle.format.specs.Syntax.{select, Block, end, step, Proc, Program, Plain, concurrent}
 use Rattle.format.specs.Labels.{labelled, first, ends_of}
 use Rattle.format.specs.Rules.{allowed_i, named_i, takes, max_locals}
 use Rattle.format.specs.Rules as Rules
-use Rattle.format.specs.Laws.Stands as S'
-use Rattle.format.specs.Laws.Grammar.{InstrAt, expr_inside}
-use Rattle.format.specs.Laws.Names.{takes?}
-use Rattle.format.specs.Laws.Procs.{body_in, takes_at}
+use Rattle.format.proofs.Laws.Stands as S'
+use Rattle.format.proofs.Laws.Grammar.{InstrAt, expr_inside}
+use Rattle.format.proofs.Laws.Names.{takes?}
+use Rattle.format.proofs.Laws.Procs.{body_in, takes_at}
 use Rattle.decide.specs.declared.step.Step.{Step}
 use Rattle.decide.specs.declared.step.Step.TheVariants as S
 use Rattle.semantics.specs.Step.{Stack}

@@ -8,13 +8,13 @@ use lib.ListN.{length, get_or}
 use Rattle.value.specs.Maybe.{is}
 use Rattle.value.specs.Try.{Try, has, ◌⟫◌}
 use Rattle.value.specs.declared.Reason.{Reason}
-use Rattle.value.specs.Laws.Tries.{has_inj, chain_has}
+use Rattle.value.proofs.Laws.Tries.{has_inj, chain_has}
 use Rattle.format.specs.Syntax.{atomic, Block, step, concurrent}
 use Rattle.format.specs.Labels.{labelled, first, ends_of}
 use Rattle.labels.specs.LabelMap as Map
 use Rattle.format.specs.Rules.{allowed, allowed_i, named, named_i}
-use Rattle.format.specs.Laws.Grammar.{BlockAt, AtomicAt, atomic_here, block_inside}
-use Rattle.format.specs.Laws.Procs.{body_in}
+use Rattle.format.proofs.Laws.Grammar.{BlockAt, AtomicAt, atomic_here, block_inside}
+use Rattle.format.proofs.Laws.Procs.{body_in}
 use Rattle.format.specs.Decode.{max_nesting}
 use Rattle.atomic.specs.declared.block.Done.{Done}
 use Rattle.atomic.specs.declared.block.Done.TheVariants.{To, Blocked}

@@ -8,7 +8,7 @@ use Rattle.format.specs.Syntax.{Program, Plain, concurrent}
 use Rattle.format.specs.Encode.{table, record_size, trailer_size}
 use Rattle.format.specs.Labels.{labelled}
 use Rattle.format.specs.Rules.{limits, verdict, accepted}
-use Rattle.format.specs.Laws.Sound.{Sound}
+use Rattle.format.proofs.Laws.Sound.{Sound}
 use Rattle.semantics.specs.declared.RunAnswer.{RunAnswer}
 use Rattle.concurrent.specs.declared.machine.Ran.{Ran}
 use Rattle.semantics.specs.Memory.{fresh, Event}
@@ -19,7 +19,7 @@ use Rattle.engine.specs.Work.{thread_words, Holds}
 use Rattle.engine.specs.Events.{Logged}
 use Rattle.atomic.specs.Threaded.{thread_frames, most_threads, Threaded, all_frames}
 use Rattle.concurrent.specs.Stepping.{Loaded}
-use Rattle.semantics.specs.Laws.Cells.{shape}
+use Rattle.semantics.proofs.Laws.Cells.{shape}
 
 -- ---- the schedule
 

@@ -6,7 +6,7 @@ use Rattle.format.specs.Syntax.{Program, Plain, concurrent}
 use Rattle.format.specs.Encode.{table}
 use Rattle.format.specs.Labels.{labelled}
 use Rattle.labels.specs.LabelMap.{Mapped}
-use Rattle.format.specs.Laws.Sound.{Sound}
+use Rattle.format.proofs.Laws.Sound.{Sound}
 use Rattle.format.specs.Rules.{limits, max_labels}
 use Rattle.concurrent.specs.declared.threads.Stepped.{Stepped}
 use Rattle.concurrent.specs.declared.threads.Stepped.TheVariants.{To, Blocked}
@@ -17,7 +17,7 @@ use Rattle.semantics.specs.Threads as P
 use Rattle.engine.specs.Work.{thread_words, Holds, Bases}
 use Rattle.engine.specs.Events.{Logged}
 use Rattle.atomic.specs.Threaded.{most_frames, most_threads, Threaded, all_frames}
-use Rattle.semantics.specs.Laws.Cells.{shape}
+use Rattle.semantics.proofs.Laws.Cells.{shape}
 
 -- ---- what a run keeps
 

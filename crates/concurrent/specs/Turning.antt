@@ -6,7 +6,7 @@ use Rattle.value.specs.Try.{Try, has, lacks}
 use Rattle.value.specs.declared.Reason.{Reason}
 use Rattle.value.specs.Lists.{at}
 use Rattle.value.specs.declared.Value.{Value}
-use Rattle.value.specs.Laws.Lists.{In}
+use Rattle.value.proofs.Laws.Lists.{In}
 use Rattle.format.specs.Syntax.{Instr, Block, end, step, Proc, Program, Plain, concurrent}
 use Rattle.format.specs.Labels.{labelled, first, ends_of}
 use Rattle.labels.specs.LabelMap as Map

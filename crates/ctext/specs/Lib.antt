@@ -8,7 +8,3 @@ pub mod Prelude
 pub mod Text
 -- what the two calls answer and leave in the lent buffer
 pub mod Calls
--- worked by hand
-pub mod Worked
--- what these are worth: read Laws.OneToOne and Laws.Reads
-pub mod Laws

@@ -23,9 +23,9 @@ use Rattle.basics.specs.Reasons.{lack_of}
 use Rattle.basics.specs.Laws.Reasons.{None, none_lacks}
 use Rattle.value.specs.declared.Reason.{Reason}
 use Rattle.value.specs.declared.Reason.TheVariants.{WrongKind}
-use Rattle.value.specs.Laws.Tries.{has_inj, lacks_inj, lacking}
+use Rattle.value.proofs.Laws.Tries.{has_inj, lacks_inj, lacking}
 use Rattle.format.specs.Syntax.{Expr, local}
-use Rattle.format.specs.Laws.Grammar.{ExprAt, expr_inside}
+use Rattle.format.proofs.Laws.Grammar.{ExprAt, expr_inside}
 use Rattle.format.specs.Decode.{max_depth}
 use Rattle.engine.specs.declared.evaluate.Valued.{Valued}
 use Rattle.decide.specs.declared.step.Passed.{Passed}

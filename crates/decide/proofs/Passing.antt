@@ -13,9 +13,9 @@ use Rattle.value.specs.declared.Answer.TheVariants as A
 use Rattle.basics.specs.Reasons.{lack_of}
 use Rattle.basics.specs.Laws.Reasons.{None, none_lacks}
 use Rattle.value.specs.declared.Reason.{Reason}
-use Rattle.value.specs.Laws.Lists.{Each}
+use Rattle.value.proofs.Laws.Lists.{Each}
 use Rattle.format.specs.Syntax.{Expr}
-use Rattle.format.specs.Laws.Grammar.{ExprsAt, MoreAt, exprs_none_lem, exprs_more}
+use Rattle.format.proofs.Laws.Grammar.{ExprsAt, MoreAt, exprs_none_lem, exprs_more}
 use Rattle.format.specs.Decode.{max_depth}
 use Rattle.engine.specs.declared.evaluate.Valued.{Valued}
 use Rattle.decide.specs.declared.step.Passed.TheVariants.{All, Missing}

@@ -24,7 +24,7 @@ use Rattle.basics.specs.Reasons.{lack_of}
 use Rattle.basics.specs.Laws.Reasons.{None, none_lacks}
 use Rattle.value.specs.declared.Reason.{Reason}
 use Rattle.value.specs.declared.Reason.TheVariants.{WrongKind, FinishedThread}
-use Rattle.value.specs.Laws.Tests.{by_test}
+use Rattle.value.proofs.Laws.Tests.{by_test}
 use Rattle.engine.specs.declared.memory.Spot.{Spot}
 use Rattle.engine.specs.declared.memory.Spot.TheVariants.{At, Nowhere}
 use Rattle.decide.specs.declared.step.Step.TheVariants.{Select, Blocked}
@@ -34,7 +34,7 @@ use Rattle.engine.specs.Words.{value_in}
 use Rattle.engine.specs.Work.{most_locations, spot_reason, Found, Finds}
 use Rattle.decide.proofs.Deciding.{Off, off_nowhere}
 use Rattle.decide.specs.Decided.{number_of, or_blocked, chosen, Lies, SelectHere, Selects, Selectable}
-use Rattle.semantics.specs.Laws.Cells.{shape}
+use Rattle.semantics.proofs.Laws.Cells.{shape}
 use Rattle.engine.specs.Laws.Holding.{cell_word, cell_held}
 
 -- ---- "a number other than 0", as the code tests it

@@ -8,10 +8,10 @@ use Rattle.value.specs.Values.{given}
 use Rattle.basics.specs.Places.{number_at}
 use Rattle.value.specs.declared.Value.{Value}
 use Rattle.value.specs.declared.Reason.TheVariants.{WrongKind}
-use Rattle.value.specs.Laws.Lists.{Each}
+use Rattle.value.proofs.Laws.Lists.{Each}
 use Rattle.format.specs.Syntax.{Expr, local, Instr, assign, write, read, while, if, call, atomic, select, Block, step, ◌⊕◌, Proc}
 use Rattle.format.specs.Encode.{expr, instr}
-use Rattle.format.specs.Laws.Grammar.{ExprAt, ExprsAt}
+use Rattle.format.proofs.Laws.Grammar.{ExprAt, ExprsAt}
 use Rattle.format.specs.Decode.{max_depth}
 use Rattle.engine.specs.declared.evaluate.Valued.{Valued}
 use Rattle.decide.specs.declared.step.Passed.{Passed}
@@ -24,7 +24,7 @@ use Rattle.semantics.specs.Step.{Stack, Moved, entered, quiet, runs}
 use Rattle.semantics.specs.Copy.{running}
 use Rattle.engine.specs.Work.{Beside, frame_words, Framed, Holds, Bases, IsCell}
 use Rattle.engine.specs.Evaluated.{Below, Evaluates}
-use Rattle.semantics.specs.Laws.Cells.{shape}
+use Rattle.semantics.proofs.Laws.Cells.{shape}
 
 -- ---- what an instruction asks
 

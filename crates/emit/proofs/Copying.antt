@@ -9,8 +9,8 @@ use Rattle.basics.specs.Laws.Columns.{Says, row_says}
 use Rattle.value.specs.declared.Value.TheVariants.{Whole, Location, Truth}
 use Rattle.format.specs.Syntax.{Expr, constant, local, one, two}
 use Rattle.format.specs.Encode.{expr}
-use Rattle.format.specs.Laws.Stands.{Stands, first, in_take}
-use Rattle.format.specs.Laws.ExprGrammar.{ExprAt, OneAt, TwoAt, one_here, two_here, local_here, expr_inside, expr_deep}
+use Rattle.format.proofs.Laws.Stands.{Stands, first, in_take}
+use Rattle.format.proofs.Laws.ExprGrammar.{ExprAt, OneAt, TwoAt, one_here, two_here, local_here, expr_inside, expr_deep}
 use Rattle.format.specs.Rules.{max_locals}
 use Rattle.translation.specs.Code.{shift}
 use Rattle.writer.specs.Laws.Put.{Put}

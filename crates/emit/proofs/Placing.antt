@@ -3,13 +3,13 @@ use Rattle.std.proofs.Common.{◌≡◌, ℕ, zero, suc, ◌+◌, ◌*◌, ◌^�
 use Rattle.value.specs.Maybe.{Maybe, is, nothing}
 use Rattle.basics.specs.Places.{number_at}
 use Rattle.value.specs.Lists.{at}
-use Rattle.value.specs.Laws.Lists.{at_below, each_at}
-use Rattle.value.specs.Laws.Maybes.{missing}
+use Rattle.value.proofs.Laws.Lists.{at_below, each_at}
+use Rattle.value.proofs.Laws.Maybes.{missing}
 use Rattle.format.specs.Syntax.{Proc, Program, Plain, concurrent}
-use Rattle.format.specs.Laws.Stands.{first, others, two_bytes}
-use Rattle.format.specs.Laws.Procs.{takes_at, proc_sound}
-use Rattle.format.specs.Laws.Names.{Takes}
-use Rattle.format.specs.Laws.TablePlaces.{records_at, record_stands, main_stands}
+use Rattle.format.proofs.Laws.Stands.{first, others, two_bytes}
+use Rattle.format.proofs.Laws.Procs.{takes_at, proc_sound}
+use Rattle.format.proofs.Laws.Names.{Takes}
+use Rattle.format.proofs.Laws.TablePlaces.{records_at, record_stands, main_stands}
 use Rattle.format.specs.Encode.{record_size}
 use Rattle.format.specs.Rules.{limits}
 use Rattle.translation.specs.Placement.{locals_of}

@@ -1,10 +1,10 @@
 -- One law for each way through the code of assign, read and write.
 use Rattle.std.proofs.Common.{◌≡◌, ℕ, ◌+◌, ◌%◌, ◌<◌, ◌≤◌, List, [], ◌∷◌, get_or, sym, ap, ◌∙◌, arith}
-use Rattle.value.specs.Laws.Tests.{either_false}
+use Rattle.value.proofs.Laws.Tests.{either_false}
 use Rattle.format.specs.Syntax.{Expr, constant, local, one, two, Instr, assign, write, read, while, if, call, atomic, select}
 use Rattle.format.specs.Encode.{expr}
-use Rattle.format.specs.Laws.Stands.{first}
-use Rattle.format.specs.Laws.Grammar.{ExprAt, InstrAt, AssignAt, WriteAt, ReadAt, assign_here, write_here, read_here}
+use Rattle.format.proofs.Laws.Stands.{first}
+use Rattle.format.proofs.Laws.Grammar.{ExprAt, InstrAt, AssignAt, WriteAt, ReadAt, assign_here, write_here, read_here}
 use Rattle.labels.specs.Walks.{Gathers, ExprEnds}
 use Rattle.format.specs.Decode.{max_depth}
 use Rattle.format.specs.Rules.{max_locals}

@@ -22,13 +22,13 @@ use Rattle.value.specs.declared.Value.TheVariants.{Whole, Location, Truth}
 use Rattle.value.specs.declared.Answer.{Answer}
 use Rattle.value.specs.declared.Answer.TheVariants.{Is}
 use Rattle.value.specs.declared.Reason.TheVariants.{WrongKind}
-use Rattle.value.specs.Laws.Tests.{by_test}
+use Rattle.value.proofs.Laws.Tests.{by_test}
 use Rattle.basics.specs.Laws.Places.{number_at_lem}
-use Rattle.value.specs.Laws.Marks.{mark₁_marks, mark₂_marks}
+use Rattle.value.proofs.Laws.Marks.{mark₁_marks, mark₂_marks}
 use Rattle.format.specs.Syntax.{Expr, constant, local, one, two}
-use Rattle.format.specs.Laws.Exprs.{depth_pos}
-use Rattle.format.specs.Laws.Stands.{first, others}
-use Rattle.format.specs.Laws.Grammar.{ExprAt, OneAt, TwoAt, whole_here, location_here, no_here, yes_here, one_here, two_here, expr_inside, expr_deep}
+use Rattle.format.proofs.Laws.Exprs.{depth_pos}
+use Rattle.format.proofs.Laws.Stands.{first, others}
+use Rattle.format.proofs.Laws.Grammar.{ExprAt, OneAt, TwoAt, whole_here, location_here, no_here, yes_here, one_here, two_here, expr_inside, expr_deep}
 use Rattle.semantics.specs.Memory.{eval}
 use Rattle.engine.specs.Words.{value_in}
 use Rattle.engine.specs.Evaluated.{suited, decided_at, operated₁, operated₂, Below, Ready, valued, Evaluates}

@@ -16,7 +16,7 @@ use denote.Enum.Declared.{tag_of}
 use Rattle.value.specs.contracts.Value.{the_type}
 use Rattle.basics.specs.Reasons.{lack_of}
 use Rattle.basics.specs.Laws.Reasons.{None, none_lacks}
-use Rattle.value.specs.Laws.Tests.{by_test, never, either_right}
+use Rattle.value.proofs.Laws.Tests.{by_test, never, either_right}
 use Rattle.value.specs.Maybe.{pick, both}
 use Rattle.value.specs.Try.{Try, has, lacks, ◌⟫◌, provided}
 use Rattle.value.specs.Values.{not, neg, add, sub, mul, less, equal, and, apply₂, given}
@@ -25,7 +25,7 @@ use Rattle.basics.specs.Columns.{applied₁, applied₂}
 use Rattle.value.specs.Marks.{mark₂, marks, kind_of, of_kind}
 use Rattle.basics.specs.Columns.{row_of, operands_of, takes_of}
 use Rattle.basics.specs.Laws.Columns.{Says, row_says}
-use Rattle.value.specs.Laws.Tables.{looked_up}
+use Rattle.value.proofs.Laws.Tables.{looked_up}
 use Rattle.value.specs.declared.Value.{Value}
 use Rattle.value.specs.declared.Value.TheVariants.{Whole, Location, Truth}
 use Rattle.value.specs.declared.Answer.{Answer}

@@ -15,7 +15,7 @@ use mir.Facts.{to_z-of_z}
 use types.Run.{OneOf, miss}
 use denote.Enum.Declared.{tag_of}
 use Rattle.value.specs.contracts.Value.{the_type}
-use Rattle.value.specs.Laws.Tests.{never}
+use Rattle.value.proofs.Laws.Tests.{never}
 use Rattle.value.specs.Try.{has, lacks, ◌⟫◌}
 use Rattle.value.specs.Lists.{sum}
 use Rattle.value.specs.Values.{given}
@@ -32,7 +32,7 @@ use Rattle.engine.specs.declared.memory.Spot.TheVariants.{At, Nowhere}
 use Rattle.semantics.specs.Memory.{index, Memory, cell}
 use Rattle.value.specs.Values.{number, place}
 use Rattle.engine.specs.Work.{most_locations, amiss_of, Found, Finds, Placed, Places}
-use Rattle.semantics.specs.Laws.Cells.{shape}
+use Rattle.semantics.proofs.Laws.Cells.{shape}
 use Rattle.engine.specs.Laws.Holding.{no_cell}
 use Rattle.engine.specs.Laws.Starting.{next_start}
 

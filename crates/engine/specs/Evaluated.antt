@@ -10,7 +10,7 @@ use Rattle.value.specs.declared.Value.TheVariants.{Truth}
 use Rattle.value.specs.declared.Answer.{Answer}
 use Rattle.value.specs.declared.Reason.TheVariants.{WrongKind}
 use Rattle.format.specs.Syntax.{Expr, constant, local, one, two}
-use Rattle.format.specs.Laws.Grammar.{ExprAt}
+use Rattle.format.proofs.Laws.Grammar.{ExprAt}
 use Rattle.engine.specs.declared.evaluate.Valued.{Valued}
 use Rattle.semantics.specs.Memory.{Env, eval}
 use Rattle.engine.specs.Work.{Framed}

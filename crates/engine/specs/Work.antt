@@ -18,7 +18,7 @@ use Rattle.semantics.specs.Memory.{Env, lookup, index, Memory, cell}
 use Rattle.semantics.specs.Buffers.{cells}
 pub use Rattle.basics.specs.Sizes.{frame_words, local_words, thread_words, most_locations, start_words, cell_words, program_words}
 use Rattle.engine.specs.Words.{held}
-use Rattle.semantics.specs.Laws.Cells.{shape}
+use Rattle.semantics.proofs.Laws.Cells.{shape}
 
 -- ---- words
 

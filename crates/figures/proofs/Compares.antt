@@ -8,7 +8,7 @@ use lib.Dec.{eqb}
 use mir.Syntax.{w8}
 use mir.Val.{Fits}
 use borrow.Author.Tests.{eq-eqb, ne_eqb, eqb-true, eqb-false}
-use Rattle.value.specs.Laws.Tests.{by_test}
+use Rattle.value.proofs.Laws.Tests.{by_test}
 use Rattle.format.specs.declared.ReadAnswer.{ReadAnswer}
 use Rattle.format.specs.Calls.{read_call}
 use Rattle.format.specs.Syntax.{Kind, concurrent, sequential}
@@ -23,7 +23,7 @@ use Rattle.agreement.specs.declared.Figures.{Figures}
 use Rattle.agreement.specs.Agreement.{budget}
 use Rattle.agreement.specs.Figures.{refusal, figures_call}
 use Rattle.agreement.specs.Answers.{program_answer, copy_answer, compared}
-use Rattle.agreement.specs.Laws.Told.{program_answers, copy_answers, told_unwritten, told_fits, told_not_run, told_both, most_cells}
+use Rattle.agreement.proofs.Laws.Told.{program_answers, copy_answers, told_unwritten, told_fits, told_not_run, told_both, most_cells}
 
 -- what code knows of a slice: its elements are bytes
 abbrev Known : List ℕ → Type 0

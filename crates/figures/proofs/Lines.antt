@@ -8,7 +8,7 @@ use lib.Seq.{sets-eq}
 use borrow.Author.Tests.{lt-ltb, le-ltb, eq-eqb, ne_eqb}
 use lib.Dec.{ltb, eqb}
 use Rattle.value.specs.Lists.{over}
-use Rattle.value.specs.Laws.Tests.{by_test}
+use Rattle.value.proofs.Laws.Tests.{by_test}
 use Rattle.writer.specs.Laws.Put.{Put}
 use Rattle.writer.proofs.Puts.{put_none, put_then, put_cons, put_same}
 use Rattle.agreement.specs.declared.Figures.{Figures}

@@ -14,9 +14,3 @@ pub mod Rules
 pub mod Variables
 -- what the reader's call answers
 pub mod Calls
--- tables with every form, worked by hand
-pub mod Worked
--- the bounds of the rules, at both sides
-pub mod Boundaries
--- what these are worth: read Laws.Sound, then Laws.Accepted
-pub mod Laws

@@ -6,21 +6,21 @@ use mathlib.Core.List.{List, [], ◌∷◌, ◌++◌, append_assoc}
 use lib.ListN.{length, get_or}
 use Rattle.value.specs.Maybe.{is}
 use Rattle.value.specs.Lists.{at}
-use Rattle.value.specs.Laws.Lists.{Each, each_so, each_at}
+use Rattle.value.proofs.Laws.Lists.{Each, each_so, each_at}
 use Rattle.format.specs.Syntax.{Proc, Program, Plain, sequential}
 use Rattle.format.specs.Encode.{table, record_size, trailer_size}
 use Rattle.format.specs.Rules.{limits, max_size}
-use Rattle.format.specs.Laws.Sound.{Within, Sound}
-use Rattle.format.specs.Laws.Stands.{first, others}
-use Rattle.format.specs.Laws.Stands as Stands
-use Rattle.format.specs.Laws.TablePlaces.{records_at, all_bodies, record_stands, size_stands, trailer_at}
+use Rattle.format.proofs.Laws.Sound.{Within, Sound}
+use Rattle.format.proofs.Laws.Stands.{first, others}
+use Rattle.format.proofs.Laws.Stands as Stands
+use Rattle.format.proofs.Laws.TablePlaces.{records_at, all_bodies, record_stands, size_stands, trailer_at}
 use Rattle.basics.specs.Places.{number_at}
 use Rattle.basics.specs.Laws.Places.{number_at_lem}
 use Rattle.ctext.specs.Pieces.{say}
 use Rattle.ctext.specs.Prelude.{prelude}
 use Rattle.ctext.specs.Text.{numbered, location, area, declaration, definition, text}
-use Rattle.ctext.specs.Laws.DefinitionText.{ProcFits}
-use Rattle.ctext.specs.Laws.OneToOne.{program_text}
+use Rattle.ctext.proofs.Laws.DefinitionText.{ProcFits}
+use Rattle.ctext.proofs.Laws.OneToOne.{program_text}
 use Rattle.typeset.specs.Page.{Put}
 use Rattle.typeset.proofs.Setting.{put_then, put_same}
 use Rattle.frame.specs.Frames.{SizesAt, ShowsPlaces, RecordsAt, BodiesAt, ShowsDeclarations, ShowsDefinitions, ShowsText}

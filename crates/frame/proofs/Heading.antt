@@ -7,7 +7,7 @@ use Rattle.value.specs.Lists.{upto}
 use Rattle.format.specs.Encode.{each}
 use Rattle.ctext.specs.Pieces.{say, digits, decimal}
 use Rattle.ctext.specs.Text.{var, params, head, argument, unset}
-use Rattle.ctext.specs.Laws.FrameText.{another}
+use Rattle.ctext.proofs.Laws.FrameText.{another}
 use Rattle.typeset.specs.Page.{Put, Onto}
 use Rattle.typeset.proofs.Setting.{put_then, put_same, onto_start, onto_next, onto_end}
 use Rattle.lines.proofs.Plainly.{lit}

@@ -6,7 +6,7 @@ use mathlib.Core.Path.{◌≡◌, refl, sym, ap, subst, ◌∙◌}
 use mathlib.Core.List.{List, [], ◌∷◌, ◌++◌}
 use lib.ListN.{length, get_or, drop, drop_of_length-le}
 use lib.Seq.{drop-cons}
-use Rattle.value.specs.Laws.Lists.{at_get_d}
+use Rattle.value.proofs.Laws.Lists.{at_get_d}
 use Rattle.basics.specs.Places.{number_at}
 use Rattle.ctext.specs.Pieces.{say, decimal}
 use Rattle.ctext.specs.Prelude.{prelude}

@@ -2,20 +2,20 @@
 use Rattle.std.specs.Prelude.{ℕ, ◌+◌, ◌*◌, ◌-◌, ◌≤◌, ◌≡◌, List, [], ◌∷◌, ◌++◌, length, get_or, drop}
 use Rattle.value.specs.Maybe.{is}
 use Rattle.value.specs.Lists.{at, upto}
-use Rattle.value.specs.Laws.Lists.{Each}
+use Rattle.value.proofs.Laws.Lists.{Each}
 use Rattle.format.specs.Syntax.{Block, Proc, Program, Plain, sequential}
 use Rattle.format.specs.Encode.{each, bodies_of, table}
 use Rattle.format.specs.Encode as E
 use Rattle.format.specs.Decode.{max_nesting}
-use Rattle.format.specs.Laws.Fits.{BlockFits}
-use Rattle.format.specs.Laws.Grammar.{BlockAt}
-use Rattle.format.specs.Laws.Sound.{Sound}
-use Rattle.format.specs.Laws.Stands.{Stands}
+use Rattle.format.proofs.Laws.Fits.{BlockFits}
+use Rattle.format.proofs.Laws.Grammar.{BlockAt}
+use Rattle.format.proofs.Laws.Sound.{Sound}
+use Rattle.format.proofs.Laws.Stands.{Stands}
 use Rattle.basics.specs.Places.{number_at}
 use Rattle.ctext.specs.Pieces.{say, joined, decimal}
 use Rattle.ctext.specs.Prelude.{prelude}
 use Rattle.ctext.specs.Text.{numbered, location, area, head, argument, unset, declaration, definition, text}
-use Rattle.ctext.specs.Laws.LineText.{Flat}
+use Rattle.ctext.proofs.Laws.LineText.{Flat}
 use Rattle.typeset.specs.Page.{Put, Onto}
 use Rattle.phrases.specs.declared.exprs.Shown.{Shown}
 

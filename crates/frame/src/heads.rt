@@ -4,7 +4,7 @@ ghost use Rattle.value.specs.Lists.{upto};
 ghost use Rattle.format.specs.Encode.{each};
 ghost use Rattle.ctext.specs.Pieces.{say, decimal};
 ghost use Rattle.ctext.specs.Text.{var, params, head, argument, unset};
-ghost use Rattle.ctext.specs.Laws.FrameText.{another};
+ghost use Rattle.ctext.proofs.Laws.FrameText.{another};
 ghost use Rattle.typeset.specs.Page.{Put};
 
 use phrases::exprs::put_var;

@@ -12,22 +12,22 @@ use lib.Dec.{eqb, ltb, leb}
 use borrow.Author.Tests.{lt-ltb, le-ltb, lt-leb, le-leb, eqb-true, eq-eqb}
 use Rattle.value.specs.Maybe.{Maybe, is, nothing, both}
 use Rattle.value.specs.Lists.{over}
-use Rattle.value.specs.Laws.Maybes.{missing}
-use Rattle.value.specs.Laws.Tests.{by_test, never}
-use Rattle.value.specs.Laws.Bytes.{Bytes, bytes_at}
+use Rattle.value.proofs.Laws.Maybes.{missing}
+use Rattle.value.proofs.Laws.Tests.{by_test, never}
+use Rattle.value.proofs.Laws.Bytes.{Bytes, bytes_at}
 use Rattle.format.specs.Syntax.{Program, Plain, sequential}
 use Rattle.format.specs.Encode.{table}
 use Rattle.format.specs.Rules.{Verdict, refused, accepted, verdict, limits}
 use Rattle.format.specs.Calls.{read_as, read_call}
 use Rattle.format.specs.declared.ReadAnswer.{ReadAnswer}
-use Rattle.format.specs.Laws.Sound.{Sound}
-use Rattle.format.specs.Laws.Accepted.{accepted_exactly}
+use Rattle.format.proofs.Laws.Sound.{Sound}
+use Rattle.format.proofs.Laws.Accepted.{accepted_exactly}
 use Rattle.basics.specs.Sizes.{too_long}
 use Rattle.translation.specs.Calls.{Written, refusal, written, writes}
 use Rattle.translation.specs.declared.WriteAnswer.{WriteAnswer}
 use Rattle.ctext.specs.Text.{text}
 use Rattle.ctext.specs.Calls.{read_text_call, untext}
-use Rattle.ctext.specs.Laws.Reads.{TextOf, untext_exactly, reads, refuses}
+use Rattle.ctext.proofs.Laws.Reads.{TextOf, untext_exactly, reads, refuses}
 use Rattle.typeset.specs.Page.{Page, nowhere, otherwise, set_one, set_all}
 use Rattle.typeset.specs.Page as P
 use Rattle.writer.specs.Laws.Put.{Put}

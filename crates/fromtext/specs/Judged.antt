@@ -2,7 +2,7 @@
 use Rattle.std.specs.Prelude.{◌≡◌, List, ℕ}
 use Rattle.translation.specs.Calls.{Written, refusal, writes}
 use Rattle.translation.specs.declared.WriteAnswer.{WriteAnswer}
-use Rattle.ctext.specs.Laws.Reads.{TextOf}
+use Rattle.ctext.proofs.Laws.Reads.{TextOf}
 
 -- it is written if it is, and otherwise nothing is
 pub record Judges (x t o o' : List ℕ) (r : WriteAnswer) : Type 0 where

@@ -7,14 +7,14 @@ use mathlib.Core.Bool.{Bool, true, false}
 use lib.ListN.{length, get_or, set, length-append}
 use lib.Seq.{get_or-set_same}
 use Rattle.value.specs.Maybe.{is, nothing}
-use Rattle.value.specs.Laws.Maybes.{is_inj, missing}
-use Rattle.value.specs.Laws.Tests.{never}
+use Rattle.value.proofs.Laws.Maybes.{is_inj, missing}
+use Rattle.value.proofs.Laws.Tests.{never}
 use Rattle.format.specs.Syntax.{Instr, assign, write, read, while, if, call, atomic, select, Block, end, step, ◌⊕◌, Proc, Plain}
 use Rattle.format.specs.Encode.{expr, instr, block}
 use Rattle.labels.specs.Spots.{Spot, here, later, inner, Inner, body, thens, elses, CodeAt}
 use Rattle.labels.specs.Walks.{InstrIn, BlockIn, ExprEnds, CountsInstr, CountsBlock}
-use Rattle.format.specs.Laws.Stands as Stands
-use Rattle.format.specs.Laws.Grammar
+use Rattle.format.proofs.Laws.Stands as Stands
+use Rattle.format.proofs.Laws.Grammar
 use Rattle.labels.specs.Laws.Spots.{itself, onward, spot_inside, block_some, instr_some}
 use Rattle.labels.specs.declared.count.Counted.{Counted}
 use Rattle.labels.proofs.Counting.{instr_in, block_in, body_in_lem, then_in, else_in, then_counts}

@@ -8,16 +8,16 @@ use lib.Dec.{ltb}
 use borrow.Author.Tests.{ltb-true, ltb-false}
 use Rattle.value.specs.Maybe.{is}
 use Rattle.value.specs.Lists.{at}
-use Rattle.value.specs.Laws.Maybes.{is_inj, missing}
-use Rattle.value.specs.Laws.Tests.{by_test}
-use Rattle.value.specs.Laws.Lists.{at_below, at_get_d, each_at}
+use Rattle.value.proofs.Laws.Maybes.{is_inj, missing}
+use Rattle.value.proofs.Laws.Tests.{by_test}
+use Rattle.value.proofs.Laws.Lists.{at_below, at_get_d, each_at}
 use Rattle.format.specs.Syntax.{Block, end, Proc, Plain}
 use Rattle.format.specs.Encode.{block, bodies_of}
 use Rattle.labels.specs.Spots.{Spot, body_at, CodeAt}
 use Rattle.labels.specs.Walks.{BlockIn, CountsBlock, BodiesAt, BodiesIn}
-use Rattle.format.specs.Laws.Grammar
-use Rattle.format.specs.Laws.Fits.{BlockFits}
-use Rattle.format.specs.Laws.Procs.{body_at_lem}
+use Rattle.format.proofs.Laws.Grammar
+use Rattle.format.proofs.Laws.Fits.{BlockFits}
+use Rattle.format.proofs.Laws.Procs.{body_at_lem}
 use Rattle.format.specs.Decode.{max_nesting}
 use Rattle.labels.specs.Laws.Spots.{itself, spot_inside, block_some, body_stands}
 use Rattle.labels.specs.declared.count.Counted.{Counted}

@@ -5,7 +5,7 @@ use Rattle.format.specs.Syntax.{Instr, assign, write, read, while, if, call, ato
 pub use Rattle.basics.specs.Sizes.{positions}
 use Rattle.labels.specs.Spots.{Spot, Inner, CodeAt}
 use Rattle.labels.specs.Walks.{BodiesAt}
-use Rattle.format.specs.Laws.Grammar.{InstrAt, BlockAt}
+use Rattle.format.proofs.Laws.Grammar.{InstrAt, BlockAt}
 use Rattle.engine.specs.Work.{Beside}
 
 -- in procedure m the code x goes on at k, where its first instruction stands; of no code, k is the end of the body

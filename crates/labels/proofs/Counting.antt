@@ -7,19 +7,19 @@ use lib.ListN.{length, get_or, drop, length-drop, drop_of_length-le}
 use lib.Dec.{leb}
 use borrow.Author.Tests.{leb-true, leb-false}
 use Rattle.value.specs.Maybe.{is, nothing}
-use Rattle.value.specs.Laws.Tests.{by_test}
+use Rattle.value.proofs.Laws.Tests.{by_test}
 use Rattle.format.specs.Syntax.{Expr, Instr, assign, write, read, while, if, call, atomic, select, Block, Plain}
 use Rattle.format.specs.Decode as D
 use Rattle.format.specs.Decode.{max_depth}
 use Rattle.format.specs.Labels.{count, count_i}
 use Rattle.parse.specs.Ends.{end_of, ReadsExpr}
 use Rattle.labels.specs.Walks.{InstrIn, BlockIn, ExprEnds, ExprsEnd, PlainEnds, counted, CountsInstr, CountsBlock}
-use Rattle.format.specs.Laws.Stands.{first}
-use Rattle.format.specs.Laws.Blocks.{nesting_pos}
-use Rattle.format.specs.Laws.Grammar
-use Rattle.format.specs.Laws.Positions.{expr_read}
-use Rattle.format.specs.Laws.Reading.{so}
-use Rattle.format.specs.Laws.Rests.{Leaves, expr_leaves}
+use Rattle.format.proofs.Laws.Stands.{first}
+use Rattle.format.proofs.Laws.Blocks.{nesting_pos}
+use Rattle.format.proofs.Laws.Grammar
+use Rattle.format.proofs.Laws.Positions.{expr_read}
+use Rattle.format.proofs.Laws.Reading.{so}
+use Rattle.format.proofs.Laws.Rests.{Leaves, expr_leaves}
 use Rattle.parse.specs.declared.Ends.{Ends}
 use Rattle.parse.specs.declared.Ends.TheVariants.{At, Nothing}
 use Rattle.labels.specs.declared.count.Counted.{Counted}

@@ -12,9 +12,9 @@ use Rattle.format.specs.Labels.{count, count_i, label, first}
 use Rattle.labels.specs.Walks.{InstrIn, BlockIn, ExprEnds, counted, CountsInstr, CountsBlock, BeginsAt, next_of, other_of, numbers_i, numbers}
 use Rattle.labels.specs.Walks.{Put, PutsNode, PutsBounds, FillsInstr, FillsBlock}
 use Rattle.format.specs.Rules.{limits, max_labels}
-use Rattle.format.specs.Laws.Stands.{Stands}
-use Rattle.format.specs.Laws.Stands as Stands
-use Rattle.format.specs.Laws.Grammar
+use Rattle.format.proofs.Laws.Stands.{Stands}
+use Rattle.format.proofs.Laws.Stands as Stands
+use Rattle.format.proofs.Laws.Grammar
 use Rattle.labels.specs.declared.count.Counted.{Counted}
 use Rattle.labels.proofs.Counting.{instr_in, block_in, body_in_lem, then_in, else_in, then_counts}
 

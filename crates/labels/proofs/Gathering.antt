@@ -18,13 +18,13 @@ use Rattle.basics.specs.Columns.{operands_of, payload_of}
 use Rattle.basics.specs.BitSets.{bit, bits}
 use Rattle.basics.specs.Laws.BitSets.{half, bit_zero, bit_pow, bit_shift, bits_none, bits_or}
 use Rattle.value.specs.declared.Value.TheVariants.{Whole, Location, Truth}
-use Rattle.value.specs.Laws.Tests.{by_test, either_false}
+use Rattle.value.proofs.Laws.Tests.{by_test, either_false}
 use Rattle.format.specs.Syntax.{Expr, constant, local, one, two}
 use Rattle.format.specs.Encode.{expr}
 use Rattle.format.specs.Variables.{mentioned, mentions, variables}
 use Rattle.labels.specs.Walks.{arity, Only, Gathers, GathersLeaf, GathersMore, GathersEach, Gathering, CountsSet}
-use Rattle.format.specs.Laws.Stands.{first, others, front, back}
-use Rattle.format.specs.Laws.ExprGrammar.{ExprAt, MoreAt, exprs_none_lem, exprs_more, expr_inside, expr_deep}
+use Rattle.format.proofs.Laws.Stands.{first, others, front, back}
+use Rattle.format.proofs.Laws.ExprGrammar.{ExprAt, MoreAt, exprs_none_lem, exprs_more, expr_inside, expr_deep}
 use Rattle.format.specs.Decode.{max_depth}
 use Rattle.format.specs.Rules.{max_locals}
 use Rattle.labels.specs.declared.variables.Gathered.{Gathered}

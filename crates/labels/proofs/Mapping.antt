@@ -7,8 +7,8 @@ use lib.ListN.{length, get_or, take, drop, get_or-append}
 use lib.Seq.{sets-eq, length-take-le, get_or-append-add}
 use Rattle.value.specs.Maybe.{is}
 use Rattle.value.specs.Lists.{at}
-use Rattle.value.specs.Laws.Maybes.{is_inj, missing}
-use Rattle.value.specs.Laws.Lists.{at_below}
+use Rattle.value.proofs.Laws.Maybes.{is_inj, missing}
+use Rattle.value.proofs.Laws.Lists.{at_below}
 use Rattle.format.specs.Syntax.{Instr, assign, write, read, while, if, call, atomic, select}
 use Rattle.format.specs.Syntax.{Block, end, step, ◌⊕◌, Proc, Program, Plain, concurrent}
 use Rattle.format.specs.Encode.{expr, instr, block, each, bodies_of}
@@ -17,11 +17,11 @@ use Rattle.labels.specs.LabelMap.{Node, held, nodes, all_nodes, node_of, next, o
 use Rattle.format.specs.Rules.{limits, max_labels}
 use Rattle.labels.specs.Walks.{BlockIn, counted, CountsBlock, BeginsAt, next_of, other_of, numbers_i, numbers, all_numbers, all_bounds}
 use Rattle.labels.specs.Walks.{Put, PutsNode, PutsBounds, FillsBlock, BodiesAt, BodiesIn, MapsLabels}
-use Rattle.format.specs.Laws.Stands.{front, back}
-use Rattle.format.specs.Laws.Grammar.{BlockAt}
-use Rattle.format.specs.Laws.Joined.{first_append}
-use Rattle.format.specs.Laws.Labelled.{block_label, instr_label}
-use Rattle.format.specs.Laws.TablePlaces.{records_at}
+use Rattle.format.proofs.Laws.Stands.{front, back}
+use Rattle.format.proofs.Laws.Grammar.{BlockAt}
+use Rattle.format.proofs.Laws.Joined.{first_append}
+use Rattle.format.proofs.Laws.Labelled.{block_label, instr_label}
+use Rattle.format.proofs.Laws.TablePlaces.{records_at}
 use Rattle.format.specs.Decode.{max_nesting}
 use Rattle.basics.specs.Sizes.{map_words, bound_words}
 use Rattle.labels.specs.Laws.Walked.{bodies_at}

@@ -3,7 +3,7 @@ use Rattle.std.specs.Prelude.{ℕ, suc, ◌+◌, ◌*◌, ◌-◌, ◌≤◌, �
 use Rattle.std.proofs.lemmas.List.Edits.{sets}
 use Rattle.basics.specs.BitSets.{bits}
 use Rattle.value.specs.Maybe.{either}
-use Rattle.value.specs.Laws.Lists.{Each}
+use Rattle.value.proofs.Laws.Lists.{Each}
 use Rattle.format.specs.Syntax.{Expr, constant, local, one, two}
 use Rattle.format.specs.Syntax.{Instr, assign, write, read, while, if, call, atomic, select, Block, end, step, Proc, Program, Plain}
 use Rattle.format.specs.Syntax.{concurrent}
@@ -12,10 +12,10 @@ use Rattle.format.specs.Labels.{count, count_i, counts, label, first}
 use Rattle.labels.specs.LabelMap.{Mapped}
 use Rattle.format.specs.Variables.{mentioned, mentions, variables}
 use Rattle.format.specs.Rules.{limits, max_labels, max_locals}
-use Rattle.format.specs.Laws.Fits.{BlockFits}
-use Rattle.format.specs.Laws.Formed.{Formed}
-use Rattle.format.specs.Laws.Stands.{Stands}
-use Rattle.format.specs.Laws.Grammar.{ExprAt, ExprsAt, InstrAt, BlockAt}
+use Rattle.format.proofs.Laws.Fits.{BlockFits}
+use Rattle.format.proofs.Laws.Formed.{Formed}
+use Rattle.format.proofs.Laws.Stands.{Stands}
+use Rattle.format.proofs.Laws.Grammar.{ExprAt, ExprsAt, InstrAt, BlockAt}
 use Rattle.format.specs.Decode.{max_depth, max_nesting}
 use Rattle.labels.specs.declared.count.Counted.{Counted}
 use Rattle.labels.specs.declared.variables.Gathered.{Gathered}

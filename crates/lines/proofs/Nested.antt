@@ -6,11 +6,11 @@ use mathlib.Core.List.{List, [], ◌∷◌, ◌++◌}
 use lib.ListN.{length, get_or, replicate}
 use Rattle.format.specs.Syntax.{Expr, Instr, while, if, Block, end, step, Plain}
 use Rattle.format.specs.Decode.{max_depth}
-use Rattle.format.specs.Laws.Grammar.{ExprAt, InstrAt, BlockAt, WhileAt, IfAt, StepAt, while_here, if_here, end_here, step_here, block_inside}
-use Rattle.format.specs.Laws.Grammar as G
+use Rattle.format.proofs.Laws.Grammar.{ExprAt, InstrAt, BlockAt, WhileAt, IfAt, StepAt, while_here, if_here, end_here, step_here, block_inside}
+use Rattle.format.proofs.Laws.Grammar as G
 use Rattle.ctext.specs.Pieces.{say}
 use Rattle.ctext.specs.Text.{expr, ind, instr, block}
-use Rattle.ctext.specs.Laws.LineText.{FlatI, Flat}
+use Rattle.ctext.proofs.Laws.LineText.{FlatI, Flat}
 use Rattle.typeset.specs.Page.{Put}
 use Rattle.typeset.proofs.Setting.{put_none, put_then, put_same}
 use Rattle.phrases.specs.declared.exprs.Shown.{Shown}

@@ -11,13 +11,13 @@ use Rattle.value.specs.Values.{unbytes}
 use Rattle.format.specs.Syntax.{Expr, Instr, assign, write, read, while, if, call, atomic, select, Block, Plain}
 use Rattle.format.specs.Encode.{each}
 use Rattle.format.specs.Decode.{max_depth}
-use Rattle.format.specs.Laws.Stands.{Stands, first}
-use Rattle.format.specs.Laws.Grammar.{ExprAt, ExprsAt, MoreAt, InstrAt, WriteAt, exprs_none_lem, exprs_more, assign_here, write_here, read_here, call_here, select_here}
+use Rattle.format.proofs.Laws.Stands.{Stands, first}
+use Rattle.format.proofs.Laws.Grammar.{ExprAt, ExprsAt, MoreAt, InstrAt, WriteAt, exprs_none_lem, exprs_more, assign_here, write_here, read_here, call_here, select_here}
 use Rattle.basics.specs.Places.{number_at}
 use Rattle.basics.specs.Laws.Places.{number_at_lem}
 use Rattle.ctext.specs.Pieces.{say, decimal}
 use Rattle.ctext.specs.Text.{var, expr, listed, instr}
-use Rattle.ctext.specs.Laws.LineText.{FlatI}
+use Rattle.ctext.proofs.Laws.LineText.{FlatI}
 use Rattle.typeset.specs.Page.{Put}
 use Rattle.typeset.proofs.Setting.{put_none, put_then, put_same}
 use Rattle.phrases.specs.declared.exprs.Shown.{Shown}

@@ -3,10 +3,10 @@ use Rattle.std.specs.Prelude.{ℕ, suc, ◌*◌, ◌≤◌, ◌<◌, ◌≡◌, 
 use Rattle.format.specs.Syntax.{Expr, Instr, Block, Plain}
 use Rattle.format.specs.Encode.{each}
 use Rattle.format.specs.Decode.{max_depth}
-use Rattle.format.specs.Laws.Grammar.{ExprAt, ExprsAt, InstrAt, BlockAt}
+use Rattle.format.proofs.Laws.Grammar.{ExprAt, ExprsAt, InstrAt, BlockAt}
 use Rattle.ctext.specs.Pieces.{say}
 use Rattle.ctext.specs.Text.{expr, listed, ind, instr, block}
-use Rattle.ctext.specs.Laws.LineText.{FlatI, Flat}
+use Rattle.ctext.proofs.Laws.LineText.{FlatI, Flat}
 use Rattle.typeset.specs.Page.{Put}
 use Rattle.phrases.specs.declared.exprs.Shown.{Shown}
 

@@ -10,7 +10,7 @@ use lib.Dec.{leb, eqb}
 use borrow.Author.Tests.{le-leb, lt-leb, eq-eqb, ne_eqb}
 use Rattle.value.specs.Maybe.{Maybe, is, nothing, ◌>>=◌, when, pick, both}
 use Rattle.value.specs.Lists.{upto}
-use Rattle.value.specs.Laws.Tests.{by_test}
+use Rattle.value.proofs.Laws.Tests.{by_test}
 use Rattle.format.specs.Syntax.{Block, Plain, Kind, concurrent, sequential}
 use Rattle.format.specs.Encode.{Trailer, trailer, trailer_size, record_size}
 use Rattle.format.specs.Decode.{Read, but, max_nesting}
@@ -19,8 +19,8 @@ use Rattle.format.specs.Rules as R
 use Rattle.format.specs.Rules.{Verdict, refused, accepted, verdict, limits, allowed}
 use Rattle.format.specs.Calls.{read_as, read_call}
 use Rattle.format.specs.declared.ReadAnswer.{ReadAnswer}
-use Rattle.format.specs.Laws.Refusals.{refused_within}
-use Rattle.format.specs.Laws.Procs.{body_in}
+use Rattle.format.proofs.Laws.Refusals.{refused_within}
+use Rattle.format.proofs.Laws.Procs.{body_in}
 use Rattle.basics.specs.declared.numbers.Limits as L
 use Rattle.parse.specs.Ends.{end_of, check}
 use Rattle.parse.specs.declared.Ends.{Ends}
@@ -29,8 +29,8 @@ use Rattle.parse.proofs.Chains.{end_inside}
 use Rattle.shape.proofs.Rule3.{is_concurrent_lem, is_sequential}
 use Rattle.shape.specs.Shapes.{limits_of, BodyReads}
 use Rattle.mending.specs.Mending.{range, gather, trailer_for, with_trailer, passes, accepts, kept}
-use Rattle.mending.specs.Laws.Narrow.{further, body_end, tried, tried_at, narrowed}
-use Rattle.mending.specs.Laws.Mended.{with_front, with_length}
+use Rattle.mending.proofs.Laws.Narrow.{further, body_end, tried, tried_at, narrowed}
+use Rattle.mending.proofs.Laws.Mended.{with_front, with_length}
 use Rattle.mender.specs.declared.trailer.Counts.{Counts}
 use Rattle.mender.specs.declared.search.Found.{Found}
 use Rattle.mender.specs.declared.search.Found.TheVariants.{None, One, Several}

@@ -1,7 +1,7 @@
 -- What the mender answers of a table that is neither too short nor too long, and not accepted as it is.
 use Rattle.std.specs.Prelude.{ℕ, ◌*◌, ◌-◌, ◌≡◌, true, false, List, ◌++◌, length}
 use Rattle.value.specs.Lists.{over}
-use Rattle.value.specs.Laws.Bytes.{Bytes}
+use Rattle.value.proofs.Laws.Bytes.{Bytes}
 use Rattle.format.specs.Syntax.{Kind}
 use Rattle.format.specs.Encode.{trailer_size}
 use Rattle.format.specs.Decode.{but}

@@ -5,7 +5,7 @@ use Rattle.format.specs.Encode.{Trailer, trailer_size}
 use Rattle.format.specs.Decode.{but}
 use Rattle.format.specs.Rules.{limits}
 use Rattle.mending.specs.Mending.{accepts, kept}
-use Rattle.mending.specs.Laws.Narrow.{tried, tried_at, narrowed}
+use Rattle.mending.proofs.Laws.Narrow.{tried, tried_at, narrowed}
 use Rattle.mender.specs.Trailing.{trailer_as}
 use Rattle.mender.specs.declared.trailer.Counts.{Counts}
 use Rattle.mender.specs.declared.search.Found.{Found}

@@ -2,7 +2,3 @@
 
 -- the acceptable trailers, and what the mender answers and leaves in the lent buffers
 pub mod Mending
--- answers worked by hand
-pub mod Worked
--- what these are worth
-pub mod Laws

@@ -7,13 +7,13 @@ use mathlib.Core.Bool.{Bool, true, false}
 use lib.ListN.{length, get_or, drop, length-drop, drop_of_length-le}
 use lib.Seq.{drop-cons}
 use Rattle.value.specs.Maybe.{is, ◌>>=◌, both}
-use Rattle.value.specs.Laws.Tests.{never}
+use Rattle.value.proofs.Laws.Tests.{never}
 use Rattle.format.specs.Syntax.{Expr, while, if, atomic, step}
 use Rattle.format.specs.Decode.{expr, instr, block, max_depth}
 use Rattle.format.specs.Rules.{Here, allowed, allowed_i, plainly, is_concurrent}
 use Rattle.parse.specs.Ends.{end_of, check, inside_of, ReadsExpr, ReadsInstr, ReadsBlock, ReadsPlain}
-use Rattle.format.specs.Laws.Reading.{known_is}
-use Rattle.format.specs.Laws.Rests.{expr_leaves, instr_leaves, instr_takes, block_leaves, block_goes_on}
+use Rattle.format.proofs.Laws.Reading.{known_is}
+use Rattle.format.proofs.Laws.Rests.{expr_leaves, instr_leaves, instr_takes, block_leaves, block_goes_on}
 use Rattle.parse.proofs.Chains.{ends_then, ends_none, bind_assoc, passed_at, passed_none, passed_made, never_passes, fails_behind}
 use Rattle.parse.proofs.Plain.{instr_at}
 use Rattle.parse.specs.declared.Ends.{Ends}

@@ -8,11 +8,11 @@ use lib.ListN.{length, drop}
 use lib.Seq.{drop-drop}
 use Rattle.value.specs.Maybe.{Maybe, is, nothing, ◌>>=◌}
 use Rattle.format.specs.Decode.{Read}
-use Rattle.value.specs.Laws.Maybes.{is_inj}
-use Rattle.value.specs.Laws.Tests.{by_test}
+use Rattle.value.proofs.Laws.Maybes.{is_inj}
+use Rattle.value.proofs.Laws.Tests.{by_test}
 use Rattle.parse.specs.Ends.{end_of, check}
-use Rattle.format.specs.Laws.Reading.{so}
-use Rattle.format.specs.Laws.Rests.{Leaves, rest_length}
+use Rattle.format.proofs.Laws.Reading.{so}
+use Rattle.format.proofs.Laws.Rests.{Leaves, rest_length}
 use Rattle.parse.specs.declared.Ends.{Ends}
 use Rattle.parse.specs.declared.Ends.TheVariants.{At, Nothing}
 

@@ -17,7 +17,7 @@ use Rattle.basics.specs.Columns.{operands_of, payload_of}
 use Rattle.format.specs.Syntax.{Expr, local, one, two}
 use Rattle.format.specs.Decode.{Read, byte, marked, expr}
 use Rattle.parse.specs.Ends.{end_of, ReadsExpr}
-use Rattle.format.specs.Laws.Rests.{expr_leaves}
+use Rattle.format.proofs.Laws.Rests.{expr_leaves}
 use Rattle.parse.proofs.Chains.{ends_then, ends_none, ends_made}
 use Rattle.parse.specs.declared.Ends.{Ends}
 use Rattle.parse.specs.declared.Ends.TheVariants.{At, Nothing}

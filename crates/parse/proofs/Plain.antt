@@ -11,14 +11,14 @@ use lib.Dec.{leb, eqb}
 use borrow.Author.Tests.{leb-true, leb-false, eqb-true}
 use Rattle.value.specs.Maybe.{is, nothing, ◌>>=◌, both}
 use Rattle.value.specs.Values.{unbytes}
-use Rattle.value.specs.Laws.Tests.{by_test}
+use Rattle.value.proofs.Laws.Tests.{by_test}
 use Rattle.format.specs.Syntax.{Expr, assign, write, read, call, select, Plain}
 use Rattle.format.specs.Decode.{Read, byte, number, times, expr, Form, assign_form, write_form, read_form, while_form, if_form, call_form, atomic_form}
 use Rattle.format.specs.Decode.{select_form, no_form, forms, formed, instr, block, max_depth}
 use Rattle.format.specs.Rules.{Here, allowed_i, is_concurrent}
 use Rattle.parse.specs.Ends.{end_of, check, ReadsValues, ReadsPlain}
-use Rattle.format.specs.Laws.Blocks.{forms?, form_right}
-use Rattle.format.specs.Laws.Positions.{byte_at, byte_past, number_at_lem, number_past}
+use Rattle.format.proofs.Laws.Blocks.{forms?, form_right}
+use Rattle.format.proofs.Laws.Positions.{byte_at, byte_past, number_at_lem, number_past}
 use Rattle.parse.proofs.Chains.{ends_made, ends_made₂, ends_alike, always_passes, never_passes, fails_behind}
 use Rattle.parse.specs.declared.Ends.{Ends}
 use Rattle.parse.specs.declared.Ends.TheVariants.{Nothing}

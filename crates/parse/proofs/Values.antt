@@ -7,7 +7,7 @@ use lib.ListN.{length, drop, length-drop}
 use borrow.Author.Tests.{le-leb, lt-leb}
 use Rattle.format.specs.Decode.{times, expr, max_depth}
 use Rattle.parse.specs.Ends.{end_of, ReadsExpr, ReadsValues}
-use Rattle.format.specs.Laws.Rests.{expr_leaves}
+use Rattle.format.proofs.Laws.Rests.{expr_leaves}
 use Rattle.parse.proofs.Chains.{ends_then, ends_none, ends_made, end_inside}
 use Rattle.parse.specs.declared.Ends.{Ends}
 use Rattle.parse.specs.declared.Ends.TheVariants.{At, Nothing}

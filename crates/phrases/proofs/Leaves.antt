@@ -11,8 +11,8 @@ use Rattle.value.specs.Marks.{mark₁, mark₂}
 use Rattle.value.specs.declared.Value.TheVariants.{Whole, Location, Truth}
 use Rattle.format.specs.Syntax.{Expr, constant, local, one, two}
 use Rattle.format.specs.Encode as E
-use Rattle.format.specs.Laws.Stands.{Stands, first, others, front, back}
-use Rattle.format.specs.Laws.ExprGrammar.{ExprAt, expr_inside, expr_deep, whole_here, location_here, no_here, yes_here, local_here}
+use Rattle.format.proofs.Laws.Stands.{Stands, first, others, front, back}
+use Rattle.format.proofs.Laws.ExprGrammar.{ExprAt, expr_inside, expr_deep, whole_here, location_here, no_here, yes_here, local_here}
 use Rattle.basics.specs.Places.{number_at}
 use Rattle.basics.specs.Laws.Places.{number_at_lem}
 use Rattle.ctext.specs.Pieces.{say, decimal, whole}

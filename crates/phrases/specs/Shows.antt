@@ -2,7 +2,7 @@
 use Rattle.std.specs.Prelude.{ℕ, ◌+◌, ◌≤◌, ◌<◌, ◌≡◌, List, length, get_or, eqb}
 use Rattle.value.specs.Maybe.{pick}
 use Rattle.format.specs.Syntax.{Expr}
-use Rattle.format.specs.Laws.ExprGrammar.{ExprAt}
+use Rattle.format.proofs.Laws.ExprGrammar.{ExprAt}
 use Rattle.ctext.specs.Pieces.{say}
 use Rattle.ctext.specs.Text.{expr_in}
 use Rattle.typeset.specs.Page.{Put}

@@ -3,8 +3,8 @@ use Rattle.std.specs.Prelude.{ℕ, ◌+◌, ◌*◌, ◌≤◌, ◌<◌, ◌≡�
 use Rattle.format.specs.Syntax.{Program, Plain, concurrent}
 use Rattle.format.specs.Encode.{table, record_size}
 use Rattle.format.specs.Rules.{limits}
-use Rattle.format.specs.Laws.Sound.{Sound}
-use Rattle.format.specs.Laws.TablePlaces.{records_at}
+use Rattle.format.proofs.Laws.Sound.{Sound}
+use Rattle.format.proofs.Laws.TablePlaces.{records_at}
 use Rattle.translation.specs.declared.Mode.{Mode}
 use Rattle.translation.specs.Placement.{start_in, row_of}
 use Rattle.places.specs.declared.Places.{Places}

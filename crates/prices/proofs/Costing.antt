@@ -5,20 +5,20 @@ use mathlib.Core.Path.{◌≡◌, sym, ap, ◌∙◌}
 use mathlib.Core.List.{List, [], ◌∷◌, ◌++◌}
 use mathlib.Core.Bool.{true}
 use lib.ListN.{length, get_or, length-append}
-use Rattle.value.specs.Laws.Tests.{both_passed, never, either_false}
+use Rattle.value.proofs.Laws.Tests.{both_passed, never, either_false}
 use Rattle.format.specs.Syntax.{Expr, Instr, assign, write, read, while, if, call, atomic, select, Block, end, step, concurrent}
 use Rattle.format.specs.Encode.{expr, instr, block}
 use Rattle.format.specs.Decode.{max_depth}
 use Rattle.format.specs.Variables.{mentioned}
 use Rattle.format.specs.Rules.{allowed, allowed_i, limits, max_locals}
-use Rattle.format.specs.Laws.Stands.{first}
-use Rattle.format.specs.Laws.Grammar.{ExprAt, InstrAt, BlockAt, AssignAt, WriteAt, ReadAt, IfAt, StepAt}
-use Rattle.format.specs.Laws.Grammar.{assign_here, write_here, read_here, if_here, end_here, step_here, instr_inside, block_inside, block_deep}
+use Rattle.format.proofs.Laws.Stands.{first}
+use Rattle.format.proofs.Laws.Grammar.{ExprAt, InstrAt, BlockAt, AssignAt, WriteAt, ReadAt, IfAt, StepAt}
+use Rattle.format.proofs.Laws.Grammar.{assign_here, write_here, read_here, if_here, end_here, step_here, instr_inside, block_inside, block_deep}
 use Rattle.labels.specs.Walks.{Gathers, CountsSet}
 use Rattle.labels.specs.declared.variables.Gathered.{Gathered}
 use Rattle.agreement.specs.Price.{vars}
 use Rattle.agreement.specs.Prices.{inside, inside_i}
-use Rattle.agreement.specs.Laws.Cheap.{expr_vars}
+use Rattle.agreement.proofs.Laws.Cheap.{expr_vars}
 use Rattle.prices.specs.Costs.{within, InnerIn, InsideIn, costing, CostsPlain, CostsInner, CostsInside, Walking}
 use Rattle.prices.specs.declared.costs.Inside.{Inside}
 

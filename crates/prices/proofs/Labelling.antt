@@ -11,10 +11,10 @@ use Rattle.value.specs.Maybe.{Maybe, is, nothing, both}
 use Rattle.value.specs.Lists.{at}
 use Rattle.value.specs.Lists as L
 use Rattle.value.specs.declared.Value.TheVariants.{Whole, Location, Truth}
-use Rattle.value.specs.Laws.Bytes.{bytes_at}
-use Rattle.value.specs.Laws.Lists.{Each}
-use Rattle.value.specs.Laws.Maybes.{is_inj, missing}
-use Rattle.value.specs.Laws.Tests.{both_passed}
+use Rattle.value.proofs.Laws.Bytes.{bytes_at}
+use Rattle.value.proofs.Laws.Lists.{Each}
+use Rattle.value.proofs.Laws.Maybes.{is_inj, missing}
+use Rattle.value.proofs.Laws.Tests.{both_passed}
 use Rattle.format.specs.Syntax.{Expr, constant, local, one, two}
 use Rattle.format.specs.Syntax.{Instr, assign, write, read, while, if, call, atomic, select, Block, end, step, ◌⊕◌, Proc, Program, Plain, concurrent}
 use Rattle.format.specs.Encode.{expr, instr, block, table}
@@ -22,15 +22,15 @@ use Rattle.format.specs.Labels.{count, counts, label, labels, labelled}
 use Rattle.format.specs.Rules.{Verdict, refused, accepted, verdict, max_locals, in_expr, takes, named, named_i, allowed}
 use Rattle.format.specs.Calls.{read_as, read_call}
 use Rattle.format.specs.declared.ReadAnswer.{ReadAnswer}
-use Rattle.format.specs.Laws.Names.{InRange, names?}
-use Rattle.format.specs.Laws.Sound.{Sound}
-use Rattle.format.specs.Laws.Formed.{Formed}
-use Rattle.format.specs.Laws.Accepted.{accepted_exactly, sound_formed}
-use Rattle.format.specs.Laws.Refusals.{refused_within}
-use Rattle.format.specs.Laws.Procs.{body_in, ProcSound, proc_sound}
-use Rattle.format.specs.Laws.Labelled.{named_label, allowed_label}
-use Rattle.format.specs.Laws.Variables.{variables_most}
-use Rattle.format.specs.Laws.Grammar.{BlockAt, block_inside}
+use Rattle.format.proofs.Laws.Names.{InRange, names?}
+use Rattle.format.proofs.Laws.Sound.{Sound}
+use Rattle.format.proofs.Laws.Formed.{Formed}
+use Rattle.format.proofs.Laws.Accepted.{accepted_exactly, sound_formed}
+use Rattle.format.proofs.Laws.Refusals.{refused_within}
+use Rattle.format.proofs.Laws.Procs.{body_in, ProcSound, proc_sound}
+use Rattle.format.proofs.Laws.Labelled.{named_label, allowed_label}
+use Rattle.format.proofs.Laws.Variables.{variables_most}
+use Rattle.format.proofs.Laws.Grammar.{BlockAt, block_inside}
 use Rattle.format.specs.Decode.{max_nesting}
 use Rattle.labels.specs.LabelMap.{Node, node_of, nodes, held, all_nodes}
 use Rattle.labels.specs.Walks.{BodiesIn, MapsLabels}

@@ -5,14 +5,14 @@ use mathlib.Core.Path.{◌≡◌, refl, sym, ap, ◌∙◌}
 use mathlib.Core.List.{List}
 use mathlib.Core.Bool.{true}
 use lib.ListN.{length, get_or}
-use Rattle.value.specs.Laws.Tests.{both_passed, never}
+use Rattle.value.proofs.Laws.Tests.{both_passed, never}
 use Rattle.format.specs.Syntax.{Instr, assign, write, read, while, if, call, atomic, select, Block, concurrent}
 use Rattle.format.specs.Decode.{max_depth, max_nesting}
 use Rattle.format.specs.Rules.{allowed, allowed_i, max_locals}
-use Rattle.format.specs.Laws.Procs.{body_in}
-use Rattle.format.specs.Laws.Stands.{first}
-use Rattle.format.specs.Laws.Grammar.{InstrAt, BlockAt, IfAt, WhileAt, CallAt, AtomicAt, StepAt}
-use Rattle.format.specs.Laws.Grammar.{if_here, while_here, call_here, atomic_here, end_here, step_here}
+use Rattle.format.proofs.Laws.Procs.{body_in}
+use Rattle.format.proofs.Laws.Stands.{first}
+use Rattle.format.proofs.Laws.Grammar.{InstrAt, BlockAt, IfAt, WhileAt, CallAt, AtomicAt, StepAt}
+use Rattle.format.proofs.Laws.Grammar.{if_here, while_here, call_here, atomic_here, end_here, step_here}
 use Rattle.labels.specs.Walks.{Gathers, GathersEach, CountsSet}
 use Rattle.labels.specs.declared.variables.Gathered.{Gathered}
 use Rattle.agreement.specs.Prices.{Prices, inside, inside_i, step_prices}

@@ -5,9 +5,9 @@ use Rattle.format.specs.Encode.{table}
 use Rattle.format.specs.Labels.{counts}
 use Rattle.format.specs.Decode.{max_nesting}
 use Rattle.format.specs.Rules.{Here, allowed, allowed_i, verdict, accepted, limits, max_labels, max_locals}
-use Rattle.format.specs.Laws.Sound.{Sound}
-use Rattle.format.specs.Laws.Procs.{body_in}
-use Rattle.format.specs.Laws.Grammar.{InstrAt, BlockAt}
+use Rattle.format.proofs.Laws.Sound.{Sound}
+use Rattle.format.proofs.Laws.Procs.{body_in}
+use Rattle.format.proofs.Laws.Grammar.{InstrAt, BlockAt}
 use Rattle.agreement.specs.Prices.{Prices, only, inside, inside_i, step_prices}
 use Rattle.prices.specs.declared.costs.Cost.{Cost}
 use Rattle.prices.specs.declared.costs.Inside.{Inside}

@@ -10,16 +10,16 @@ use lib.ListN.{length, get_or, set, drop}
 use lib.Seq.{sets, sets-eq}
 use borrow.Author.Tests.{lt-ltb, le-ltb, lt-leb, le-leb}
 use Rattle.value.specs.Lists.{over}
-use Rattle.value.specs.Laws.Bytes.{Bytes, bytes_at}
+use Rattle.value.proofs.Laws.Bytes.{Bytes, bytes_at}
 use Rattle.format.specs.Syntax.{Program, Plain, sequential}
 use Rattle.format.specs.Encode.{table}
 use Rattle.format.specs.Rules.{Verdict, refused, accepted, verdict}
 use Rattle.format.specs.Calls.{read_as, read_call}
 use Rattle.format.specs.declared.ReadAnswer.{ReadAnswer}
-use Rattle.format.specs.Laws.Sound.{Sound}
-use Rattle.format.specs.Laws.Accepted.{accepted_exactly}
-use Rattle.format.specs.Laws.Refusals.{refused_within}
-use Rattle.format.specs.Laws.TablePlaces.{trailer_at, length_table}
+use Rattle.format.proofs.Laws.Sound.{Sound}
+use Rattle.format.proofs.Laws.Accepted.{accepted_exactly}
+use Rattle.format.proofs.Laws.Refusals.{refused_within}
+use Rattle.format.proofs.Laws.TablePlaces.{trailer_at, length_table}
 use Rattle.translation.specs.Calls.{Written, refusal, written, writes}
 use Rattle.translation.specs.declared.WriteAnswer.{WriteAnswer}
 use Rattle.ctext.specs.Text.{text}

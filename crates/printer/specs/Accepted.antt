@@ -4,7 +4,7 @@ use Rattle.format.specs.Syntax.{Program, Plain, sequential}
 use Rattle.format.specs.Encode.{table}
 use Rattle.format.specs.Rules.{accepted, verdict}
 use Rattle.format.specs.declared.ReadAnswer.{ReadAnswer}
-use Rattle.format.specs.Laws.Sound.{Sound}
+use Rattle.format.proofs.Laws.Sound.{Sound}
 
 -- t is an accepted table, and a its reader's answer
 pub record Accepts (t : List ℕ) (a : ReadAnswer) : Type 0 where

@@ -31,7 +31,7 @@ use Rattle.quick.specs.Quick.{Row, none, more, Tested, Testing}
 use Rattle.quick.specs.Quick.{Choice, SaysChoice, Another, SaysAnother, Chooses}
 use Rattle.quick.proofs.Operating.{true_held, false_held, operates_equal, operates_mark}
 use Rattle.quick.proofs.Turning.{sure_known}
-use Rattle.value.specs.Laws.Tests.{never}
+use Rattle.value.proofs.Laws.Tests.{never}
 use Rattle.quick.specs.Brief.{Operates}
 use Rattle.quick.proofs.Wording as W
 

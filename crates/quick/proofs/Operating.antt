@@ -14,9 +14,9 @@ use Rattle.value.specs.Maybe.{is, pick}
 use Rattle.value.specs.Try.{Try, has, ◌⟫◌}
 use Rattle.value.specs.Values.{add, sub, mul, less, equal, and, whole, same_z, word, unword}
 use Rattle.value.specs.Marks.{Mark, whole_mark, location_mark, no_mark, yes_mark, local_mark, one_mark, two_mark, no_expr, mark_of}
-use Rattle.value.specs.Laws.Tests.{by_test}
-use Rattle.value.specs.Laws.Tries.{lacking}
-use Rattle.value.specs.Laws.Bytes.{word_unword}
+use Rattle.value.proofs.Laws.Tests.{by_test}
+use Rattle.value.proofs.Laws.Tries.{lacking}
+use Rattle.value.proofs.Laws.Bytes.{word_unword}
 use Rattle.value.specs.declared.Value.{Value}
 use Rattle.value.specs.declared.Value.TheVariants.{Whole, Truth}
 use Rattle.basics.specs.Columns.{applied₂}

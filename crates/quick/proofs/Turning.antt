@@ -11,14 +11,14 @@ use Rattle.value.specs.Maybe.{Maybe, is, nothing}
 use Rattle.value.specs.Try.{has, ◌⟫◌, or_lacks}
 use Rattle.value.specs.Lists.{sum}
 use Rattle.value.specs.Values.{given, number, place}
-use Rattle.value.specs.Laws.Tries.{has_inj, lacking}
+use Rattle.value.proofs.Laws.Tries.{has_inj, lacking}
 use Rattle.value.specs.declared.Value.{Value}
 use Rattle.value.specs.declared.Value.TheVariants.{Whole, Location, Truth}
 use Rattle.value.specs.declared.Answer.TheVariants as A
 use Rattle.value.specs.declared.Reason.{Reason}
 use Rattle.value.specs.declared.Reason.TheVariants.{WrongKind}
 use Rattle.format.specs.Decode.{max_depth}
-use Rattle.semantics.specs.Laws.Cells.{shape}
+use Rattle.semantics.proofs.Laws.Cells.{shape}
 use Rattle.engine.specs.Words.{held, value_in}
 use Rattle.engine.specs.Work.{cell_words, most_locations, Placed}
 use Rattle.engine.specs.Evaluated.{valued, Evaluates}

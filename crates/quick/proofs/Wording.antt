@@ -15,8 +15,8 @@ use Rattle.value.specs.Maybe.{Maybe, is, nothing}
 use Rattle.value.specs.Try.{has, or_lacks}
 use Rattle.value.specs.Values.{One, not, neg, Two, add, sub, mul, less, equal, and, given, unword}
 use Rattle.value.specs.Marks.{mark₁, mark₂}
-use Rattle.value.specs.Laws.Bytes.{word_unword}
-use Rattle.value.specs.Laws.Maybes.{missing}
+use Rattle.value.proofs.Laws.Bytes.{word_unword}
+use Rattle.value.proofs.Laws.Maybes.{missing}
 use Rattle.value.specs.declared.Value.{Value}
 use Rattle.value.specs.declared.Value.TheVariants.{Whole, Location, Truth}
 use Rattle.value.specs.declared.Answer.TheVariants as A
@@ -24,8 +24,8 @@ use Rattle.value.specs.declared.Reason.TheVariants.{WrongKind}
 use Rattle.basics.specs.Places.{number_at}
 use Rattle.basics.specs.Columns.{operands_of}
 use Rattle.format.specs.Syntax.{Expr, constant, local, one, two}
-use Rattle.format.specs.Laws.Stands.{first}
-use Rattle.format.specs.Laws.Grammar.{ExprAt}
+use Rattle.format.proofs.Laws.Stands.{first}
+use Rattle.format.proofs.Laws.Grammar.{ExprAt}
 use Rattle.engine.specs.Words.{held, value_in}
 use Rattle.engine.specs.Evaluated.{operated₂, Ready, valued, Evaluates}
 use Rattle.engine.specs.Laws.Words.{held_word}

@@ -9,13 +9,13 @@ use mir.Syntax.{w8}
 use mir.Val.{Fits}
 use lib.Dec.{leb}
 use borrow.Author.Tests.{le-leb, lt-leb}
-use Rattle.value.specs.Laws.Bytes.{Bytes, bytes_at}
+use Rattle.value.proofs.Laws.Bytes.{Bytes, bytes_at}
 use Rattle.format.specs.Syntax.{Program, Plain, Kind, concurrent, sequential}
 use Rattle.format.specs.Rules.{all_named, few_labels, no_cycle, set_first, accepted, limits, max_labels}
 use Rattle.format.specs.Calls.{labels_of, read_as}
 use Rattle.shape.specs.Shapes.{ShapedAs, HasShape, FormFor, FormIs, LabelsAre, refusal, acceptance, Answers}
-use Rattle.format.specs.Laws.Passes.{at_most}
-use Rattle.format.specs.Laws.TablePlaces.{trailer_at}
+use Rattle.format.proofs.Laws.Passes.{at_most}
+use Rattle.format.proofs.Laws.TablePlaces.{trailer_at}
 use Rattle.scan.specs.Laws.Laid.{Laid, Named, Room, Judges}
 use Rattle.scan.specs.Laws.NameScans.{Counted}
 use Rattle.scan.specs.Laws.LabelScans.{CountsLabels}

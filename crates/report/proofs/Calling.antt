@@ -7,12 +7,12 @@ use lib.ListN.{length, get_or, replicate, length-replicate, length-map}
 use Rattle.value.specs.Maybe.{is}
 use Rattle.value.specs.Lists.{at, sum, over}
 use Rattle.value.specs.Values.{cell_size}
-use Rattle.value.specs.Laws.Lists.{at_below, at_get_d}
+use Rattle.value.proofs.Laws.Lists.{at_below, at_get_d}
 use Rattle.basics.specs.Places.{number_at}
 use Rattle.format.specs.Syntax.{Program, Plain}
 use Rattle.format.specs.Encode.{record_size, trailer_size}
-use Rattle.format.specs.Laws.Procs.{main_at}
-use Rattle.format.specs.Laws.TablePlaces.{records_at}
+use Rattle.format.proofs.Laws.Procs.{main_at}
+use Rattle.format.proofs.Laws.TablePlaces.{records_at}
 use Rattle.semantics.specs.Memory.{Memory}
 use Rattle.semantics.specs.Threads as P
 use Rattle.semantics.specs.Buffers.{cells}

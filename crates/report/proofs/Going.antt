@@ -15,8 +15,8 @@ use Rattle.semantics.specs.Memory.{Event}
 use Rattle.semantics.specs.Threads.{End, finished, used, blocked}
 use Rattle.semantics.specs.Threads as P
 use Rattle.semantics.specs.Calls.{end_number, reason_of, concurrent_run}
-use Rattle.semantics.specs.Laws.Cells.{shape_fresh}
-use Rattle.semantics.specs.Laws.Ends.{finished_run, used_run, blocked_run, step_run}
+use Rattle.semantics.proofs.Laws.Cells.{shape_fresh}
+use Rattle.semantics.proofs.Laws.Ends.{finished_run, used_run, blocked_run, step_run}
 use Rattle.engine.specs.Laws.Logging.{logged_none, logged_long}
 use Rattle.atomic.specs.Threaded.{most_threads}
 use Rattle.concurrent.specs.Concurrent.{AllDone}

@@ -9,12 +9,12 @@ use lib.Dec.{eqb, ltb}
 use borrow.Author.Tests.{eqb-true, eqb-false, ltb-true, ltb-false}
 use Rattle.value.specs.Maybe.{is}
 use Rattle.value.specs.Lists.{at}
-use Rattle.value.specs.Laws.Maybes.{is_inj, missing}
-use Rattle.value.specs.Laws.Tests.{by_test}
-use Rattle.value.specs.Laws.Lists.{at_set_same, at_set_other, at_below}
+use Rattle.value.proofs.Laws.Maybes.{is_inj, missing}
+use Rattle.value.proofs.Laws.Tests.{by_test}
+use Rattle.value.proofs.Laws.Lists.{at_set_same, at_set_other, at_below}
 use Rattle.format.specs.Syntax.{Instr, Block, end, step, ◌⊕◌}
 use Rattle.format.specs.Decode.{max_nesting}
-use Rattle.format.specs.Laws.Grammar.{InstrAt, BlockAt, StepAt, end_here, step_here, block_inside, block_deep}
+use Rattle.format.proofs.Laws.Grammar.{InstrAt, BlockAt, StepAt, end_here, step_here, block_inside, block_deep}
 use Rattle.semantics.specs.Step.{Frame, Stack}
 use Rattle.engine.specs.Work.{Beside}
 use Rattle.engine.specs.Laws.Work.{beside_same, beside_set}

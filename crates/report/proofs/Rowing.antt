@@ -9,11 +9,11 @@ use lib.Seq.{get_or-set_same, get_or-set_other}
 use lib.Dec.{eqb}
 use borrow.Author.Tests.{eqb-true, eqb-false}
 use Rattle.value.specs.Maybe.{pick}
-use Rattle.value.specs.Laws.Tests.{by_test, never}
+use Rattle.value.proofs.Laws.Tests.{by_test, never}
 use Rattle.format.specs.Syntax.{Block}
 use Rattle.format.specs.Labels.{tag}
 use Rattle.format.specs.Decode.{max_nesting}
-use Rattle.format.specs.Laws.Grammar.{BlockAt}
+use Rattle.format.proofs.Laws.Grammar.{BlockAt}
 use Rattle.labels.specs.Walks.{BlockIn, CountsBlock}
 use Rattle.labels.specs.declared.count.Counted.{Counted}
 use Rattle.atomic.specs.Laws.Standing.{tag_at}

@@ -14,7 +14,7 @@ use Rattle.basics.specs.Places.{number_at}
 use Rattle.format.specs.Syntax.{Block}
 use Rattle.format.specs.Encode.{instr, record_size}
 use Rattle.format.specs.Decode.{max_nesting}
-use Rattle.format.specs.Laws.Grammar.{BlockAt, block_deep}
+use Rattle.format.proofs.Laws.Grammar.{BlockAt, block_deep}
 use Rattle.labels.specs.Walks.{BlockIn}
 use Rattle.engine.specs.Work.{frame_words, Clears, Puts}
 use Rattle.engine.specs.Events.{with_event, event_of}

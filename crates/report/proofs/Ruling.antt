@@ -11,21 +11,21 @@ use Rattle.value.specs.Try.{has, lacks}
 use Rattle.value.specs.declared.Reason.{Reason}
 use Rattle.value.specs.declared.Reason.TheVariants.{FinishedThread}
 use Rattle.value.specs.Lists.{at}
-use Rattle.value.specs.Laws.Maybes.{is_inj}
-use Rattle.value.specs.Laws.Lists.{at_below, at_get_d}
+use Rattle.value.proofs.Laws.Maybes.{is_inj}
+use Rattle.value.proofs.Laws.Lists.{at_below, at_get_d}
 use Rattle.basics.specs.Places.{number_at}
 use Rattle.format.specs.Syntax.{Instr, while, if, Block, end, step, ◌⊕◌, Proc, Program, Plain}
 use Rattle.format.specs.Encode.{instr, record_size}
 use Rattle.format.specs.Decode.{max_nesting}
 use Rattle.format.specs.Labels.{labelled, first, ends_of, body_of, begins}
-use Rattle.format.specs.Laws.Grammar.{InstrAt, BlockAt, block_inside, block_deep}
+use Rattle.format.proofs.Laws.Grammar.{InstrAt, BlockAt, block_inside, block_deep}
 use Rattle.labels.specs.Laws.Spots.{Remains, remains_body, remains_after, join_end}
 use Rattle.semantics.specs.Memory.{Event}
 use Rattle.semantics.specs.Step.{Frame, Stack, Moved, entered}
 use Rattle.semantics.specs.Threads as P
 use Rattle.semantics.specs.Threads.{Atomic}
 use Rattle.semantics.specs.Calls.{unlabelled}
-use Rattle.semantics.specs.Laws.Shapes.{thread_shape}
+use Rattle.semantics.proofs.Laws.Shapes.{thread_shape}
 use Rattle.engine.specs.Work.{Beside, Framed, frame_words}
 use Rattle.engine.specs.Events.{Logged}
 use Rattle.engine.specs.Laws.Work.{beside_same, beside_set}

@@ -8,7 +8,7 @@ use lib.ListN.{length, get_or}
 use Rattle.value.specs.Maybe.{is}
 use Rattle.value.specs.Lists.{at}
 use Rattle.value.specs.Values.{bytes}
-use Rattle.value.specs.Laws.Lists.{In, each_at}
+use Rattle.value.proofs.Laws.Lists.{In, each_at}
 use Rattle.basics.specs.Places.{number_at}
 use Rattle.basics.specs.Laws.Places.{number_at_lem}
 use Rattle.format.specs.Syntax.{Expr, Instr, assign, write, read, while, if, call, atomic, select, Block, end, step, Proc, Program, Plain, concurrent}
@@ -16,15 +16,15 @@ use Rattle.format.specs.Encode.{expr, block, table, record_size, bodies_of}
 use Rattle.format.specs.Decode.{max_nesting}
 use Rattle.format.specs.Labels.{labelled, first, ends_of}
 use Rattle.format.specs.Rules.{allowed_i, named_i, callees_i, callees_of}
-use Rattle.format.specs.Laws.Accepted.{bodies_fit}
-use Rattle.format.specs.Laws.Fits.{BlockFits}
-use Rattle.format.specs.Laws.Grammar.{InstrAt, BlockAt, WhileAt, while_here}
-use Rattle.format.specs.Laws.Labelled.{block_label}
-use Rattle.format.specs.Laws.Procs.{body_in, body_at_lem}
-use Rattle.format.specs.Laws.Sound.{Sound}
-use Rattle.format.specs.Laws.Stands.{Stands}
-use Rattle.format.specs.Laws.Stands as S
-use Rattle.format.specs.Laws.TablePlaces as T
+use Rattle.format.proofs.Laws.Accepted.{bodies_fit}
+use Rattle.format.proofs.Laws.Fits.{BlockFits}
+use Rattle.format.proofs.Laws.Grammar.{InstrAt, BlockAt, WhileAt, while_here}
+use Rattle.format.proofs.Laws.Labelled.{block_label}
+use Rattle.format.proofs.Laws.Procs.{body_in, body_at_lem}
+use Rattle.format.proofs.Laws.Sound.{Sound}
+use Rattle.format.proofs.Laws.Stands.{Stands}
+use Rattle.format.proofs.Laws.Stands as S
+use Rattle.format.proofs.Laws.TablePlaces as T
 use Rattle.labels.specs.LabelMap.{Node}
 use Rattle.labels.specs.Laws.LabelMap.{remains_node}
 use Rattle.labels.specs.Laws.Spots.{Remains}

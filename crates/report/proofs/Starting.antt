@@ -9,16 +9,16 @@ use lib.Dec.{eqb}
 use borrow.Author.Tests.{eqb-true, eqb-false}
 use Rattle.value.specs.Maybe.{is, nothing}
 use Rattle.value.specs.Lists.{at, upto}
-use Rattle.value.specs.Laws.Maybes.{is_inj}
-use Rattle.value.specs.Laws.Tests.{by_test}
-use Rattle.value.specs.Laws.Lists.{at_below, at_get_d}
+use Rattle.value.proofs.Laws.Maybes.{is_inj}
+use Rattle.value.proofs.Laws.Tests.{by_test}
+use Rattle.value.proofs.Laws.Lists.{at_below, at_get_d}
 use Rattle.basics.specs.Places.{number_at}
 use Rattle.format.specs.Syntax.{Proc, Program, Plain, concurrent}
 use Rattle.format.specs.Encode.{table, record_size}
 use Rattle.format.specs.Labels.{labelled, first, ends_of, body_of}
-use Rattle.format.specs.Laws.Procs.{main_at}
-use Rattle.format.specs.Laws.Sound.{Sound}
-use Rattle.format.specs.Laws.TablePlaces.{records_at}
+use Rattle.format.proofs.Laws.Procs.{main_at}
+use Rattle.format.proofs.Laws.Sound.{Sound}
+use Rattle.format.proofs.Laws.TablePlaces.{records_at}
 use Rattle.labels.specs.Laws.Spots.{remains_body, join_end}
 use Rattle.semantics.specs.Step.{entered}
 use Rattle.semantics.specs.Threads as P

@@ -11,7 +11,7 @@ use Rattle.value.specs.Maybe.{is}
 use Rattle.value.specs.Try.{Try, has, lacks}
 use Rattle.value.specs.declared.Reason.{Reason}
 use Rattle.value.specs.declared.Value.{Value}
-use Rattle.value.specs.Laws.Tries.{has_inj, lacking}
+use Rattle.value.proofs.Laws.Tries.{has_inj, lacking}
 use Rattle.format.specs.Syntax.{Instr}
 use Rattle.format.specs.Encode.{instr}
 use Rattle.format.specs.Labels.{labelled}

@@ -11,15 +11,15 @@ use Rattle.value.specs.Try.{Try, has, lacks, ◌⟫◌}
 use Rattle.value.specs.declared.Reason.{Reason}
 use Rattle.value.specs.Lists.{at}
 use Rattle.value.specs.Values.{number, place, truth}
-use Rattle.value.specs.Laws.Maybes.{is_inj, missing}
-use Rattle.value.specs.Laws.Tries.{has_inj, chain_has}
+use Rattle.value.proofs.Laws.Maybes.{is_inj, missing}
+use Rattle.value.proofs.Laws.Tries.{has_inj, chain_has}
 use Rattle.format.specs.Syntax.{local, Instr, assign, write, read, while, if, call, atomic, select, Block, step, Proc, Program, Plain, concurrent}
 use Rattle.format.specs.Encode.{instr}
 use Rattle.format.specs.Labels.{labelled}
 use Rattle.format.specs.Rules.{allowed, allowed_i, named, named_i, max_locals}
 use Rattle.format.specs.Decode.{max_nesting}
-use Rattle.format.specs.Laws.Grammar.{InstrAt, BlockAt, AtomicAt, atomic_here, block_inside, instr_inside}
-use Rattle.format.specs.Laws.Procs.{body_in}
+use Rattle.format.proofs.Laws.Grammar.{InstrAt, BlockAt, AtomicAt, atomic_here, block_inside, instr_inside}
+use Rattle.format.proofs.Laws.Procs.{body_in}
 use Rattle.decide.specs.declared.step.Step.{Step}
 use Rattle.decide.specs.declared.step.Step.TheVariants as S
 use Rattle.atomic.specs.declared.block.Done.{Done}

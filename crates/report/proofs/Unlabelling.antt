@@ -5,7 +5,7 @@ use mathlib.Core.List.{map, map_append}
 use mathlib.Core.Bool.{true, false}
 use Rattle.value.specs.Try.{Try, has, lacks, ◌⟫◌}
 use Rattle.value.specs.Values.{number, place, truth}
-use Rattle.value.specs.Laws.Tries.{chain_same}
+use Rattle.value.proofs.Laws.Tries.{chain_same}
 use Rattle.format.specs.Syntax.{local, Instr, assign, write, read, while, if, call, atomic, select, Block, end, step}
 use Rattle.semantics.specs.Memory.{eval, index, cell}
 use Rattle.semantics.specs.Threads.{Atomic}

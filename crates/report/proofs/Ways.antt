@@ -13,7 +13,7 @@ use Rattle.format.specs.Syntax.{Expr, Instr, while, if, Block, end, step, ◌⊕
 use Rattle.format.specs.Encode.{record_size}
 use Rattle.format.specs.Decode.{max_nesting}
 use Rattle.format.specs.Labels.{labelled}
-use Rattle.format.specs.Laws.Grammar.{BlockAt, block_deep}
+use Rattle.format.proofs.Laws.Grammar.{BlockAt, block_deep}
 use Rattle.labels.specs.Laws.Spots.{Remains, remains_after, join_end}
 use Rattle.semantics.specs.Calls.{unlabelled}
 use Rattle.engine.specs.Work.{Beside, frame_words}

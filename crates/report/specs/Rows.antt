@@ -8,7 +8,7 @@ use Rattle.format.specs.Syntax.{Block, end, ◌⊕◌, concurrent}
 use Rattle.format.specs.Encode.{record_size}
 use Rattle.format.specs.Decode.{max_nesting}
 use Rattle.format.specs.Rules.{limits}
-use Rattle.format.specs.Laws.Grammar.{BlockAt}
+use Rattle.format.proofs.Laws.Grammar.{BlockAt}
 use Rattle.labels.specs.Walks.{BlockIn}
 use Rattle.semantics.specs.Step.{Frame, Stack}
 

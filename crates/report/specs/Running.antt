@@ -11,7 +11,7 @@ use Rattle.semantics.specs.Memory.{fresh, Event}
 use Rattle.semantics.specs.Threads.{End}
 use Rattle.semantics.specs.Threads as P
 use Rattle.semantics.specs.Calls.{end_number, reason_of, Outcome, concurrent_run, unlabelled, plain_outcome}
-use Rattle.semantics.specs.Laws.Cells.{shape}
+use Rattle.semantics.proofs.Laws.Cells.{shape}
 use Rattle.engine.specs.Work.{thread_words, Holds}
 use Rattle.engine.specs.Events.{Logged}
 use Rattle.atomic.specs.Threaded.{Threaded}

@@ -6,12 +6,12 @@ use Rattle.basics.specs.Sizes.{thread_frames, most_threads, all_frames}
 use Rattle.format.specs.Syntax.{Program, Plain, concurrent}
 use Rattle.format.specs.Encode.{table}
 use Rattle.format.specs.Labels.{labelled}
-use Rattle.format.specs.Laws.Sound.{Sound}
-use Rattle.format.specs.Laws.TablePlaces.{records_at}
+use Rattle.format.proofs.Laws.Sound.{Sound}
+use Rattle.format.proofs.Laws.TablePlaces.{records_at}
 use Rattle.semantics.specs.Memory.{Event}
 use Rattle.semantics.specs.Threads as P
 use Rattle.semantics.specs.Calls.{unlabelled}
-use Rattle.semantics.specs.Laws.Cells.{shape}
+use Rattle.semantics.proofs.Laws.Cells.{shape}
 use Rattle.engine.specs.Work.{thread_words, Holds, Bases}
 use Rattle.engine.specs.Events.{Logged}
 use Rattle.atomic.specs.Threaded.{most_frames, Threaded}

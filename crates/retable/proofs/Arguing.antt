@@ -11,10 +11,10 @@ use Rattle.basics.specs.Sizes.{too_long}
 use Rattle.format.specs.Syntax.{Expr, Instr, Plain, assign, read, write, call, select}
 use Rattle.format.specs.Encode.{expr, each, instr}
 use Rattle.format.specs.Decode.{max_depth}
-use Rattle.ctext.specs.Laws.ExprText.{ExprText, moved}
-use Rattle.ctext.specs.Laws.ArgText.{NumberText, ArgsText, MoreText, SomeIn, args_none, args_some, more_none, more_some}
-use Rattle.ctext.specs.Laws.LineText.{InstrText, TargetIn, AssignIn, ReadIn, WriteIn, CallIn, SelectIn}
-use Rattle.ctext.specs.Laws.BlockText.{assign_in, read_in}
+use Rattle.ctext.proofs.Laws.ExprText.{ExprText, moved}
+use Rattle.ctext.proofs.Laws.ArgText.{NumberText, ArgsText, MoreText, SomeIn, args_none, args_some, more_none, more_some}
+use Rattle.ctext.proofs.Laws.LineText.{InstrText, TargetIn, AssignIn, ReadIn, WriteIn, CallIn, SelectIn}
+use Rattle.ctext.proofs.Laws.BlockText.{assign_in, read_in}
 use Rattle.writer.specs.Laws.Put.{Put}
 use Rattle.writer.proofs.Puts.{put_then, put_cons, put_same, put_none}
 use Rattle.retable.specs.Laws.Pieces.{Skips, ReadsNumber}

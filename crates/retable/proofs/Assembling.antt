@@ -6,20 +6,20 @@ use mathlib.Core.List.{List, [], ◌∷◌, ◌++◌, append_assoc, append-nil}
 use lib.ListN.{length, take, drop, replicate, length-append, length-replicate}
 use lib.Seq.{sets, sets-eq, slice, slice_empty}
 use Rattle.value.specs.Values.{bytes}
-use Rattle.value.specs.Laws.Lists.{Each, each_so}
+use Rattle.value.proofs.Laws.Lists.{Each, each_so}
 use Rattle.format.specs.Syntax.{Proc, Program, Plain, sequential}
 use Rattle.format.specs.Encode.{block, each, Head, head, heads, bodies_of, middle, middle_of, front, trailer, trailer_of, distance, table, form_mark, kind_mark, record_size, trailer_size}
 use Rattle.format.specs.Rules.{limits}
-use Rattle.format.specs.Laws.Sound.{Sound}
-use Rattle.format.specs.Laws.Stands.{Stands, stands_at, in_take}
+use Rattle.format.proofs.Laws.Sound.{Sound}
+use Rattle.format.proofs.Laws.Stands.{Stands, stands_at, in_take}
 use Rattle.basics.specs.Sizes.{too_long}
 use Rattle.ctext.specs.Prelude.{prelude}
-use Rattle.ctext.specs.Worked.{prelude_long}
+use Rattle.ctext.proofs.Worked.{prelude_long}
 use Rattle.ctext.specs.Text.{text}
-use Rattle.ctext.specs.Laws.FrameText.{LocationsText}
-use Rattle.ctext.specs.Laws.DefinitionText.{DefinitionsText, DefinitionIn, definition_in}
-use Rattle.ctext.specs.Laws.LineText.{BlockText}
-use Rattle.ctext.specs.Laws.OneToOne.{ProgramText, program_text}
+use Rattle.ctext.proofs.Laws.FrameText.{LocationsText}
+use Rattle.ctext.proofs.Laws.DefinitionText.{DefinitionsText, DefinitionIn, definition_in}
+use Rattle.ctext.proofs.Laws.LineText.{BlockText}
+use Rattle.ctext.proofs.Laws.OneToOne.{ProgramText, program_text}
 use Rattle.writer.specs.Laws.Put.{Put}
 use Rattle.writer.proofs.Puts.{put_then, put_cons, put_same, put_none}
 use Rattle.retable.specs.Laws.Pieces.{Skips}

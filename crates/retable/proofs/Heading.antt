@@ -11,20 +11,20 @@ use lib.Dec.{eqb}
 use borrow.Author.Tests.{ne_eqb}
 use Rattle.value.specs.Maybe.{both}
 use Rattle.value.specs.Lists.{upto}
-use Rattle.value.specs.Laws.Lists.{Each}
-use Rattle.value.specs.Laws.Tests.{never}
+use Rattle.value.proofs.Laws.Lists.{Each}
+use Rattle.value.proofs.Laws.Tests.{never}
 use Rattle.format.specs.Syntax.{Proc, Plain, sequential}
 use Rattle.format.specs.Encode.{each}
 use Rattle.format.specs.Rules.{limits}
-use Rattle.format.specs.Laws.Stands.{Stands, first, others, front, back}
+use Rattle.format.proofs.Laws.Stands.{Stands, first, others, front, back}
 use Rattle.ctext.specs.Pieces.{say, decimal}
 use Rattle.ctext.specs.Text.{numbered, argument, unset, declaration}
-use Rattle.ctext.specs.Laws.Numbers.{Digit}
-use Rattle.ctext.specs.Laws.ExprText.{behind, shift}
-use Rattle.ctext.specs.Laws.ArgText.{NumberText, take_number}
-use Rattle.ctext.specs.Laws.FrameText.{ParamsText, MoreParams, params_more, params_none, params_some, more_params_none, more_params_some, more_next}
-use Rattle.ctext.specs.Laws.FrameText.{DeclarationsText, declaration_parts, head_parts}
-use Rattle.ctext.specs.Laws.DefinitionText.{UnsetsText, unsetting, unsets_end, unsets_next, unset_after, DefinitionIn}
+use Rattle.ctext.proofs.Laws.Numbers.{Digit}
+use Rattle.ctext.proofs.Laws.ExprText.{behind, shift}
+use Rattle.ctext.proofs.Laws.ArgText.{NumberText, take_number}
+use Rattle.ctext.proofs.Laws.FrameText.{ParamsText, MoreParams, params_more, params_none, params_some, more_params_none, more_params_some, more_next}
+use Rattle.ctext.proofs.Laws.FrameText.{DeclarationsText, declaration_parts, head_parts}
+use Rattle.ctext.proofs.Laws.DefinitionText.{UnsetsText, unsetting, unsets_end, unsets_next, unset_after, DefinitionIn}
 use Rattle.retable.specs.Laws.Pieces.{Skips, ReadsNumber}
 use Rattle.retable.specs.Laws.Frames.{SkipsTwo, Counts, CountsMore, CountsParams, CountsHead}
 use Rattle.retable.specs.Laws.Frames.{Declares, Few, SkipsDeclarations, SkipsArgs, CountsUnsets, Counting, CountsLocals}

@@ -7,7 +7,7 @@ use mathlib.Core.List.{List}
 use lib.ListN.{get_or}
 use lib.Dec.{eqb}
 use borrow.Author.Tests.{ne_eqb}
-use Rattle.ctext.specs.Laws.ExprText.{name_key, key_of, key_at, name_length}
+use Rattle.ctext.proofs.Laws.ExprText.{name_key, key_of, key_at, name_length}
 
 module _ (b c : ℕ) where
   -- z_num

@@ -9,7 +9,7 @@ use Rattle.value.specs.Marks.{Mark, whole_mark, location_mark, no_mark, yes_mark
 use Rattle.basics.specs.Columns.{row_of, operands_of}
 use Rattle.format.specs.Syntax.{Expr, one, two}
 use Rattle.format.specs.Encode.{expr}
-use Rattle.ctext.specs.Laws.ExprText.{key_at, name_length, ExprText, OneIn, TwoIn, moved, expr_deep, one_in, two_in, none_in}
+use Rattle.ctext.proofs.Laws.ExprText.{key_at, name_length, ExprText, OneIn, TwoIn, moved, expr_deep, one_in, two_in, none_in}
 use Rattle.writer.specs.Laws.Put.{Put}
 use Rattle.writer.proofs.Puts.{put_then, put_cons, put_same}
 use Rattle.retable.specs.Laws.Pieces.{Skips}

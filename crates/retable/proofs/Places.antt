@@ -7,11 +7,11 @@ use mathlib.Core.Bool.{true, false}
 use lib.ListN.{length, get_or, get_or-eq_default}
 use lib.Dec.{ltb}
 use borrow.Author.Tests.{ltb-true}
-use Rattle.value.specs.Laws.Tests.{by_test}
-use Rattle.value.specs.Laws.Lists.{Each, each_append}
-use Rattle.format.specs.Laws.Stands.{Stands, first, others, inside}
+use Rattle.value.proofs.Laws.Tests.{by_test}
+use Rattle.value.proofs.Laws.Lists.{Each, each_append}
+use Rattle.format.proofs.Laws.Stands.{Stands, first, others, inside}
 use Rattle.ctext.specs.Pieces.{digits, decimal}
-use Rattle.ctext.specs.Laws.Numbers.{Digit, value, value_digits, Stops}
+use Rattle.ctext.proofs.Laws.Numbers.{Digit, value, value_digits, Stops}
 use Rattle.retable.specs.Laws.Pieces.{ReadsNumber}
 use Rattle.retable.specs.declared.pieces.Numbered.{Numbered}
 

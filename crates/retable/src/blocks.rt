@@ -1,6 +1,6 @@
 // Instructions and blocks of a text, as the bytes of a table: the two parsers call each other, the allowed depth falling.
 ghost use Rattle.std.specs.Prelude.{◌+◌, ◌*◌, ◌≤◌, ◌≡◌};
-ghost use Rattle.ctext.specs.Laws.LineText.{ended};
+ghost use Rattle.ctext.proofs.Laws.LineText.{ended};
 ghost use Rattle.retable.specs.Laws.Blocks.{ParsesTest, ParsesIf, ParsesInstr, ParsesBlock};
 
 use super::exprs::{Parsed, parse_expr};

@@ -1,6 +1,6 @@
 // Expressions of a text, as the bytes of a table.
 ghost use Rattle.std.specs.Prelude.{◌≡◌};
-ghost use Rattle.ctext.specs.Laws.ExprText.{key_at, name_key, name_length};
+ghost use Rattle.ctext.proofs.Laws.ExprText.{key_at, name_key, name_length};
 ghost use Rattle.retable.specs.Laws.Exprs.{ParsesByte, ParsesTwo, ParsesWhole, ParsesLeaf, ParsesExpr};
 
 use super::pieces::{number, peek, skip};

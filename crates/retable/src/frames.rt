@@ -1,7 +1,7 @@
 // What stands around the bodies in a text: locations, areas, heads of procedures, and lines for their locals.
 ghost use Rattle.std.specs.Prelude.{◌≡◌};
 ghost use Rattle.std.proofs.Math.Bool as B;
-ghost use Rattle.ctext.specs.Laws.DefinitionText.{unsetting};
+ghost use Rattle.ctext.proofs.Laws.DefinitionText.{unsetting};
 ghost use Rattle.retable.specs.Laws.Frames.{SkipsTwo, ParsesLocation, ParsesSizes, SkipsAreas, CountsMore, CountsParams, CountsHead, SkipsDeclarations};
 ghost use Rattle.retable.specs.Laws.Frames.{SkipsArgs, CountsUnsets, CountsLocals};
 

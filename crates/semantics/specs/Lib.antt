@@ -12,7 +12,3 @@ pub mod Copy
 pub mod Buffers
 -- what each run call answers and leaves in the lent buffers
 pub mod Calls
--- runs worked by hand
-pub mod Worked
--- what these are worth
-pub mod Laws

@@ -9,9 +9,9 @@ use lib.Dec.{ltb}
 use borrow.Author.Tests.{ltb-true, ltb-false, le-leb, lt-leb}
 use Rattle.value.specs.Lists.{sum, over}
 use Rattle.value.specs.Values.{bytes, cell_size}
-use Rattle.value.specs.Laws.Tests.{by_test}
-use Rattle.value.specs.Laws.Lists.{Each, each_so}
-use Rattle.value.specs.Laws.Bytes.{Bytes}
+use Rattle.value.proofs.Laws.Tests.{by_test}
+use Rattle.value.proofs.Laws.Lists.{Each, each_so}
+use Rattle.value.proofs.Laws.Bytes.{Bytes}
 use Rattle.format.specs.Syntax.{Block, Proc, Program, Plain, sequential}
 use Rattle.format.specs.Encode.{each, block, bodies_of, head, heads, middle_of, middle, trailer, trailer_of, table, record_size, trailer_size}
 use Rattle.format.specs.Encode as E
@@ -19,13 +19,13 @@ use Rattle.format.specs.declared.ReadAnswer.{ReadAnswer}
 use Rattle.format.specs.Calls.{read_as, read_call}
 use Rattle.format.specs.Rules.{Verdict, refused, accepted, verdict}
 use Rattle.labels.specs.Walks.{BodiesAt, BodiesIn}
-use Rattle.format.specs.Laws.Accepted.{bodies_fit, accepted_exactly}
-use Rattle.format.specs.Laws.Heads.{length_heads}
-use Rattle.format.specs.Laws.Refusals.{refused_within}
-use Rattle.format.specs.Laws.Sections.{length_each}
-use Rattle.format.specs.Laws.Sound.{Within, Sound}
-use Rattle.format.specs.Laws.Stands.{Stands, whole, front, back}
-use Rattle.format.specs.Laws.TablePlaces.{records_at, all_bodies, trailer_at, length_table}
+use Rattle.format.proofs.Laws.Accepted.{bodies_fit, accepted_exactly}
+use Rattle.format.proofs.Laws.Heads.{length_heads}
+use Rattle.format.proofs.Laws.Refusals.{refused_within}
+use Rattle.format.proofs.Laws.Sections.{length_each}
+use Rattle.format.proofs.Laws.Sound.{Within, Sound}
+use Rattle.format.proofs.Laws.Stands.{Stands, whole, front, back}
+use Rattle.format.proofs.Laws.TablePlaces.{records_at, all_bodies, trailer_at, length_table}
 use Rattle.sequential.specs.declared.machine.Ran.{Ran}
 use Rattle.semantics.specs.Memory.{Memory, fresh}
 use Rattle.semantics.specs.Copy as C
@@ -36,7 +36,7 @@ use Rattle.semantics.specs.Calls.{run_as, sequential_run, sequential_outcome, se
 use Rattle.engine.specs.Work.{local_words, cell_words, flat, Bases, sizes_at, Starts, Writes}
 use Rattle.jumps.specs.Jumps.{positions, Jumps, FillsJumps}
 use Rattle.sequential.specs.Sequential.{Loaded, Starting, RanAs, Runs, Accepted, Outcomes}
-use Rattle.semantics.specs.Laws.Cells.{shape}
+use Rattle.semantics.proofs.Laws.Cells.{shape}
 use Rattle.basics.specs.Sizes.{stack_frames}
 use Rattle.engine.specs.Laws.Holding.{length_flat, holds_fresh}
 use Rattle.engine.specs.Laws.Starting.{sizes_stand}

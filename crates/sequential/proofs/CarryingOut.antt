@@ -14,11 +14,11 @@ use Rattle.value.specs.declared.Reason.{Reason}
 use Rattle.basics.specs.Places.{number_at}
 use Rattle.value.specs.declared.Value.{Value}
 use Rattle.value.specs.declared.Value.TheVariants.{Whole}
-use Rattle.value.specs.Laws.Lists.{each_at}
+use Rattle.value.proofs.Laws.Lists.{each_at}
 use Rattle.format.specs.Syntax.{while, Block, step, ◌⊕◌, Proc, Plain}
-use Rattle.format.specs.Laws.Sound.{LocalsRight}
-use Rattle.format.specs.Laws.Calls.{Calls}
-use Rattle.format.specs.Laws.Procs.{takes_at}
+use Rattle.format.proofs.Laws.Sound.{LocalsRight}
+use Rattle.format.proofs.Laws.Calls.{Calls}
+use Rattle.format.proofs.Laws.Procs.{takes_at}
 use Rattle.format.specs.Encode.{record_size}
 use Rattle.decide.specs.declared.step.Step.{Step}
 use Rattle.decide.specs.declared.step.Step.TheVariants.{Return, Assign, Read, Write, Test, Call, Select, Blocked}
@@ -33,7 +33,7 @@ use Rattle.sequential.specs.Frames.{word_of, place_in, procedure_in, FrameAt, St
 use Rattle.sequential.specs.Sequential.{Due, event_in, Recorded, Enters, moved_to, selected_to, Moves, CarriesOut}
 use Rattle.engine.specs.Laws.Work.{beside_put, framed_below, framed_entered}
 use Rattle.engine.specs.Laws.Holding.{holds_put}
-use Rattle.semantics.specs.Laws.Cells.{shape_stored}
+use Rattle.semantics.proofs.Laws.Cells.{shape_stored}
 use Rattle.engine.specs.Laws.Logging.{logged_more}
 use Rattle.decide.specs.Laws.Deciding.{evals_length}
 use Rattle.sequential.proofs.Standing.{code_named, HeadAt, head_at_lem, settled_body}

@@ -10,19 +10,19 @@ use borrow.Author.Tests.{ltb-true, ltb-false}
 use Rattle.value.specs.Maybe.{is}
 use Rattle.value.specs.Try.{Try, has, lacks, ◌⟫◌}
 use Rattle.value.specs.declared.Value.{Value}
-use Rattle.value.specs.Laws.Maybes.{is_inj, missing}
-use Rattle.value.specs.Laws.Tries.{lacking}
+use Rattle.value.proofs.Laws.Maybes.{is_inj, missing}
+use Rattle.value.proofs.Laws.Tries.{lacking}
 use Rattle.value.specs.declared.Reason.{Reason}
 use Rattle.value.specs.declared.Reason.TheVariants.{IndexOutside}
 use lib.IntN.{ℤ, pos, negsuc}
-use Rattle.value.specs.Laws.Tests.{by_test}
-use Rattle.value.specs.Laws.Lists.{Each, each_at, at_below}
+use Rattle.value.proofs.Laws.Tests.{by_test}
+use Rattle.value.proofs.Laws.Lists.{Each, each_at, at_below}
 use Rattle.format.specs.Syntax.{Expr, local, Instr, assign, write, read, while, if, call, atomic}
 use Rattle.format.specs.Syntax.{select, Block, end, step, ◌⊕◌, Proc, Program, Plain, sequential}
 use Rattle.format.specs.Encode.{expr, instr}
 use Rattle.labels.specs.Spots.{CodeAt, inner, later, body, thens}
-use Rattle.format.specs.Laws.Sound.{Within, LocalsRight, Sound}
-use Rattle.format.specs.Laws.Procs.{takes_at}
+use Rattle.format.proofs.Laws.Sound.{Within, LocalsRight, Sound}
+use Rattle.format.proofs.Laws.Procs.{takes_at}
 use Rattle.format.specs.Rules.{max_size}
 use Rattle.labels.specs.Laws.Spots.{itself}
 use Rattle.decide.specs.declared.step.Step.{Step}
@@ -39,7 +39,7 @@ use Rattle.sequential.specs.Frames.{place_in, procedure_in, FrameAt, Called, Sta
 use Rattle.sequential.specs.Sequential.{Present, Decision, leaves, acts, selects, Due, Enterable}
 use Rattle.engine.specs.Laws.Work.{beside_same, beside_put, framed_put}
 use Rattle.engine.specs.Laws.Holding.{cell_word, no_cell}
-use Rattle.semantics.specs.Laws.Cells.{shape}
+use Rattle.semantics.proofs.Laws.Cells.{shape}
 use Rattle.jumps.proofs.Jumping.{code_in}
 use Rattle.sequential.proofs.Standing.{code_inside, code_named, settles_code, HeadAt, head_at_lem}
 use Rattle.sequential.proofs.Framing.{stacked_below}

@@ -13,9 +13,9 @@ use Rattle.value.specs.Maybe.{is}
 use Rattle.value.specs.Lists.{at}
 use Rattle.basics.specs.Places.{number_at}
 use Rattle.value.specs.declared.Value.{Value}
-use Rattle.value.specs.Laws.Maybes.{is_inj, missing}
-use Rattle.value.specs.Laws.Tests.{never, both_passed}
-use Rattle.value.specs.Laws.Lists.{each_at}
+use Rattle.value.proofs.Laws.Maybes.{is_inj, missing}
+use Rattle.value.proofs.Laws.Tests.{never, both_passed}
+use Rattle.value.proofs.Laws.Lists.{each_at}
 use Rattle.basics.specs.Laws.Places.{number_at_lem}
 use Rattle.format.specs.Syntax.{Expr, Instr, assign, write, read, while, if, call, atomic, select, Block, end, step, ◌⊕◌, Proc, Program, Plain}
 use Rattle.format.specs.Syntax.{sequential}
@@ -23,12 +23,12 @@ use Rattle.format.specs.Encode.{table}
 use Rattle.format.specs.Encode as E
 use Rattle.format.specs.Rules.{allowed_i, named_i, named}
 use Rattle.labels.specs.Spots.{CodeAt}
-use Rattle.format.specs.Laws.Grammar.{InstrAt, SelectAt, select_here}
-use Rattle.format.specs.Laws.Names.{NamesI, names?}
-use Rattle.format.specs.Laws.Procs.{body_in, takes_at}
-use Rattle.format.specs.Laws.Sound.{LocalsRight, Sound}
+use Rattle.format.proofs.Laws.Grammar.{InstrAt, SelectAt, select_here}
+use Rattle.format.proofs.Laws.Names.{NamesI, names?}
+use Rattle.format.proofs.Laws.Procs.{body_in, takes_at}
+use Rattle.format.proofs.Laws.Sound.{LocalsRight, Sound}
 use Rattle.labels.specs.Laws.Spots.{step_byte}
-use Rattle.format.specs.Laws.Stands as Stands
+use Rattle.format.proofs.Laws.Stands as Stands
 use Rattle.format.specs.Decode.{max_nesting}
 use Rattle.decide.specs.declared.step.Step.{Step}
 use Rattle.sequential.specs.declared.machine.State.{State}
@@ -41,7 +41,7 @@ use Rattle.decide.specs.Decided.{Kept, DecidesAll, SelectHere, Selects, Selectab
 use Rattle.jumps.specs.Jumps.{Settled, last, first}
 use Rattle.sequential.specs.Frames.{FrameAt, Stacked}
 use Rattle.sequential.specs.Sequential.{Present, Decision, leaves, acts, selects, Facing, Faced, Faces, UsedUp}
-use Rattle.semantics.specs.Laws.Cells.{shape}
+use Rattle.semantics.proofs.Laws.Cells.{shape}
 use Rattle.decide.specs.Laws.Deciding.{act_at}
 use Rattle.sequential.proofs.Standing.{Here, stands_here, settled_here, code_inside}
 use Rattle.sequential.proofs.Framing.{frame_small, stacked_below, stacked_few}

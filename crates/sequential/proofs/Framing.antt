@@ -11,14 +11,14 @@ use lib.Dec.{eqb}
 use borrow.Author.Tests.{eqb-true, eq-eqb}
 use Rattle.value.specs.Maybe.{is, either}
 use Rattle.value.specs.Lists.{at}
-use Rattle.value.specs.Laws.Maybes.{is_inj, missing}
-use Rattle.value.specs.Laws.Tests.{by_test, never, either_passed, either_failed}
-use Rattle.value.specs.Laws.Lists.{In, here, in_front, in_back, member, Each, each_at, at_below}
+use Rattle.value.proofs.Laws.Maybes.{is_inj, missing}
+use Rattle.value.proofs.Laws.Tests.{by_test, never, either_passed, either_failed}
+use Rattle.value.proofs.Laws.Lists.{In, here, in_front, in_back, member, Each, each_at, at_below}
 use Rattle.format.specs.Syntax.{Expr, Instr, while, if, call, Block, end, step, Proc, Plain}
 use Rattle.format.specs.Rules.{callees, callees_i, callees_of}
 use Rattle.labels.specs.Spots.{CodeAt}
-use Rattle.format.specs.Laws.Calls.{Calls, Reaches, direct, onward, Distinct, distinct_below}
-use Rattle.format.specs.Laws.Sound.{LocalsRight}
+use Rattle.format.proofs.Laws.Calls.{Calls, Reaches, direct, onward, Distinct, distinct_below}
+use Rattle.format.proofs.Laws.Sound.{LocalsRight}
 use Rattle.labels.specs.Laws.Spots.{Inherited, spot_has}
 use Rattle.semantics.specs.Memory.{Env}
 use Rattle.semantics.specs.Step.{Frame, Stack, runs}

@@ -6,7 +6,7 @@ use mathlib.Core.List.{List, [], ◌∷◌}
 use Rattle.value.specs.Maybe.{is}
 use Rattle.value.specs.Try.{Try, has, lacks, ◌⟫◌}
 use Rattle.value.specs.declared.Reason.{Reason}
-use Rattle.value.specs.Laws.Maybes.{missing}
+use Rattle.value.proofs.Laws.Maybes.{missing}
 use Rattle.value.specs.declared.Value.{Value}
 use Rattle.format.specs.Syntax.{Instr, assign, write, read, while, if, call, atomic, select, Block, end, step, ◌⊕◌, Proc, Program, Plain}
 use Rattle.semantics.specs.Memory.{Env, Memory, cell, Event}

@@ -12,12 +12,12 @@ use Rattle.decide.specs.contracts.step.Step.{the_type}
 use Rattle.value.specs.Maybe.{is, nothing}
 use Rattle.value.specs.Try.{reason_number}
 use Rattle.value.specs.declared.Reason.{Reason}
-use Rattle.value.specs.Laws.Maybes.{is_inj, missing}
-use Rattle.value.specs.Laws.Lists.{each_at}
+use Rattle.value.proofs.Laws.Maybes.{is_inj, missing}
+use Rattle.value.proofs.Laws.Lists.{each_at}
 use Rattle.value.specs.Lists.{at}
 use Rattle.basics.specs.Places.{number_at}
-use Rattle.format.specs.Laws.Procs.{takes_at}
-use Rattle.format.specs.Laws.Sound.{LocalsRight}
+use Rattle.format.proofs.Laws.Procs.{takes_at}
+use Rattle.format.proofs.Laws.Sound.{LocalsRight}
 use Rattle.format.specs.Syntax.{Block, Proc, Program, Plain}
 use Rattle.format.specs.Encode.{record_size}
 use Rattle.semantics.specs.Step.{Frame, Stack, entered}
@@ -33,7 +33,7 @@ use Rattle.sequential.specs.Sequential.{most_frames, Present, Due, CarriesOut, F
 use Rattle.sequential.specs.Sequential.{Faces, UsedUp, ran_with, Starting, run_of, Runs}
 use Rattle.engine.specs.Work.{frame_words}
 use Rattle.sequential.specs.Frames.{procedure_in, FrameAt, none, more}
-use Rattle.semantics.specs.Laws.Cells.{shape_fresh}
+use Rattle.semantics.proofs.Laws.Cells.{shape_fresh}
 use Rattle.engine.specs.Laws.Work.{beside_same, framed_none, framed_entered}
 use Rattle.engine.specs.Laws.Logging.{logged_none, logged_long}
 use Rattle.sequential.proofs.Standing.{code_inside, HeadAt, head_at_lem, settled_body}

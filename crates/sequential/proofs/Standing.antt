@@ -7,26 +7,26 @@ use mathlib.Core.Bool.{true}
 use lib.ListN.{length, get_or}
 use Rattle.value.specs.Maybe.{is}
 use Rattle.value.specs.Lists.{at}
-use Rattle.value.specs.Laws.Maybes.{is_inj}
+use Rattle.value.proofs.Laws.Maybes.{is_inj}
 use Rattle.value.specs.Values.{bytes}
 use Rattle.basics.specs.Places.{number_at}
-use Rattle.value.specs.Laws.Lists.{each_at}
+use Rattle.value.proofs.Laws.Lists.{each_at}
 use Rattle.basics.specs.Laws.Places.{number_at_lem}
 use Rattle.format.specs.Syntax.{Expr, Instr, while, if, Block, end, step, ◌⊕◌, Proc, Program, Plain, sequential}
 use Rattle.format.specs.Encode.{table, bodies_of, record_size}
 use Rattle.format.specs.Encode as E
 use Rattle.format.specs.Rules.{allowed_i}
 use Rattle.labels.specs.Spots.{Spot, inner, body, thens, elses, later, body_at, CodeAt}
-use Rattle.format.specs.Laws.Fits.{Says, SaysI, BlockFits}
-use Rattle.format.specs.Laws.Names.{Names, NamesI}
-use Rattle.format.specs.Laws.Depths.{nesting, nesting_i}
-use Rattle.format.specs.Laws.Grammar.{InstrAt}
-use Rattle.format.specs.Laws.Stands.{Stands, front}
-use Rattle.format.specs.Laws.Stands as Stands
-use Rattle.format.specs.Laws.Procs.{ProcSound, proc_sound, body_in, body_at_lem}
-use Rattle.format.specs.Laws.Sound.{Sound}
-use Rattle.format.specs.Laws.TablePlaces as T
-use Rattle.format.specs.Laws.Accepted.{bodies_fit}
+use Rattle.format.proofs.Laws.Fits.{Says, SaysI, BlockFits}
+use Rattle.format.proofs.Laws.Names.{Names, NamesI}
+use Rattle.format.proofs.Laws.Depths.{nesting, nesting_i}
+use Rattle.format.proofs.Laws.Grammar.{InstrAt}
+use Rattle.format.proofs.Laws.Stands.{Stands, front}
+use Rattle.format.proofs.Laws.Stands as Stands
+use Rattle.format.proofs.Laws.Procs.{ProcSound, proc_sound, body_in, body_at_lem}
+use Rattle.format.proofs.Laws.Sound.{Sound}
+use Rattle.format.proofs.Laws.TablePlaces as T
+use Rattle.format.proofs.Laws.Accepted.{bodies_fit}
 use Rattle.format.specs.Decode.{max_nesting}
 use Rattle.labels.specs.Laws.Spots.{itself, join_end, Inherited, spot_has, deep_inherited}
 use Rattle.labels.specs.Laws.Spots.{names_inherited, allowed_inherited, code_stands, step_byte, block_some}

@@ -12,7 +12,7 @@ use mir.Val.{Fits}
 use mir.Syntax.{w64}
 use Rattle.value.specs.Try.{reason_number}
 use Rattle.value.specs.declared.Reason.{Reason}
-use Rattle.value.specs.Laws.Tests.{never}
+use Rattle.value.proofs.Laws.Tests.{never}
 use Rattle.decide.specs.contracts.step.Step.{the_type}
 use Rattle.decide.specs.declared.step.Step.{Step}
 use Rattle.decide.specs.declared.step.Step.TheVariants as S

@@ -16,8 +16,8 @@ use Rattle.value.specs.Values.{given}
 use Rattle.value.specs.declared.Value.{Value}
 use Rattle.value.specs.declared.Answer.{Answer}
 use Rattle.value.specs.declared.Answer.TheVariants as A
-use Rattle.value.specs.Laws.Tests.{never}
-use Rattle.value.specs.Laws.Tries.{has_inj, lacking}
+use Rattle.value.proofs.Laws.Tests.{never}
+use Rattle.value.proofs.Laws.Tries.{has_inj, lacking}
 use Rattle.semantics.specs.Buffers.{event_size}
 use Rattle.decide.specs.declared.step.Step.{Step}
 use Rattle.quick.specs.declared.turn.Quick.{Quick}

@@ -3,7 +3,7 @@ use Rattle.std.specs.Prelude.{ℕ, ◌+◌, ◌*◌, ◌/◌, ◌%◌, ◌≡◌
 use Rattle.value.specs.Maybe.{is}
 use Rattle.value.specs.Lists.{at}
 use Rattle.format.specs.Syntax.{Proc, Plain}
-use Rattle.format.specs.Laws.Calls.{Calls}
+use Rattle.format.proofs.Laws.Calls.{Calls}
 use Rattle.semantics.specs.Step.{Frame, Stack}
 use Rattle.engine.specs.Work.{frame_words, Framed}
 use Rattle.jumps.specs.Jumps.{positions, Settled}

@@ -11,8 +11,8 @@ use Rattle.format.specs.Syntax.{Expr, Instr, call, select, Block, end, step, ◌
 use Rattle.format.specs.Encode.{table, record_size, trailer_size}
 use Rattle.format.specs.Rules.{verdict, accepted, limits}
 use Rattle.labels.specs.Spots.{CodeAt}
-use Rattle.format.specs.Laws.Sound.{Sound}
-use Rattle.format.specs.Laws.TablePlaces.{records_at}
+use Rattle.format.proofs.Laws.Sound.{Sound}
+use Rattle.format.proofs.Laws.TablePlaces.{records_at}
 use Rattle.semantics.specs.declared.RunAnswer.{RunAnswer}
 use Rattle.decide.specs.declared.step.Step.{Step}
 use Rattle.decide.specs.declared.step.Step.TheVariants.{Return, Blocked}
@@ -28,7 +28,7 @@ use Rattle.engine.specs.Events.{Logged, way_of}
 use Rattle.decide.specs.Decided.{Act, act_of, act_end, decided, chosen}
 use Rattle.jumps.specs.Jumps.{positions, Jumps}
 use Rattle.sequential.specs.Frames.{word_of, procedure_in, Stacked}
-use Rattle.semantics.specs.Laws.Cells.{shape}
+use Rattle.semantics.proofs.Laws.Cells.{shape}
 use Rattle.basics.specs.Sizes.{stack_frames}
 
 -- ---- what a run keeps

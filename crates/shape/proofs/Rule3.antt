@@ -19,7 +19,7 @@ use Rattle.format.specs.Encode.{Trailer, record_size}
 use Rattle.format.specs.Rules.{limits, within, begun, max_size}
 use Rattle.shape.specs.Shapes.{limits_of, heads_at, numbers_at, few_locals, LocalsTest, SizesTest, CellsAre, BegunTest}
 use Rattle.shape.specs.Shapes.{MainsTest, StartsTest, RecordsTest}
-use Rattle.format.specs.Laws.Places.{rows, head_at}
+use Rattle.format.proofs.Laws.Places.{rows, head_at}
 use Rattle.parse.specs.Ends.{kind_of}
 use Rattle.parse.specs.declared.Kind as K
 use Rattle.parse.specs.declared.Kind.TheVariants.{Concurrent, Sequential}

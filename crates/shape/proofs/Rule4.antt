@@ -12,8 +12,8 @@ use borrow.Author.Tests.{eq-eqb, ne_eqb, eqb-true, eqb-false}
 use Rattle.value.specs.Maybe.{Maybe, is, nothing, ◌>>=◌, both}
 use Rattle.value.specs.Values.{unbytes}
 use Rattle.basics.specs.Places.{number_at}
-use Rattle.value.specs.Laws.Tests.{by_test}
-use Rattle.value.specs.Laws.Bytes.{Bytes}
+use Rattle.value.proofs.Laws.Tests.{by_test}
+use Rattle.value.proofs.Laws.Bytes.{Bytes}
 use Rattle.basics.specs.Laws.Places as Numbers
 use Rattle.format.specs.Syntax.{Kind, Block, Plain}
 use Rattle.format.specs.Encode.{Head, record_size}
@@ -22,10 +22,10 @@ use Rattle.format.specs.Decode.{Read, times, finish, block, max_nesting}
 use Rattle.format.specs.Rules.{allowed, placed}
 use Rattle.parse.specs.Ends.{end_of, check}
 use Rattle.shape.specs.Shapes.{heads_at, placed_right, bodies_right, BodyReads, BodiesTest}
-use Rattle.format.specs.Laws.Places.{rows, head_at}
-use Rattle.format.specs.Laws.Procs.{body_in}
-use Rattle.format.specs.Laws.Rests.{block_leaves}
-use Rattle.format.specs.Laws.Positions.{block_found}
+use Rattle.format.proofs.Laws.Places.{rows, head_at}
+use Rattle.format.proofs.Laws.Procs.{body_in}
+use Rattle.format.proofs.Laws.Rests.{block_leaves}
+use Rattle.format.proofs.Laws.Positions.{block_found}
 use Rattle.parse.proofs.Chains.{passed_at, passed_none, end_inside}
 use Rattle.parse.specs.declared.Ends.{Ends}
 use Rattle.parse.specs.declared.Ends.TheVariants.{At, Nothing}

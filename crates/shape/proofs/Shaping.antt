@@ -8,9 +8,9 @@ use lib.ListN.{length, take, drop}
 use lib.Seq.{length-take-le, take-take, drop-drop}
 use Rattle.value.specs.Maybe.{Maybe, is, nothing, ◌>>=◌, when, both}
 use Rattle.value.specs.Lists.{sum}
-use Rattle.value.specs.Laws.Maybes.{is_inj}
-use Rattle.value.specs.Laws.Tests.{never}
-use Rattle.value.specs.Laws.Bytes.{bytes_take}
+use Rattle.value.proofs.Laws.Maybes.{is_inj}
+use Rattle.value.proofs.Laws.Tests.{never}
+use Rattle.value.proofs.Laws.Bytes.{bytes_take}
 use Rattle.format.specs.Syntax.{Kind, Block, Program, Plain}
 use Rattle.format.specs.Encode.{Middle, middle_of, front, record_size, trailer_size, distance}
 use Rattle.format.specs.Encode as E
@@ -20,11 +20,11 @@ use Rattle.format.specs.Rules.{placed, all_allowed, bind, program, right_records
 use Rattle.format.specs.Rules.{Verdict, refused, require, demand, verdict}
 use Rattle.shape.specs.Shapes.{trailer_of, HeaderFor, HeaderIs, numbers_at, placed_right, Closed, RecordsTest, BodiesTest}
 use Rattle.shape.specs.Shapes.{CellsAre, FormIs, ShapedAs}
-use Rattle.format.specs.Laws.Formed.{RightTrailer, Formed, judged}
-use Rattle.format.specs.Laws.Places.{middle_at, middle_there}
-use Rattle.format.specs.Laws.Passes.{trailer_read, middle_read, formed_trailer, formed_records, formed_judged}
-use Rattle.format.specs.Laws.Refusals.{formed_if}
-use Rattle.format.specs.Laws.TablePlaces.{trailer_at}
+use Rattle.format.proofs.Laws.Formed.{RightTrailer, Formed, judged}
+use Rattle.format.proofs.Laws.Places.{middle_at, middle_there}
+use Rattle.format.proofs.Laws.Passes.{trailer_read, middle_read, formed_trailer, formed_records, formed_judged}
+use Rattle.format.proofs.Laws.Refusals.{formed_if}
+use Rattle.format.proofs.Laws.TablePlaces.{trailer_at}
 use Rattle.shape.specs.declared.header.Trailer.{Trailer}
 use Rattle.shape.specs.declared.header.Header.{Header}
 use Rattle.shape.specs.declared.header.Header.TheVariants as H

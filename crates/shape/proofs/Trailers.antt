@@ -9,15 +9,15 @@ use lib.Dec.{leb}
 use borrow.Author.Tests.{eq-eqb, ne_eqb, le-leb, lt-leb}
 use lib.Seq.{drop-length}
 use Rattle.value.specs.Maybe.{Maybe, is, nothing, both}
-use Rattle.value.specs.Laws.Bytes.{Bytes}
+use Rattle.value.proofs.Laws.Bytes.{Bytes}
 use Rattle.basics.specs.Laws.Places as Numbers
 use Rattle.format.specs.Syntax.{Kind}
 use Rattle.format.specs.Encode.{Trailer, kind_mark, trailer_size, form_mark, distance}
 use Rattle.format.specs.Encode as E
-use Rattle.format.specs.Laws.Reading.{If, so, none}
-use Rattle.format.specs.Laws.Sections.{All, TrailerFits, finish_only, trailer_exact, bytes_last}
-use Rattle.format.specs.Laws.Judged.{trailer?}
-use Rattle.format.specs.Laws.Positions.{byte_at, number_at_lem}
+use Rattle.format.proofs.Laws.Reading.{If, so, none}
+use Rattle.format.proofs.Laws.Sections.{All, TrailerFits, finish_only, trailer_exact, bytes_last}
+use Rattle.format.proofs.Laws.Judged.{trailer?}
+use Rattle.format.proofs.Laws.Positions.{byte_at, number_at_lem}
 use Rattle.format.specs.Rules.{limits, within}
 use Rattle.format.specs.Decode.{finish, last}
 use Rattle.format.specs.Decode as D

@@ -4,7 +4,7 @@ use Rattle.value.specs.Maybe.{Maybe, is, nothing, both}
 use Rattle.value.specs.Lists.{all, sum}
 use Rattle.value.specs.Values.{unbytes}
 use Rattle.basics.specs.Places.{number_at}
-use Rattle.value.specs.Laws.Bytes.{Bytes}
+use Rattle.value.proofs.Laws.Bytes.{Bytes}
 use Rattle.format.specs.Syntax.{Kind, Block, Program, Plain}
 use Rattle.format.specs.Encode as E
 use Rattle.format.specs.Encode.{record_size, trailer_size}
@@ -13,9 +13,9 @@ use Rattle.format.specs.Decode as D
 use Rattle.format.specs.Rules.{right_trailer, right_counts, max_size}
 use Rattle.format.specs.Rules as R
 use Rattle.format.specs.Calls.{labels_of, read_call}
-use Rattle.format.specs.Laws.Places.{rows, head_at, middle_at}
-use Rattle.format.specs.Laws.Formed.{Formed, judged}
-use Rattle.format.specs.Laws.TablePlaces.{records_at}
+use Rattle.format.proofs.Laws.Places.{rows, head_at, middle_at}
+use Rattle.format.proofs.Laws.Formed.{Formed, judged}
+use Rattle.format.proofs.Laws.TablePlaces.{records_at}
 use Rattle.parse.specs.Ends.{ReadsBlock}
 use Rattle.format.specs.declared.ReadAnswer.{ReadAnswer}
 use Rattle.parse.specs.declared.Ends.{Ends}

@@ -6,7 +6,7 @@ use mathlib.Core.List.{List, [], ◌∷◌}
 use lib.ListN.{length, get_or}
 use Rattle.format.specs.Syntax.{Instr, Block, end}
 use Rattle.format.specs.Encode.{expr, block}
-use Rattle.format.specs.Laws.Grammar.{BlockAt, IfAt, if_here, StepAt, end_here, step_here, block_inside, block_deep}
+use Rattle.format.proofs.Laws.Grammar.{BlockAt, IfAt, if_here, StepAt, end_here, step_here, block_inside, block_deep}
 use Rattle.format.specs.Decode.{max_depth}
 use Rattle.format.specs.Rules.{max_locals}
 use Rattle.translation.specs.Layout.{Layout}

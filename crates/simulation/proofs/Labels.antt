@@ -6,12 +6,12 @@ use native.Mathlib.Numerals.{add-one}
 use mathlib.Core.Path.{◌≡◌, refl, ◌∙◌}
 use mathlib.Core.List.{List, [], ◌∷◌, ◌++◌, append_assoc}
 use lib.ListN.{length, get_or}
-use Rattle.value.specs.Laws.Lists.{Each}
+use Rattle.value.proofs.Laws.Lists.{Each}
 use Rattle.format.specs.Syntax.{Expr, local, Instr, assign, write, read, while, if, call, atomic, select, end}
 use Rattle.format.specs.Syntax as S
 use Rattle.format.specs.Encode.{expr, block}
-use Rattle.format.specs.Laws.Grammar.{InstrAt, MoreAt, exprs_none_lem, exprs_more, AtomicAt, atomic_here}
-use Rattle.format.specs.Laws.Stands.{first}
+use Rattle.format.proofs.Laws.Grammar.{InstrAt, MoreAt, exprs_none_lem, exprs_more, AtomicAt, atomic_here}
+use Rattle.format.proofs.Laws.Stands.{first}
 use Rattle.labels.specs.Walks.{GathersEach}
 use Rattle.format.specs.Decode.{max_nesting}
 use Rattle.format.specs.Rules.{max_locals}

@@ -10,18 +10,18 @@ use lib.Dec.{ltb}
 use borrow.Author.Tests.{ltb-true}
 use Rattle.value.specs.Maybe.{is, both}
 use Rattle.value.specs.Lists.{at, all}
-use Rattle.value.specs.Laws.Tests.{both_passed, never}
-use Rattle.value.specs.Laws.Lists.{Each, at_below}
-use Rattle.value.specs.Laws.Maybes.{is_inj, missing}
+use Rattle.value.proofs.Laws.Tests.{both_passed, never}
+use Rattle.value.proofs.Laws.Lists.{Each, at_below}
+use Rattle.value.proofs.Laws.Maybes.{is_inj, missing}
 use Rattle.format.specs.Syntax.{Expr, constant, local, one, two, Instr, assign, write, read, while, if, call, atomic, select, Block, end, step, ◌⊕◌}
 use Rattle.format.specs.Syntax.{Proc, Program, Plain, concurrent}
 use Rattle.format.specs.Encode.{expr, instr, block}
 use Rattle.format.specs.Labels.{first, count, counts, labels, labelled}
 use Rattle.format.specs.Rules.{Here, in_expr, takes, named, named_i, allowed, allowed_i}
 use Rattle.labels.specs.LabelMap.{Node, node_of, nodes, held, all_nodes}
-use Rattle.format.specs.Laws.Fits.{BlockFits, InstrFits}
-use Rattle.format.specs.Laws.Names.{takes?}
-use Rattle.format.specs.Laws.Procs.{takes_at}
+use Rattle.format.proofs.Laws.Fits.{BlockFits, InstrFits}
+use Rattle.format.proofs.Laws.Names.{takes?}
+use Rattle.format.proofs.Laws.Procs.{takes_at}
 use Rattle.labels.specs.Laws.Spots.{Inherited}
 use Rattle.labels.specs.Laws.LabelMap.{length_nodes}
 use Rattle.translation.specs.Layout.{Layout, layout_in, locals_of}

@@ -14,8 +14,8 @@ use Rattle.value.specs.Values.{unbytes}
 use Rattle.basics.specs.Places.{number_at}
 use Rattle.value.specs.Lists.{at}
 use Rattle.basics.specs.Laws.Places.{number_at_lem}
-use Rattle.value.specs.Laws.Lists.{Each, each_at, at_get_d}
-use Rattle.value.specs.Laws.Maybes.{is_inj, missing}
+use Rattle.value.proofs.Laws.Lists.{Each, each_at, at_get_d}
+use Rattle.value.proofs.Laws.Maybes.{is_inj, missing}
 use Rattle.format.specs.Syntax.{Expr, Instr, assign, write, read, while, if, call, atomic, select, Block, end, step, ◌⊕◌, Proc, Program, concurrent}
 use Rattle.format.specs.Syntax as S
 use Rattle.format.specs.Encode.{instr, block, bodies_of}
@@ -23,17 +23,17 @@ use Rattle.format.specs.Decode.{no_form, forms, max_nesting}
 use Rattle.format.specs.Labels.{first, count, counts, label, labels, labelled}
 use Rattle.format.specs.Rules.{named, allowed, Here, limits, max_labels, max_locals}
 use Rattle.labels.specs.LabelMap.{Node, Mapped, node_of, next, other}
-use Rattle.format.specs.Laws.Stands.{Stands, inside, front}
-use Rattle.format.specs.Laws.Stands as St
-use Rattle.format.specs.Laws.Grammar.{InstrAt, WhileAt, IfAt, CallAt, while_here, if_here, call_here, no_instr, instr_inside}
-use Rattle.format.specs.Laws.Fits.{BlockFits}
-use Rattle.format.specs.Laws.Names.{names?}
-use Rattle.format.specs.Laws.Sound.{Sound}
-use Rattle.format.specs.Laws.Labelled.{named_label, allowed_label, fits_label}
-use Rattle.format.specs.Laws.Accepted.{bodies_fit}
-use Rattle.format.specs.Laws.Procs.{body_at_lem, ProcSound, proc_sound}
+use Rattle.format.proofs.Laws.Stands.{Stands, inside, front}
+use Rattle.format.proofs.Laws.Stands as St
+use Rattle.format.proofs.Laws.Grammar.{InstrAt, WhileAt, IfAt, CallAt, while_here, if_here, call_here, no_instr, instr_inside}
+use Rattle.format.proofs.Laws.Fits.{BlockFits}
+use Rattle.format.proofs.Laws.Names.{names?}
+use Rattle.format.proofs.Laws.Sound.{Sound}
+use Rattle.format.proofs.Laws.Labelled.{named_label, allowed_label, fits_label}
+use Rattle.format.proofs.Laws.Accepted.{bodies_fit}
+use Rattle.format.proofs.Laws.Procs.{body_at_lem, ProcSound, proc_sound}
 use Rattle.labels.specs.Laws.Spots.{spot_has, allowed_inherited, code_stands, bodies_labels}
-use Rattle.format.specs.Laws.TablePlaces.{records_at, all_bodies}
+use Rattle.format.proofs.Laws.TablePlaces.{records_at, all_bodies}
 use Rattle.labels.specs.Laws.LabelMap.{NodeOf, node_of_lem, node_there}
 use Rattle.translation.specs.Layout.{Layout, layout_in, locals_of}
 use Rattle.translation.specs.Code.{calls, code}

@@ -10,9 +10,3 @@ pub mod Code
 pub mod Translate
 -- what the translator's call answers and leaves in the lent buffer
 pub mod Calls
--- a translation worked by hand
-pub mod Example
--- programs of request 107, placed in both modes
-pub mod Worked
--- what these are worth: read the end of Laws.Copy, and Laws.Placing.Best
-pub mod Laws

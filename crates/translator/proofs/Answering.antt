@@ -9,7 +9,7 @@ use lib.ListN.{length, get_or, drop}
 use lib.Seq.{sets-eq}
 use borrow.Author.Tests.{lt-ltb, le-ltb}
 use Rattle.value.specs.Lists.{over}
-use Rattle.value.specs.Laws.Bytes.{bytes_at}
+use Rattle.value.proofs.Laws.Bytes.{bytes_at}
 use Rattle.format.specs.Syntax.{Program, Plain, concurrent, sequential}
 use Rattle.format.specs.Encode.{table, trailer_size, distance}
 use Rattle.labels.specs.LabelMap.{Mapped}
@@ -17,11 +17,11 @@ use Rattle.format.specs.Rules.{Verdict, refused, accepted, verdict, limits}
 use Rattle.format.specs.Calls.{read_as, read_call}
 use Rattle.labels.specs.Walks.{MapsLabels}
 use Rattle.format.specs.declared.ReadAnswer.{ReadAnswer}
-use Rattle.format.specs.Laws.Sound.{Sound}
-use Rattle.format.specs.Laws.Formed.{Formed}
-use Rattle.format.specs.Laws.Accepted.{accepted_exactly, bodies_fit, sound_formed}
-use Rattle.format.specs.Laws.Refusals.{refused_within}
-use Rattle.format.specs.Laws.TablePlaces.{records_at, all_bodies, length_table, trailer_at}
+use Rattle.format.proofs.Laws.Sound.{Sound}
+use Rattle.format.proofs.Laws.Formed.{Formed}
+use Rattle.format.proofs.Laws.Accepted.{accepted_exactly, bodies_fit, sound_formed}
+use Rattle.format.proofs.Laws.Refusals.{refused_within}
+use Rattle.format.proofs.Laws.TablePlaces.{records_at, all_bodies, length_table, trailer_at}
 use Rattle.translation.specs.Translate.{translate_in}
 use Rattle.translation.specs.Calls.{Written, refusal, written, writes, writes_table, translate_as, translate_call}
 use Rattle.writer.specs.Laws.Put.{Put}

@@ -10,16 +10,16 @@ use lib.Seq.{slice, take_all}
 use Rattle.value.specs.Maybe.{is}
 use Rattle.value.specs.Values.{bytes}
 use Rattle.value.specs.Lists.{at}
-use Rattle.value.specs.Laws.Maybes.{is_inj, missing}
+use Rattle.value.proofs.Laws.Maybes.{is_inj, missing}
 use Rattle.format.specs.Syntax.{Proc, Program, Plain, concurrent, sequential}
 use Rattle.format.specs.Encode.{block, each, Head, head, heads, middle, middle_of, front, trailer, trailer_of, distance, table, record_size, trailer_size}
 use Rattle.format.specs.Encode.{form_mark, kind_mark}
 use Rattle.labels.specs.LabelMap.{Mapped, node_of}
-use Rattle.format.specs.Laws.Heads.{length_heads}
+use Rattle.format.proofs.Laws.Heads.{length_heads}
 use Rattle.labels.specs.Laws.LabelMap.{node_there}
-use Rattle.format.specs.Laws.Sections.{length_each}
-use Rattle.format.specs.Laws.Stands.{Stands, whole, back}
-use Rattle.format.specs.Laws.Stands as St
+use Rattle.format.proofs.Laws.Sections.{length_each}
+use Rattle.format.proofs.Laws.Stands.{Stands, whole, back}
+use Rattle.format.proofs.Laws.Stands as St
 use Rattle.format.specs.Rules.{max_locals}
 use Rattle.translation.specs.Layout.{locals_of}
 use Rattle.translation.specs.Code.{moved}

@@ -10,12 +10,12 @@ use Rattle.value.specs.Maybe.{is}
 use Rattle.value.specs.Values.{bytes, not, equal}
 use Rattle.value.specs.Lists.{at}
 use Rattle.value.specs.declared.Value.TheVariants.{Truth}
-use Rattle.value.specs.Laws.Lists.{at_below, at_get_d}
-use Rattle.value.specs.Laws.Maybes.{is_inj, missing}
+use Rattle.value.proofs.Laws.Lists.{at_below, at_get_d}
+use Rattle.value.proofs.Laws.Maybes.{is_inj, missing}
 use Rattle.format.specs.Syntax.{constant, local, one, two, assign, write, read, while, call, select, Block, end, Program, Plain}
 use Rattle.format.specs.Encode.{expr, block}
 use Rattle.format.specs.Labels.{counts}
-use Rattle.format.specs.Laws.Procs.{main_at}
+use Rattle.format.proofs.Laws.Procs.{main_at}
 use Rattle.translation.specs.Layout.{Layout, layout_in}
 use Rattle.translation.specs.Code.{◌then◌, tmp, num, loc}
 use Rattle.translation.specs.Translate.{stmt, terminated, for_each, switch, round, begins}

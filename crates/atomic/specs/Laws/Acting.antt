@@ -3,11 +3,11 @@ use Rattle.std.specs.Prelude.{ℕ, zero, suc, ◌+◌, ◌≤◌, ◌≡◌, ref
 use Rattle.std.proofs.Common.{arith, sym, ap, ◌∙◌, append-nil, append_assoc}
 use Rattle.value.specs.Maybe.{pick}
 use Rattle.value.specs.Try.{Try, has, lacks, ◌⟫◌}
-use Rattle.value.specs.Laws.Tries.{chain_same}
-use Rattle.value.specs.Laws.Tests.{both_passed, never}
+use Rattle.value.proofs.Laws.Tries.{chain_same}
+use Rattle.value.proofs.Laws.Tests.{both_passed, never}
 use Rattle.format.specs.Syntax.{Expr, local, Instr, assign, write, read, while, if, call, atomic, select, Block, end, step, ◌⊕◌, Proc}
 use Rattle.format.specs.Rules.{allowed, allowed_i}
-use Rattle.format.specs.Laws.Joined.{allowed_append}
+use Rattle.format.proofs.Laws.Joined.{allowed_append}
 use Rattle.semantics.specs.Memory.{Env, bound, eval, index, Memory, cell, stored, Event}
 use Rattle.value.specs.Values.{number, place, truth}
 use Rattle.semantics.specs.Step.{Moved, instr}

@@ -4,14 +4,14 @@ use Rattle.std.proofs.Common.{arith, sym, ap, subst, ◌∙◌, ltb-true}
 use Rattle.value.specs.Maybe.{is, both}
 use Rattle.value.specs.Try.{Try, has, lacks, ◌⟫◌}
 use Rattle.value.specs.declared.Reason.{Reason}
-use Rattle.value.specs.Laws.Maybes.{is_inj}
-use Rattle.value.specs.Laws.Tests.{never, both_passed}
+use Rattle.value.proofs.Laws.Maybes.{is_inj}
+use Rattle.value.proofs.Laws.Tests.{never, both_passed}
 use Rattle.format.specs.Syntax.{Expr, local, Instr, assign, write, read, while, if, call, atomic, select, Block, Program}
 use Rattle.format.specs.Encode.{expr}
 use Rattle.format.specs.Rules.{allowed, allowed_i, named, named_i}
 use Rattle.format.specs.Rules as Rules
-use Rattle.format.specs.Laws.Stands.{first}
-use Rattle.format.specs.Laws.Grammar.{InstrAt, BlockAt, IfAt, if_here}
+use Rattle.format.proofs.Laws.Stands.{first}
+use Rattle.format.proofs.Laws.Grammar.{InstrAt, BlockAt, IfAt, if_here}
 use Rattle.decide.specs.declared.step.Step.{Step}
 use Rattle.decide.specs.declared.step.Step.TheVariants as S
 use Rattle.semantics.specs.Memory.{eval, index, cell}

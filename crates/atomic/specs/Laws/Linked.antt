@@ -5,15 +5,15 @@ use Rattle.std.proofs.Common.{arith, sym, ap, ◌∙◌, eqb-true, eq-eqb}
 use Rattle.std.proofs.lemmas.List.{length-map}
 use Rattle.value.specs.Maybe.{is, either}
 use Rattle.value.specs.Lists.{at}
-use Rattle.value.specs.Laws.Tests.{either_passed, either_failed, never, by_test}
-use Rattle.value.specs.Laws.Lists.{In, Each, member, at_below}
+use Rattle.value.proofs.Laws.Tests.{either_passed, either_failed, never, by_test}
+use Rattle.value.proofs.Laws.Lists.{In, Each, member, at_below}
 use Rattle.format.specs.Syntax.{end, Proc, Program, Plain, concurrent}
 use Rattle.format.specs.Labels.{count, labels, labelled}
 use Rattle.format.specs.Rules.{callees_of}
-use Rattle.format.specs.Laws.Calls.{Reaches, direct, onward, Distinct, distinct_below}
-use Rattle.format.specs.Laws.Labelled.{reaches_labels}
+use Rattle.format.proofs.Laws.Calls.{Reaches, direct, onward, Distinct, distinct_below}
+use Rattle.format.proofs.Laws.Labelled.{reaches_labels}
 use Rattle.labels.specs.Laws.Spots.{Remains, none, some}
-use Rattle.format.specs.Laws.Sound.{Sound}
+use Rattle.format.proofs.Laws.Sound.{Sound}
 use Rattle.semantics.specs.Step.{Frame, Stack, runs}
 use Rattle.atomic.specs.Threaded.{most_frames, FramesAt, Link, Linked}
 

@@ -4,9 +4,9 @@ use Rattle.std.specs.Prelude.{ℕ, zero, suc, ◌+◌, ◌*◌, ◌-◌, ◌≤�
 use Rattle.std.proofs.Common.{arith, sym, ap, ap₂, subst, ◌∙◌}
 use Rattle.value.specs.Maybe.{is, both}
 use Rattle.value.specs.Lists.{at}
-use Rattle.value.specs.Laws.Maybes.{is_inj, missing}
-use Rattle.value.specs.Laws.Tests.{both_passed}
-use Rattle.value.specs.Laws.Lists.{Each, each_at, In, in_front, in_back}
+use Rattle.value.proofs.Laws.Maybes.{is_inj, missing}
+use Rattle.value.proofs.Laws.Tests.{both_passed}
+use Rattle.value.proofs.Laws.Lists.{Each, each_at, In, in_front, in_back}
 use Rattle.format.specs.Syntax.{Expr, Instr, assign, write, read, while, if, call, atomic}
 use Rattle.format.specs.Syntax.{select, Block, end, step, ◌⊕◌, Proc, Program, Plain, concurrent}
 use Rattle.format.specs.Encode.{instr, block, each, bodies_of, table}
@@ -16,16 +16,16 @@ use Rattle.format.specs.Rules as Rules
 use Rattle.labels.specs.Spots.{CodeAt}
 use Rattle.labels.specs.LabelMap.{Node, node_of, Mapped}
 use Rattle.labels.specs.LabelMap as Map
-use Rattle.format.specs.Laws.Names.{names?}
-use Rattle.format.specs.Laws.Depths.{nesting, nesting_i}
-use Rattle.format.specs.Laws.Fits.{Says, SaysI, InstrFits, BlockFits}
-use Rattle.format.specs.Laws.Grammar.{InstrAt, BlockAt, StepAt, end_here, step_here}
-use Rattle.format.specs.Laws.Labelled.{named_label, allowed_label}
-use Rattle.format.specs.Laws.Procs.{body_in, ProcSound, proc_sound, body_at_lem}
-use Rattle.format.specs.Laws.Sound.{Sound}
-use Rattle.format.specs.Laws.Stands.{Stands}
-use Rattle.format.specs.Laws.Accepted.{bodies_fit}
-use Rattle.format.specs.Laws.TablePlaces.{records_at, all_bodies}
+use Rattle.format.proofs.Laws.Names.{names?}
+use Rattle.format.proofs.Laws.Depths.{nesting, nesting_i}
+use Rattle.format.proofs.Laws.Fits.{Says, SaysI, InstrFits, BlockFits}
+use Rattle.format.proofs.Laws.Grammar.{InstrAt, BlockAt, StepAt, end_here, step_here}
+use Rattle.format.proofs.Laws.Labelled.{named_label, allowed_label}
+use Rattle.format.proofs.Laws.Procs.{body_in, ProcSound, proc_sound, body_at_lem}
+use Rattle.format.proofs.Laws.Sound.{Sound}
+use Rattle.format.proofs.Laws.Stands.{Stands}
+use Rattle.format.proofs.Laws.Accepted.{bodies_fit}
+use Rattle.format.proofs.Laws.TablePlaces.{records_at, all_bodies}
 use Rattle.format.specs.Decode.{max_nesting}
 use Rattle.labels.specs.Laws.Spots.{Inherited, spot_has, allowed_inherited, bodies_labels, code_stands, Remains}
 use Rattle.labels.specs.Laws.LabelMap.{NodeOf, node_of_lem, node_range, remains_node}

@@ -6,14 +6,14 @@ use Rattle.std.proofs.lemmas.Bool.{eqb-false}
 use Rattle.value.specs.Maybe.{is, nothing}
 use Rattle.value.specs.Lists.{at}
 use Rattle.value.specs.declared.Value.{Value}
-use Rattle.value.specs.Laws.Maybes.{is_inj, missing}
-use Rattle.value.specs.Laws.Tests.{by_test}
-use Rattle.value.specs.Laws.Lists.{In, at_set_same, at_set_other, at_below}
+use Rattle.value.proofs.Laws.Maybes.{is_inj, missing}
+use Rattle.value.proofs.Laws.Tests.{by_test}
+use Rattle.value.proofs.Laws.Lists.{In, at_set_same, at_set_other, at_below}
 use Rattle.format.specs.Syntax.{Block, Proc, Program, Plain, concurrent}
 use Rattle.format.specs.Labels.{count, labels, labelled, first, ends_of, body_of, begins}
 use Rattle.format.specs.Rules.{callees_of, max_locals}
-use Rattle.format.specs.Laws.Procs.{ProcSound, proc_sound}
-use Rattle.format.specs.Laws.Sound.{Sound}
+use Rattle.format.proofs.Laws.Procs.{ProcSound, proc_sound}
+use Rattle.format.proofs.Laws.Sound.{Sound}
 use Rattle.labels.specs.Laws.Spots.{Remains, remains_body}
 use Rattle.semantics.specs.Memory.{Env}
 use Rattle.semantics.specs.Step.{Frame, Stack, entered}

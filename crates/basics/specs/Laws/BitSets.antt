@@ -7,7 +7,7 @@ use Rattle.std.proofs.lemmas.Nat.{or_comm}
 use Rattle.std.proofs.Math.Dec.{eqb-zero-suc, eqb-suc-zero, eqb-suc-suc}
 use Rattle.std.proofs.lemmas.Bool.{eqb-false}
 use Rattle.value.specs.Maybe.{both, either}
-use Rattle.value.specs.Laws.Tests.{by_test}
+use Rattle.value.proofs.Laws.Tests.{by_test}
 use Rattle.basics.specs.BitSets.{bit, bits}
 
 -- a bit is 0 or 1

@@ -7,9 +7,9 @@ use Rattle.value.specs.Maybe.{both}
 use Rattle.value.specs.Try.{Try, has, lacks}
 use Rattle.value.specs.Values.{One, not, neg, Two, add, sub, mul, less, equal, and, whole, wholes, same, truths, apply₁, apply₂}
 use Rattle.value.specs.Marks.{Mark, whole_mark, location_mark, no_mark, yes_mark, local_mark, one_mark, two_mark, no_expr, marks, mark_of, kind_of, of_kind}
-use Rattle.value.specs.Laws.Tries.{has_inj, lacking, provided_has}
-use Rattle.value.specs.Laws.Tests.{never}
-use Rattle.value.specs.Laws.Marks.{marks?, mark_right}
+use Rattle.value.proofs.Laws.Tries.{has_inj, lacking, provided_has}
+use Rattle.value.proofs.Laws.Tests.{never}
+use Rattle.value.proofs.Laws.Marks.{marks?, mark_right}
 use Rattle.value.specs.declared.Value.{Value}
 use Rattle.value.specs.declared.Value.TheVariants.{Whole, Location, Truth}
 use Rattle.value.specs.declared.Reason.TheVariants.{OutOfRange, WrongKind}

@@ -6,8 +6,8 @@ use Rattle.std.proofs.lemmas.List.Edits.{sets}
 use Rattle.std.specs.Int.Signed.{mag}
 use Rattle.value.specs.Maybe.{is}
 use Rattle.value.specs.Values.{bytes, unbytes, cell_bytes}
-use Rattle.value.specs.Laws.Tests.{by_test}
-use Rattle.value.specs.Laws.Bytes.{word_fits, unword_word}
+use Rattle.value.proofs.Laws.Tests.{by_test}
+use Rattle.value.proofs.Laws.Bytes.{word_fits, unword_word}
 use Rattle.value.specs.declared.Value.{Value}
 use Rattle.value.specs.declared.Value.TheVariants.{Whole, Location, Truth}
 use Rattle.basics.specs.Places.{number_at, cell_kind, cell_number, value_of}

@@ -6,17 +6,17 @@ use Rattle.value.specs.Maybe.{is}
 use Rattle.value.specs.Try.{has, ◌⟫◌}
 use Rattle.value.specs.Lists.{at, all}
 use Rattle.value.specs.declared.Value.{Value}
-use Rattle.value.specs.Laws.Maybes.{is_inj, missing}
-use Rattle.value.specs.Laws.Tests.{never, by_test, both_passed}
-use Rattle.value.specs.Laws.Lists.{In, here}
+use Rattle.value.proofs.Laws.Maybes.{is_inj, missing}
+use Rattle.value.proofs.Laws.Tests.{never, by_test, both_passed}
+use Rattle.value.proofs.Laws.Lists.{In, here}
 use Rattle.format.specs.Syntax.{local, Instr, assign, write, read, while, if, call, atomic, select, Block, end, step, ◌⊕◌, Proc, Program, Plain, concurrent}
 use Rattle.format.specs.Labels.{labelled, first, ends_of}
 use Rattle.labels.specs.LabelMap as Map
 use Rattle.format.specs.Rules.{allowed_i, named_i, takes, callees_i, callees_of}
 use Rattle.format.specs.Rules as Rules
 use Rattle.labels.specs.Laws.LabelMap.{loop_next, then_next, else_other}
-use Rattle.format.specs.Laws.Procs.{body_in, takes_at}
-use Rattle.format.specs.Laws.Names.{takes?}
+use Rattle.format.proofs.Laws.Procs.{body_in, takes_at}
+use Rattle.format.proofs.Laws.Names.{takes?}
 use Rattle.labels.specs.Laws.Spots.{Remains, remains_after, remains_loop, remains_then, remains_else}
 use Rattle.decide.specs.declared.step.Step.{Step}
 use Rattle.decide.specs.declared.step.Step.TheVariants as S

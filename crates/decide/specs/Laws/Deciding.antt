@@ -9,18 +9,18 @@ use Rattle.value.specs.declared.Value.{Value}
 use Rattle.value.specs.declared.Value.TheVariants.{Whole}
 use Rattle.value.specs.declared.Reason.{Reason}
 use Rattle.value.specs.declared.Reason.TheVariants.{WrongKind}
-use Rattle.value.specs.Laws.Maybes.{is_inj, missing}
-use Rattle.value.specs.Laws.Tries.{has_inj, lacking, chain_has, chain_same}
-use Rattle.value.specs.Laws.Tests.{by_test, both_passed}
-use Rattle.value.specs.Laws.Lists.{Each, all_passed}
+use Rattle.value.proofs.Laws.Maybes.{is_inj, missing}
+use Rattle.value.proofs.Laws.Tries.{has_inj, lacking, chain_has, chain_same}
+use Rattle.value.proofs.Laws.Tests.{by_test, both_passed}
+use Rattle.value.proofs.Laws.Lists.{Each, all_passed}
 use Rattle.basics.specs.Laws.Places.{number_at_lem}
 use Rattle.format.specs.Syntax.{Expr, constant, local, one, two, Instr, assign, write, read}
 use Rattle.format.specs.Syntax.{while, if, call, atomic, select, Block, step, Proc, Program}
 use Rattle.format.specs.Encode.{each, expr, instr, block}
 use Rattle.format.specs.Rules.{in_expr, takes, named_i}
-use Rattle.format.specs.Laws.Fits.{SaysI}
-use Rattle.format.specs.Laws.Stands as S
-use Rattle.format.specs.Laws.Stands.{Stands, first, others, front, back}
+use Rattle.format.proofs.Laws.Fits.{SaysI}
+use Rattle.format.proofs.Laws.Stands as S
+use Rattle.format.proofs.Laws.Stands.{Stands, first, others, front, back}
 use Rattle.decide.specs.declared.step.Step.{Step}
 use Rattle.decide.specs.declared.step.Step.TheVariants.{Return, Assign, Read, Write, Test, Call, Select, Blocked}
 use Rattle.semantics.specs.Memory.{Env, eval, evals, index, Memory, cell, stored, Event}
@@ -33,7 +33,7 @@ use Rattle.engine.specs.Work.{frame_words}
 use Rattle.engine.specs.Evaluated.{Below}
 use Rattle.decide.specs.Decided.{Act, assigns, writes, reads, tests, calls, returns, act_of, act_end, args_of, number_of, or_blocked, decided}
 use Rattle.decide.specs.Decided.{carried, target_of, Right, chosen, ActAt}
-use Rattle.semantics.specs.Laws.Cells.{shape}
+use Rattle.semantics.proofs.Laws.Cells.{shape}
 use Rattle.engine.specs.Laws.Holding.{no_cell}
 
 -- ---- figure 1

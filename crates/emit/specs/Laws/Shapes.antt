@@ -5,8 +5,8 @@ use Rattle.value.specs.Lists.{at}
 use Rattle.format.specs.Syntax.{Proc, Program, Plain, concurrent}
 use Rattle.format.specs.Encode.{table}
 use Rattle.format.specs.Labels.{counts}
-use Rattle.format.specs.Laws.Sound.{Sound}
-use Rattle.format.specs.Laws.TablePlaces.{records_at}
+use Rattle.format.proofs.Laws.Sound.{Sound}
+use Rattle.format.proofs.Laws.TablePlaces.{records_at}
 use Rattle.translation.specs.Placement.{locals_of, start_in, row_of}
 use Rattle.translation.specs.Layout.{Layout, layout_in, sizes_in}
 use Rattle.emit.specs.Laws.Sources.{Sited}

@@ -1,10 +1,10 @@
 -- What the translator promises of code that it reads from the source's table: contracts over what stands there.
 use Rattle.std.specs.Prelude.{◌≡◌, ℕ, ◌+◌, ◌-◌, ◌<◌, ◌≤◌, List, [], ◌∷◌, ◌++◌, length, ◌≢◌, slice_index}
-use Rattle.value.specs.Laws.Lists.{Each}
+use Rattle.value.proofs.Laws.Lists.{Each}
 use Rattle.format.specs.Syntax.{Expr, constant, local, one, two, Instr, assign, write, read, while, if, call, atomic, select, Block, end, step}
 use Rattle.format.specs.Syntax as S
 use Rattle.format.specs.Encode.{expr, block}
-use Rattle.format.specs.Laws.Grammar.{ExprAt, ExprsAt, InstrAt, BlockAt}
+use Rattle.format.proofs.Laws.Grammar.{ExprAt, ExprsAt, InstrAt, BlockAt}
 use Rattle.format.specs.Decode.{max_depth, max_nesting}
 use Rattle.format.specs.Rules.{max_locals}
 use Rattle.basics.specs.BitSets.{bits}

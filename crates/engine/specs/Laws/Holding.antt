@@ -9,13 +9,13 @@ use Rattle.value.specs.Lists.{at, sum}
 use Rattle.value.specs.declared.Value.{Value}
 use Rattle.value.specs.declared.Value.TheVariants.{Whole}
 use Rattle.value.specs.declared.Reason.TheVariants.{WrongKind, IndexOutside}
-use Rattle.value.specs.Laws.Tests.{by_test}
-use Rattle.value.specs.Laws.Lists.{at_set_same, at_set_other, at_replicate, at_after, at_get_d}
+use Rattle.value.proofs.Laws.Tests.{by_test}
+use Rattle.value.proofs.Laws.Lists.{at_set_same, at_set_other, at_replicate, at_after, at_get_d}
 use Rattle.format.specs.Encode.{each}
 use Rattle.semantics.specs.Memory.{Memory, cell, stored, fresh}
 use Rattle.engine.specs.Words.{held, value_in}
 use Rattle.engine.specs.Work.{Puts, flat, Holds, IsCell}
-use Rattle.semantics.specs.Laws.Cells.{shape}
+use Rattle.semantics.proofs.Laws.Cells.{shape}
 
 -- ---- cells in one row
 

@@ -5,17 +5,17 @@ use Rattle.std.proofs.lemmas.List.Edits.{sets}
 use Rattle.std.proofs.Math.Seq.{length-sets, take-nil}
 use Rattle.std.proofs.lemmas.List.{take-append-le}
 use Rattle.value.specs.Values.{bytes, cell_bytes, cell_size}
-use Rattle.value.specs.Laws.Bytes.{length_cell}
+use Rattle.value.proofs.Laws.Bytes.{length_cell}
 use Rattle.basics.specs.Places.{with_value}
 use Rattle.basics.specs.Laws.Places.{sets_append}
-use Rattle.value.specs.Laws.Tests.{by_test}
-use Rattle.value.specs.Laws.Lists.{length_over}
+use Rattle.value.proofs.Laws.Tests.{by_test}
+use Rattle.value.proofs.Laws.Lists.{length_over}
 use Rattle.format.specs.Encode.{each}
-use Rattle.format.specs.Laws.Sections.{length_each}
+use Rattle.format.proofs.Laws.Sections.{length_each}
 use Rattle.semantics.specs.Memory.{Event}
 use Rattle.semantics.specs.Buffers.{way_byte, event_size, event_bytes, log}
 use Rattle.engine.specs.Events.{with_event, Logged}
-use Rattle.semantics.specs.Laws.Called.{length_event, length_log}
+use Rattle.semantics.proofs.Laws.Called.{length_event, length_log}
 use Rattle.engine.specs.Laws.Writing.{each_append, over_more}
 
 -- no events

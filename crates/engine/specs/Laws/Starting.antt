@@ -5,12 +5,12 @@ use Rattle.std.proofs.lemmas.Bool.{eqb-false}
 use Rattle.value.specs.Lists.{sum}
 use Rattle.value.specs.Values.{bytes}
 use Rattle.basics.specs.Places.{number_at}
-use Rattle.value.specs.Laws.Tests.{by_test}
-use Rattle.value.specs.Laws.Lists.{Each}
+use Rattle.value.proofs.Laws.Tests.{by_test}
+use Rattle.value.proofs.Laws.Lists.{Each}
 use Rattle.basics.specs.Laws.Places.{number_at_lem}
 use Rattle.format.specs.Encode.{each}
-use Rattle.format.specs.Laws.Stands as S
-use Rattle.format.specs.Laws.Stands.{Stands}
+use Rattle.format.proofs.Laws.Stands as S
+use Rattle.format.proofs.Laws.Stands.{Stands}
 use Rattle.engine.specs.Work.{most_locations, start_words, sizes_at, Starts}
 
 -- ---- sizes in a table

@@ -16,11 +16,11 @@ use Rattle.value.specs.declared.Reason.TheVariants.{WrongKind}
 use types.Run.{OneOf, miss}
 use denote.Enum.Declared.{tag_of}
 use Rattle.value.specs.contracts.Answer.{the_type}
-use Rattle.value.specs.Laws.Tries.{has_inj, lacking}
-use Rattle.value.specs.Laws.Lists.{at_get_d, length_over}
-use Rattle.value.specs.Laws.Bytes.{length_cell}
+use Rattle.value.proofs.Laws.Tries.{has_inj, lacking}
+use Rattle.value.proofs.Laws.Lists.{at_get_d, length_over}
+use Rattle.value.proofs.Laws.Bytes.{length_cell}
 use Rattle.format.specs.Encode.{each}
-use Rattle.format.specs.Laws.Sections.{length_each}
+use Rattle.format.proofs.Laws.Sections.{length_each}
 use Rattle.semantics.specs.Memory.{Memory}
 use Rattle.semantics.specs.Buffers.{cells}
 use Rattle.engine.specs.Words.{held, value_in}

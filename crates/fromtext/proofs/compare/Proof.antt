@@ -3,7 +3,7 @@ use borrow.Author.Rules.{rules}
 use native.Mathlib.Omega.{arith}
 use Prim.Native.Nat.{◌^◌, ◌<◌}
 use lib.ListN.{length}
-use Rattle.value.specs.Laws.Bytes.{bytes_at}
+use Rattle.value.proofs.Laws.Bytes.{bytes_at}
 use Rattle.fromtext.proofs.Judging.{judge_other, judge_room, judge_writes}
 use Rattle.fromtext.proofs.compare.Statement.{statement}
 use Rattle.fromtext.proofs.compare.Tie as tie

@@ -4,15 +4,15 @@ use Rattle.std.proofs.Common.{zero-add, arith, sym, ap, subst, ◌∙◌, length
 use Rattle.std.proofs.lemmas.List.{length-map}
 use Rattle.value.specs.Maybe.{is}
 use Rattle.value.specs.Lists.{at, upto}
-use Rattle.value.specs.Laws.Maybes.{is_inj, missing}
-use Rattle.value.specs.Laws.Lists.{at_below, at_get_d, In, in_front, in_back, in_either}
-use Rattle.value.specs.Laws.Lists as Lists
+use Rattle.value.proofs.Laws.Maybes.{is_inj, missing}
+use Rattle.value.proofs.Laws.Lists.{at_below, at_get_d, In, in_front, in_back, in_either}
+use Rattle.value.proofs.Laws.Lists as Lists
 use Rattle.format.specs.Syntax.{Expr, Instr, assign, write, read, while, if, call, atomic, select, Block, end, step, ◌⊕◌, Proc, Program}
 use Rattle.format.specs.Encode.{expr, instr, block}
 use Rattle.format.specs.Labels.{count, count_i, counts, label, label_i, labels, labelled, first, end_of, ends_of, body_of, begins}
 use Rattle.labels.specs.Spots.{Spot, here, later, inner, Inner, body, thens, elses, body_at, CodeAt}
 use Rattle.labels.specs.LabelMap.{Node, held, nodes, all_nodes, node_of, next, other}
-use Rattle.format.specs.Laws.Joined.{first_append}
+use Rattle.format.proofs.Laws.Joined.{first_append}
 use Rattle.labels.specs.Laws.Spots.{itself, Remains, none, some, remains_body}
 
 -- ---- lists of labels

@@ -3,17 +3,17 @@ use Rattle.std.specs.Prelude.{ℕ, zero, suc, ◌+◌, ◌≤◌, ◌<◌, ◌�
 use Rattle.std.proofs.Common.{arith, sym, ap, subst, ◌∙◌, length-append, ltb-true, ltb-false}
 use Rattle.value.specs.Maybe.{is}
 use Rattle.value.specs.Lists.{at}
-use Rattle.value.specs.Laws.Maybes.{is_inj, missing}
-use Rattle.value.specs.Laws.Tests.{both_passed, by_test}
+use Rattle.value.proofs.Laws.Maybes.{is_inj, missing}
+use Rattle.value.proofs.Laws.Tests.{both_passed, by_test}
 use Rattle.format.specs.Syntax.{Expr, Instr, assign, write, read, while, if, call, atomic, select, Block, end, step, ◌⊕◌, Proc, Program, Plain}
 use Rattle.format.specs.Encode.{expr, instr, block, each, bodies_of}
 use Rattle.format.specs.Labels.{count, label, labels}
 use Rattle.format.specs.Rules.{Here, plainly, allowed, allowed_i}
 use Rattle.labels.specs.Spots.{Spot, here, later, inner, Inner, body, thens, elses, body_at, CodeAt}
-use Rattle.format.specs.Laws.Names.{Names, NamesI}
-use Rattle.format.specs.Laws.Depths.{nesting, nesting_i, ExprsRight, ExprsRightI}
-use Rattle.format.specs.Laws.Stands.{Stands, first, others, front, back}
-use Rattle.format.specs.Laws.Labelled.{block_label}
+use Rattle.format.proofs.Laws.Names.{Names, NamesI}
+use Rattle.format.proofs.Laws.Depths.{nesting, nesting_i, ExprsRight, ExprsRightI}
+use Rattle.format.proofs.Laws.Stands.{Stands, first, others, front, back}
+use Rattle.format.proofs.Laws.Labelled.{block_label}
 
 -- ---- from one spot to the next
 

@@ -3,9 +3,9 @@ use Rattle.std.specs.Prelude.{ℕ, zero, suc, ◌+◌, ◌≡◌, refl, List, []
 use Rattle.std.proofs.Common.{arith, subst, ◌∙◌}
 use Rattle.value.specs.Maybe.{is, both}
 use Rattle.value.specs.Lists.{at}
-use Rattle.value.specs.Laws.Maybes.{is_inj, missing}
-use Rattle.value.specs.Laws.Tests.{both_passed}
-use Rattle.value.specs.Laws.Lists.{Each}
+use Rattle.value.proofs.Laws.Maybes.{is_inj, missing}
+use Rattle.value.proofs.Laws.Tests.{both_passed}
+use Rattle.value.proofs.Laws.Lists.{Each}
 use Rattle.format.specs.Syntax.{Instr, Block, Proc, Program, Plain, Kind}
 use Rattle.format.specs.Encode.{each, block, bodies_of}
 use Rattle.format.specs.Labels.{count, labels, labelled}
@@ -13,13 +13,13 @@ use Rattle.format.specs.Rules.{in_expr, named, named_i}
 use Rattle.labels.specs.Spots.{body_at, CodeAt}
 use Rattle.labels.specs.LabelMap.{Node, node_of}
 use Rattle.labels.specs.Walks.{BodiesAt, BodiesIn}
-use Rattle.format.specs.Laws.Fits.{BlockFits, InstrFits}
-use Rattle.format.specs.Laws.Formed.{Formed}
-use Rattle.format.specs.Laws.Grammar.{BlockAt}
-use Rattle.format.specs.Laws.Stands.{Stands}
-use Rattle.format.specs.Laws.TablePlaces.{records_at, all_bodies}
-use Rattle.format.specs.Laws.TablePlaces as Table
-use Rattle.format.specs.Laws.Labelled.{fits_label}
+use Rattle.format.proofs.Laws.Fits.{BlockFits, InstrFits}
+use Rattle.format.proofs.Laws.Formed.{Formed}
+use Rattle.format.proofs.Laws.Grammar.{BlockAt}
+use Rattle.format.proofs.Laws.Stands.{Stands}
+use Rattle.format.proofs.Laws.TablePlaces.{records_at, all_bodies}
+use Rattle.format.proofs.Laws.TablePlaces as Table
+use Rattle.format.proofs.Laws.Labelled.{fits_label}
 use Rattle.format.specs.Decode.{max_nesting}
 use Rattle.labels.specs.Laws.Spots.{Inherited, spot_has, bodies_labels, code_stands}
 use Rattle.labels.specs.Laws.LabelMap.{node_of_lem}

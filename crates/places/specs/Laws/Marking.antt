@@ -7,15 +7,15 @@ use Rattle.std.proofs.Math.ListN.{length, length-set}
 use Rattle.std.proofs.Math.Seq.{get_or-set_same}
 use borrow.Author.Tests.{eqb-true, eqb-false, ltb-true, lt-ltb, le-ltb}
 use Rattle.value.specs.Maybe.{pick}
-use Rattle.value.specs.Laws.Tests.{by_test}
-use Rattle.value.specs.Laws.Lists.{In, here, there}
+use Rattle.value.proofs.Laws.Tests.{by_test}
+use Rattle.value.proofs.Laws.Lists.{In, here, there}
 use Rattle.format.specs.Syntax.{Program, Plain, concurrent}
 use Rattle.format.specs.Encode.{record_size}
 use Rattle.format.specs.Rules.{limits, callees_of}
-use Rattle.format.specs.Laws.Accepted.{sound_formed}
-use Rattle.format.specs.Laws.Calls.{Calls}
-use Rattle.format.specs.Laws.Names.{all_names?}
-use Rattle.format.specs.Laws.TablePlaces.{body_at}
+use Rattle.format.proofs.Laws.Accepted.{sound_formed}
+use Rattle.format.proofs.Laws.Calls.{Calls}
+use Rattle.format.proofs.Laws.Names.{all_names?}
+use Rattle.format.proofs.Laws.TablePlaces.{body_at}
 use Rattle.scan.specs.declared.tokens.Token.{Token}
 use Rattle.scan.specs.declared.tokens.Token.TheVariants as T
 use Rattle.scan.specs.Tokens.{four_at, token_at, size_at, tokens}

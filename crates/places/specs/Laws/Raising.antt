@@ -6,18 +6,18 @@ use Rattle.std.proofs.lemmas.Bool.{eqb-false}
 use Rattle.std.specs.Int.{w16}
 use Rattle.value.specs.Maybe.{pick}
 use Rattle.value.specs.Lists.{at, upto}
-use Rattle.value.specs.Laws.Tests.{by_test}
+use Rattle.value.proofs.Laws.Tests.{by_test}
 use Rattle.format.specs.Syntax.{Proc, Program, Plain, concurrent}
 use Rattle.format.specs.Encode.{record_size}
 use Rattle.format.specs.Rules.{limits, max_locals}
-use Rattle.format.specs.Laws.Calls.{Calls, calls_below}
+use Rattle.format.proofs.Laws.Calls.{Calls, calls_below}
 use Rattle.translation.specs.declared.Mode.TheVariants.{Own, Shared}
 use Rattle.translation.specs.Placement.{locals_of, before, locals_at, by_rounds, shared, row_length}
-use Rattle.translation.specs.Laws.Procs.{before_most}
-use Rattle.translation.specs.Laws.Placing.Largest.{largest_is, upto_in}
-use Rattle.translation.specs.Laws.Placing.Rounds.{shared_after}
-use Rattle.translation.specs.Laws.Placing.Passes.{Between, between_pass, between_end}
-use Rattle.translation.specs.Laws.Placing.Shortest.{in_row, shared_shorter}
+use Rattle.translation.proofs.Laws.Procs.{before_most}
+use Rattle.translation.proofs.Laws.Placing.Largest.{largest_is, upto_in}
+use Rattle.translation.proofs.Laws.Placing.Rounds.{shared_after}
+use Rattle.translation.proofs.Laws.Placing.Passes.{Between, between_pass, between_end}
+use Rattle.translation.proofs.Laws.Placing.Shortest.{in_row, shared_shorter}
 use Rattle.scan.specs.Laws.Laid.{proc_at_lem, locals_at_lem}
 use Rattle.scan.specs.Laws.CallEnds.{calls_there_lem}
 use Rattle.places.specs.Placed.{Of, Source, PlacesOf}

@@ -12,9 +12,9 @@ use Rattle.value.specs.Lists.{all}
 use Rattle.value.specs.Values.{One, not, neg, Two, add, sub, mul, less, equal, and, bytes, word}
 use Rattle.value.specs.Marks.{mark₁, mark₂, no_expr, marks}
 use Rattle.basics.specs.Columns.{row_of, operands_of, payload_of}
-use Rattle.value.specs.Laws.Lists.{Each}
-use Rattle.value.specs.Laws.Tests.{either_passed}
-use Rattle.value.specs.Laws.Tables.{looked_up}
+use Rattle.value.proofs.Laws.Lists.{Each}
+use Rattle.value.proofs.Laws.Tests.{either_passed}
+use Rattle.value.proofs.Laws.Tables.{looked_up}
 use Rattle.value.specs.declared.Value.TheVariants.{Whole, Location, Truth}
 use Rattle.parse.specs.declared.Ends.{Ends}
 use Rattle.parse.specs.declared.Ends.TheVariants.{At, Nothing}
@@ -24,10 +24,10 @@ use Rattle.format.specs.Encode as E
 use Rattle.format.specs.Rules.{Known, known}
 use Rattle.basics.specs.BitSets.{bits}
 use Rattle.reader.specs.Laws.BitSets.{has_bit, no_bit}
-use Rattle.format.specs.Laws.Depths.{depth}
-use Rattle.format.specs.Laws.Fits.{ExprFits}
-use Rattle.format.specs.Laws.Stands.{Stands, first, others, back, join}
-use Rattle.format.specs.Laws.ExprGrammar.{ExprAt, ExprsAt, exprs_none_lem, exprs_more, expr_inside}
+use Rattle.format.proofs.Laws.Depths.{depth}
+use Rattle.format.proofs.Laws.Fits.{ExprFits}
+use Rattle.format.proofs.Laws.Stands.{Stands, first, others, back, join}
+use Rattle.format.proofs.Laws.ExprGrammar.{ExprAt, ExprsAt, exprs_none_lem, exprs_more, expr_inside}
 use Rattle.format.specs.Decode.{max_depth}
 use Rattle.scan.specs.Laws.Tokens.{shift}
 use Rattle.scan.specs.Laws.NameScans.{both_both, both_true}

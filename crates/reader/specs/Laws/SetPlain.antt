@@ -3,7 +3,7 @@ use Rattle.std.specs.Prelude.{ℕ, ◌+◌, ◌≤◌, ◌<◌, ◌≡◌, refl,
 use Rattle.std.proofs.Common.{arith, sym, ap, ◌∙◌}
 use Rattle.value.specs.Maybe.{Maybe, is, nothing, ◌>>=◌, when, pick}
 use Rattle.value.specs.Lists.{all}
-use Rattle.value.specs.Laws.Maybes.{is_inj, missing}
+use Rattle.value.proofs.Laws.Maybes.{is_inj, missing}
 use Rattle.parse.specs.declared.Ends.{Ends}
 use Rattle.parse.specs.declared.Ends.TheVariants.{At, Nothing}
 use Rattle.reader.specs.declared.set.After.{After}
@@ -13,10 +13,10 @@ use Rattle.format.specs.Rules.{Known, with, known, after_i, after}
 use Rattle.basics.specs.BitSets.{bits}
 use Rattle.reader.specs.BitSets.{insert}
 use Rattle.reader.specs.Laws.BitSets.{bits_insert}
-use Rattle.format.specs.Laws.Names.{Names, NamesI}
-use Rattle.format.specs.Laws.Stands.{first}
-use Rattle.format.specs.Laws.Grammar.{ExprsAt, InstrAt, BlockAt, AssignAt, WriteAt, ReadAt, CallAt, SelectAt}
-use Rattle.format.specs.Laws.Grammar.{assign_here, write_here, read_here, call_here, select_here}
+use Rattle.format.proofs.Laws.Names.{Names, NamesI}
+use Rattle.format.proofs.Laws.Stands.{first}
+use Rattle.format.proofs.Laws.Grammar.{ExprsAt, InstrAt, BlockAt, AssignAt, WriteAt, ReadAt, CallAt, SelectAt}
+use Rattle.format.proofs.Laws.Grammar.{assign_here, write_here, read_here, call_here, select_here}
 use Rattle.scan.specs.Laws.NameScans.{both_true}
 use Rattle.reader.specs.Laws.KnownScans.{Knows, alone, pair}
 

@@ -16,10 +16,10 @@ use Rattle.scan.specs.Tokens.{four_at}
 use Rattle.basics.specs.BitSets.{bits}
 use Rattle.reader.specs.BitSets.{below}
 use Rattle.reader.specs.Laws.BitSets.{set_bit, far_bit, low_bits, no_bits, some_bit, bits_both, bits_below}
-use Rattle.format.specs.Laws.Names.{Names, NamesI}
-use Rattle.format.specs.Laws.Grammar.{BlockAt, WhileAt, IfAt, AtomicAt, StepAt, while_here, if_here, atomic_here}
-use Rattle.format.specs.Laws.Grammar.{end_here, step_here, block_inside, block_deep}
-use Rattle.format.specs.Laws.TablePlaces.{body_at}
+use Rattle.format.proofs.Laws.Names.{Names, NamesI}
+use Rattle.format.proofs.Laws.Grammar.{BlockAt, WhileAt, IfAt, AtomicAt, StepAt, while_here, if_here, atomic_here}
+use Rattle.format.proofs.Laws.Grammar.{end_here, step_here, block_inside, block_deep}
+use Rattle.format.proofs.Laws.TablePlaces.{body_at}
 use Rattle.format.specs.Decode.{max_nesting}
 use Rattle.format.specs.Encode.{record_size}
 use Rattle.scan.specs.Laws.Laid.{Laid, Named, ProcNamed, proc_named_lem, Judges, proc_of, params_at, start_at, body_here}

@@ -3,8 +3,8 @@ use Rattle.std.specs.Prelude.{ℕ, ◌+◌, ◌*◌, ◌≤◌, ◌≡◌, List,
 use Rattle.format.specs.Syntax.{Expr, Instr, Block, Plain}
 use Rattle.format.specs.Encode.{expr, instr, block}
 use Rattle.format.specs.Decode.{max_depth}
-use Rattle.ctext.specs.Laws.ExprText.{ExprText}
-use Rattle.ctext.specs.Laws.LineText.{InstrText, BlockText, IfIn}
+use Rattle.ctext.proofs.Laws.ExprText.{ExprText}
+use Rattle.ctext.proofs.Laws.LineText.{InstrText, BlockText, IfIn}
 use Rattle.retable.specs.Laws.Exprs.{Parses}
 use Rattle.retable.specs.declared.exprs.Parsed.{Parsed}
 

@@ -5,10 +5,10 @@ use Rattle.value.specs.Values.{bytes, word}
 use Rattle.basics.specs.Columns.{operands_of}
 use Rattle.format.specs.Syntax.{Expr}
 use Rattle.format.specs.Encode.{expr}
-use Rattle.format.specs.Laws.Stands.{Stands}
+use Rattle.format.proofs.Laws.Stands.{Stands}
 use Rattle.ctext.specs.Pieces.{decimal, whole}
-use Rattle.ctext.specs.Laws.Numbers.{Stops}
-use Rattle.ctext.specs.Laws.ExprText.{key_at, ExprText}
+use Rattle.ctext.proofs.Laws.Numbers.{Stops}
+use Rattle.ctext.proofs.Laws.ExprText.{key_at, ExprText}
 use Rattle.writer.specs.Laws.Put.{Put}
 use Rattle.retable.specs.declared.exprs.Parsed.{Parsed}
 

@@ -2,15 +2,15 @@
 use Rattle.std.specs.Prelude.{ℕ, ◌+◌, ◌^◌, ◌≤◌, ◌<◌, ◌≡◌, List, length}
 use Rattle.value.specs.Values.{bytes}
 use Rattle.value.specs.Lists.{upto}
-use Rattle.value.specs.Laws.Lists.{Each}
+use Rattle.value.proofs.Laws.Lists.{Each}
 use Rattle.format.specs.Syntax.{Proc, Plain, sequential}
 use Rattle.format.specs.Encode.{each}
 use Rattle.format.specs.Rules.{limits}
-use Rattle.format.specs.Laws.Stands.{Stands}
+use Rattle.format.proofs.Laws.Stands.{Stands}
 use Rattle.ctext.specs.Text.{numbered, area, argument}
-use Rattle.ctext.specs.Laws.ArgText.{NumberText}
-use Rattle.ctext.specs.Laws.FrameText.{LocationsText, ParamsText, MoreParams, DeclarationsText}
-use Rattle.ctext.specs.Laws.DefinitionText.{UnsetsText, DefinitionIn}
+use Rattle.ctext.proofs.Laws.ArgText.{NumberText}
+use Rattle.ctext.proofs.Laws.FrameText.{LocationsText, ParamsText, MoreParams, DeclarationsText}
+use Rattle.ctext.proofs.Laws.DefinitionText.{UnsetsText, DefinitionIn}
 use Rattle.writer.specs.Laws.Put.{Put}
 use Rattle.retable.specs.Laws.Exprs.{Parses}
 use Rattle.retable.specs.declared.exprs.Parsed.{Parsed}

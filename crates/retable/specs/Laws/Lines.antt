@@ -3,9 +3,9 @@ use Rattle.std.specs.Prelude.{ℕ, ◌+◌, ◌^◌, ◌<◌, ◌≡◌, List, �
 use Rattle.format.specs.Syntax.{Expr, Instr, Plain}
 use Rattle.format.specs.Encode.{expr, each, instr}
 use Rattle.format.specs.Decode.{max_depth}
-use Rattle.ctext.specs.Laws.ExprText.{ExprText}
-use Rattle.ctext.specs.Laws.ArgText.{NumberText, ArgsText, MoreText}
-use Rattle.ctext.specs.Laws.LineText.{InstrText, TargetIn, WriteIn, CallIn, SelectIn}
+use Rattle.ctext.proofs.Laws.ExprText.{ExprText}
+use Rattle.ctext.proofs.Laws.ArgText.{NumberText, ArgsText, MoreText}
+use Rattle.ctext.proofs.Laws.LineText.{InstrText, TargetIn, WriteIn, CallIn, SelectIn}
 use Rattle.writer.specs.Laws.Put.{Put}
 use Rattle.retable.specs.Laws.Exprs.{Parses}
 use Rattle.retable.specs.declared.exprs.Parsed.{Parsed}

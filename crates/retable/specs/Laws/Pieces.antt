@@ -1,8 +1,8 @@
 -- What is promised of places and numbers in a text.
 use Rattle.std.specs.Prelude.{ℕ, ◌+◌, ◌^◌, ◌≤◌, ◌<◌, ◌≡◌, List, length}
-use Rattle.format.specs.Laws.Stands.{Stands}
+use Rattle.format.proofs.Laws.Stands.{Stands}
 use Rattle.ctext.specs.Pieces.{decimal}
-use Rattle.ctext.specs.Laws.Numbers.{Stops}
+use Rattle.ctext.proofs.Laws.Numbers.{Stops}
 use Rattle.retable.specs.declared.pieces.Numbered.{Numbered}
 
 -- n bytes further, inside the text

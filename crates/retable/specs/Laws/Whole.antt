@@ -1,16 +1,16 @@
 -- What is promised of definitions and of a whole text.
 use Rattle.std.specs.Prelude.{ℕ, ◌+◌, ◌≤◌, ◌≡◌, List, ◌∷◌, ◌++◌, length}
 use Rattle.value.specs.Values.{bytes}
-use Rattle.value.specs.Laws.Lists.{Each}
+use Rattle.value.proofs.Laws.Lists.{Each}
 use Rattle.format.specs.Syntax.{Proc, Program, Plain, sequential}
 use Rattle.format.specs.Encode.{block, each, head, heads, bodies_of, trailer, distance, table, form_mark, kind_mark}
-use Rattle.format.specs.Laws.Sound.{Sound}
-use Rattle.format.specs.Laws.Stands.{Stands}
+use Rattle.format.proofs.Laws.Sound.{Sound}
+use Rattle.format.proofs.Laws.Stands.{Stands}
 use Rattle.format.specs.Rules.{limits}
 use Rattle.basics.specs.Sizes.{too_long}
 use Rattle.ctext.specs.Text.{text}
-use Rattle.ctext.specs.Laws.FrameText.{LocationsText}
-use Rattle.ctext.specs.Laws.DefinitionText.{DefinitionsText, DefinitionIn}
+use Rattle.ctext.proofs.Laws.FrameText.{LocationsText}
+use Rattle.ctext.proofs.Laws.DefinitionText.{DefinitionsText, DefinitionIn}
 use Rattle.writer.specs.Laws.Put.{Put}
 use Rattle.retable.specs.Laws.Frames.{Few}
 use Rattle.retable.specs.declared.whole.Defined.{Defined}

@@ -1,16 +1,16 @@
 -- Rule 7: procedures from which each row of calls comes to an end, as the search finds them out.
 use Rattle.std.specs.Prelude.{ℕ, zero, suc, ◌+◌, ◌-◌, ◌<◌, ◌≡◌, refl, List, [], ◌∷◌, ◌++◌, length, get_or}
 use Rattle.std.proofs.Common.{arith, sym, ap, subst, ◌∙◌, append_assoc}
-use Rattle.value.specs.Laws.Lists.{In, here, there, in_front, in_back, in_either, each_in, Each, each_append, at_below}
+use Rattle.value.proofs.Laws.Lists.{In, here, there, in_front, in_back, in_either, each_in, Each, each_append, at_below}
 use Rattle.scan.specs.declared.tokens.Token.{Token}
 use Rattle.scan.specs.declared.tokens.Token.TheVariants as T
 use Rattle.format.specs.Syntax.{Instr, assign, write, read, while, if, call, atomic, select}
 use Rattle.format.specs.Syntax.{Block, end, step, Proc, Program, Plain}
 use Rattle.format.specs.Rules.{callees, callees_i, callees_of}
-use Rattle.format.specs.Laws.Procs.{takes_at}
-use Rattle.format.specs.Laws.Names.{Names, NamesI}
-use Rattle.format.specs.Laws.TablePlaces.{body_at}
-use Rattle.format.specs.Laws.Calls.{Calls, Reaches, direct, onward, calls_below}
+use Rattle.format.proofs.Laws.Procs.{takes_at}
+use Rattle.format.proofs.Laws.Names.{Names, NamesI}
+use Rattle.format.proofs.Laws.TablePlaces.{body_at}
+use Rattle.format.proofs.Laws.Calls.{Calls, Reaches, direct, onward, calls_below}
 use Rattle.scan.specs.Tokens.{token_at, size_at}
 use Rattle.scan.specs.Laws.Tokens.{Row}
 use Rattle.scan.specs.Laws.Scans.{next_token, no_token}

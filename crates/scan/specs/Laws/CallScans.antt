@@ -5,8 +5,8 @@ use Rattle.std.proofs.Math.Path.{refl}
 use Rattle.std.proofs.Math.Bool as B
 use borrow.Author.Tests.{not-false, eqb-true, ltb-true, lt-ltb, le-ltb}
 use Rattle.value.specs.Maybe.{pick}
-use Rattle.value.specs.Laws.Tests.{by_test, never}
-use Rattle.value.specs.Laws.Lists.{Each, each_append}
+use Rattle.value.proofs.Laws.Tests.{by_test, never}
+use Rattle.value.proofs.Laws.Lists.{Each, each_append}
 use Rattle.scan.specs.declared.tokens.Token.{Token}
 use Rattle.scan.specs.declared.tokens.Token.TheVariants as T
 use Rattle.format.specs.Syntax.{Expr, constant, local, one, two, Instr, assign, write, read, while, if, call, atomic, select, sequential}

@@ -5,16 +5,16 @@ use Rattle.std.proofs.Common.{sym, ap, subst, ◌∙◌, below_more, eqb-true, l
 use Rattle.std.proofs.lemmas.Bool.{eqb-false}
 use Rattle.std.specs.Int.{w64}
 use Rattle.value.specs.Maybe.{pick}
-use Rattle.value.specs.Laws.Tests.{by_test}
-use Rattle.value.specs.Laws.Lists.{here}
+use Rattle.value.proofs.Laws.Tests.{by_test}
+use Rattle.value.proofs.Laws.Lists.{here}
 use Rattle.scan.specs.declared.tokens.Token.{Token}
 use Rattle.scan.specs.declared.tokens.Token.TheVariants as T
 use Rattle.format.specs.Syntax.{sequential}
 use Rattle.format.specs.Syntax.{Program, Plain}
 use Rattle.format.specs.Rules.{no_cycle, limits}
 use Rattle.format.specs.Encode.{record_size}
-use Rattle.format.specs.Laws.TablePlaces.{body_at}
-use Rattle.format.specs.Laws.Calls.{Calls, Reaches, no_cycle?}
+use Rattle.format.proofs.Laws.TablePlaces.{body_at}
+use Rattle.format.proofs.Laws.Calls.{Calls, Reaches, no_cycle?}
 use Rattle.scan.specs.Tokens.{four_at, token_at, tokens}
 use Rattle.scan.specs.Laws.Laid.{Named, Room, Judges, proc_of, start_at, body_row, BodyEnds}
 use Rattle.scan.specs.Laws.CallScans.{block_calls, NextCall, on_is_call, on_not_left}

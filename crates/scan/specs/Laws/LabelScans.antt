@@ -1,7 +1,7 @@
 -- Rule 6, as the code counts: labels token by token.
 use Rattle.std.specs.Prelude.{ℕ, zero, suc, ◌+◌, ◌-◌, ◌≤◌, ◌<◌, ◌≡◌, refl, List, [], ◌∷◌, ◌++◌, length}
 use Rattle.std.proofs.Common.{arith, ap, subst, ◌∙◌, append_assoc}
-use Rattle.value.specs.Laws.Lists.{Each}
+use Rattle.value.proofs.Laws.Lists.{Each}
 use Rattle.value.specs.declared.Value.TheVariants.{Whole, Location, Truth}
 use Rattle.scan.specs.declared.tokens.Token.{Token}
 use Rattle.scan.specs.declared.tokens.Token.TheVariants as T
@@ -10,11 +10,11 @@ use Rattle.format.specs.Syntax.{Block, end, step, Proc, Program, Plain}
 use Rattle.format.specs.Encode.{each, block, bodies_of}
 use Rattle.format.specs.Labels.{count, count_i, counts}
 use Rattle.scan.specs.Tokens.{token_at, size_at, tokens_e, tokens_es, tokens_i, tokens}
-use Rattle.format.specs.Laws.Fits.{BlockFits}
-use Rattle.format.specs.Laws.Stands.{Stands, front, back}
+use Rattle.format.proofs.Laws.Fits.{BlockFits}
+use Rattle.format.proofs.Laws.Stands.{Stands, front, back}
 use Rattle.scan.specs.Laws.Tokens.{Row, done, row, row_append, size_pos, token_falls}
 use Rattle.scan.specs.Laws.Scans.{Scans, From, from_start, from_next, from_end}
-use Rattle.format.specs.Laws.TablePlaces.{records_at, all_bodies}
+use Rattle.format.proofs.Laws.TablePlaces.{records_at, all_bodies}
 use Rattle.format.specs.Decode.{max_nesting}
 use Rattle.scan.specs.Laws.Laid.{Laid}
 

@@ -4,22 +4,22 @@ use Rattle.std.proofs.Common.{arith, sym, ap, subst, ◌∙◌, below_more, leng
 use Rattle.value.specs.Maybe.{is}
 use Rattle.value.specs.Values.{bytes}
 use Rattle.value.specs.Lists.{at, all}
-use Rattle.value.specs.Laws.Tests.{by_test}
-use Rattle.value.specs.Laws.Maybes.{is_inj, missing}
-use Rattle.value.specs.Laws.Lists.{each_at, at_get_d}
+use Rattle.value.proofs.Laws.Tests.{by_test}
+use Rattle.value.proofs.Laws.Maybes.{is_inj, missing}
+use Rattle.value.proofs.Laws.Lists.{each_at, at_get_d}
 use Rattle.format.specs.Syntax.{end, Proc, Program, Plain, Kind, concurrent, sequential}
 use Rattle.format.specs.Encode.{each, block, bodies_of, table, record_size}
 use Rattle.scan.specs.Tokens.{four_at, tokens}
-use Rattle.format.specs.Laws.Fits.{BlockFits}
-use Rattle.format.specs.Laws.Formed.{Formed}
+use Rattle.format.proofs.Laws.Fits.{BlockFits}
+use Rattle.format.proofs.Laws.Formed.{Formed}
 use Rattle.format.specs.Rules.{limits, all_named}
-use Rattle.format.specs.Laws.Names.{Names, all_names?}
-use Rattle.format.specs.Laws.Passes.{at_most}
-use Rattle.format.specs.Laws.Sound.{LocalsRight}
-use Rattle.format.specs.Laws.Grammar.{BlockAt}
-use Rattle.format.specs.Laws.Stands.{Stands, first, others, four_bytes}
-use Rattle.format.specs.Laws.Procs.{body_at_lem}
-use Rattle.format.specs.Laws.TablePlaces.{body_at, records_at, body_stands, record_stands}
+use Rattle.format.proofs.Laws.Names.{Names, all_names?}
+use Rattle.format.proofs.Laws.Passes.{at_most}
+use Rattle.format.proofs.Laws.Sound.{LocalsRight}
+use Rattle.format.proofs.Laws.Grammar.{BlockAt}
+use Rattle.format.proofs.Laws.Stands.{Stands, first, others, four_bytes}
+use Rattle.format.proofs.Laws.Procs.{body_at_lem}
+use Rattle.format.proofs.Laws.TablePlaces.{body_at, records_at, body_stands, record_stands}
 use Rattle.format.specs.Decode.{max_nesting}
 use Rattle.scan.specs.Laws.Tokens.{Row, row, shift}
 

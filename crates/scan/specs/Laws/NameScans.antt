@@ -6,7 +6,7 @@ use Rattle.std.proofs.Math.Bool as B
 use borrow.Author.Tests.{lt-ltb, le-ltb, ltb-true, ltb-false, not-true, not-false}
 use Rattle.value.specs.Maybe.{both}
 use Rattle.value.specs.Lists.{all}
-use Rattle.value.specs.Laws.Tests.{by_test}
+use Rattle.value.proofs.Laws.Tests.{by_test}
 use Rattle.value.specs.declared.Value.TheVariants.{Whole, Location, Truth}
 use Rattle.scan.specs.declared.tokens.Token.{Token}
 use Rattle.scan.specs.declared.tokens.Token.TheVariants as T
@@ -16,7 +16,7 @@ use Rattle.format.specs.Rules.{in_expr, takes, named, named_i, all_named}
 use Rattle.scan.specs.Tokens.{four_at, token_at, size_at, tokens_e, tokens_es, tokens_i, tokens}
 use Rattle.scan.specs.Laws.Tokens.{Row, token_falls}
 use Rattle.scan.specs.Laws.Scans.{Scans, From, from_start, from_next, from_stop, from_end}
-use Rattle.format.specs.Laws.TablePlaces.{body_at}
+use Rattle.format.proofs.Laws.TablePlaces.{body_at}
 use Rattle.format.specs.Encode.{record_size}
 use Rattle.scan.specs.Laws.Laid.{Laid, Judges, proc_of, params_at, locals_at_lem, start_at, body_row, BodyEnds}
 use Rattle.scan.specs.Laws.Laid.{Passed, none_passed, one_passed, passed_all, failed_one}

@@ -4,20 +4,20 @@ use native.Mathlib.Omega.{arith}
 use Rattle.std.specs.Prelude.{◌≡◌, refl, List, [], ◌∷◌, ◌++◌, true, false, length, get_or, ltb, leb}
 use Rattle.std.proofs.Common.{sym, ap, ap₂, subst}
 use borrow.Author.Tests.{ne_eqb, ltb-true, leb-true, lt-ltb, le-ltb}
-use Rattle.value.specs.Laws.Tests.{by_test}
-use Rattle.value.specs.Laws.Tables.{looked_up}
+use Rattle.value.proofs.Laws.Tests.{by_test}
+use Rattle.value.proofs.Laws.Tables.{looked_up}
 use Rattle.scan.specs.declared.tokens.Token.{Token}
 use Rattle.scan.specs.declared.tokens.Token.TheVariants as T
 use Rattle.value.specs.Values.{bytes, word, One, not, neg, Two, add, sub, mul, less, equal, and}
-use Rattle.value.specs.Laws.Lists.{Each, each_at, at_get_d, all_passed}
+use Rattle.value.proofs.Laws.Lists.{Each, each_at, at_get_d, all_passed}
 use Rattle.value.specs.Marks.{mark₁, mark₂}
 use Rattle.value.specs.declared.Value.TheVariants.{Whole, Location, Truth}
 use Rattle.format.specs.Syntax.{Expr, constant, local, one, two, Instr, assign, write, read, while, if, call, atomic, select, Block, end, step}
 use Rattle.format.specs.Encode.{each}
 use Rattle.format.specs.Encode as E
 use Rattle.scan.specs.Tokens.{two_at, token_of, token_at, sizes, size_of, size_at, tokens_e, tokens_es, tokens_i, tokens}
-use Rattle.format.specs.Laws.Fits.{NumbersFit, ExprFits, Says, SaysI}
-use Rattle.format.specs.Laws.Stands.{Stands, first, others, front, back, two_bytes}
+use Rattle.format.proofs.Laws.Fits.{NumbersFit, ExprFits, Says, SaysI}
+use Rattle.format.proofs.Laws.Stands.{Stands, first, others, front, back, two_bytes}
 use Rattle.format.specs.Decode.{max_depth}
 
 -- ---- one token, by its mark

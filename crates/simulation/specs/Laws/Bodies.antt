@@ -2,13 +2,13 @@
 use Rattle.std.specs.Prelude.{ℕ, ◌+◌, ◌*◌, ◌≤◌, ◌<◌, ◌≡◌, List, length, get_or, take}
 use Rattle.value.specs.Maybe.{is}
 use Rattle.value.specs.Lists.{at}
-use Rattle.value.specs.Laws.Lists.{Each}
+use Rattle.value.proofs.Laws.Lists.{Each}
 use Rattle.format.specs.Syntax.{Expr, Instr, assign, write, read, while, if, call, atomic, select, Block, end, step, Proc, Program, concurrent}
 use Rattle.format.specs.Syntax as S
 use Rattle.format.specs.Encode.{block, each, bodies_of}
 use Rattle.format.specs.Labels.{first, counts}
 use Rattle.labels.specs.LabelMap.{Node, Mapped, node_of}
-use Rattle.format.specs.Laws.Grammar.{InstrAt}
+use Rattle.format.proofs.Laws.Grammar.{InstrAt}
 use Rattle.format.specs.Decode.{max_nesting}
 use Rattle.format.specs.Rules.{limits, max_labels}
 use Rattle.translation.specs.Layout.{Layout, layout_in, locals_of}

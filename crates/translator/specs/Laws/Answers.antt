@@ -6,7 +6,7 @@ use Rattle.format.specs.Rules.{accepted, verdict, limits, max_labels}
 use Rattle.format.specs.Calls.{read_as}
 use Rattle.labels.specs.Walks.{BodiesIn}
 use Rattle.format.specs.declared.ReadAnswer.{ReadAnswer}
-use Rattle.format.specs.Laws.Sound.{Sound}
+use Rattle.format.proofs.Laws.Sound.{Sound}
 use Rattle.translation.specs.Translate.{translate_in}
 use Rattle.translation.specs.Calls.{Written, writes_table}
 use Rattle.emit.specs.Laws.Shapes.{Shaped}

@@ -4,7 +4,7 @@ use Rattle.frame.proofs.Heading.{head_ways}
 use Prim.Native.Nat.{◌-◌}
 use Rattle.value.specs.Lists.{upto}
 use Rattle.format.specs.Encode.{each}
-use Rattle.ctext.specs.Laws.FrameText.{another}
+use Rattle.ctext.proofs.Laws.FrameText.{another}
 use Rattle.typeset.specs.Page.{Onto}
 use Rattle.frame.proofs.heads.put_others.Statement.{statement}
 use Rattle.frame.proofs.heads.put_others.Tie as tie
