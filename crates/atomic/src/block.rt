@@ -12,7 +12,7 @@ use labels::count::count_block;
 use value::Reason;
 
 // How a block or an instruction goes: where it ends and how many events there are then, or why it blocks.
-#[derive(Drop)]
+#[derive(Clone, Copy)]
 pub enum Done {
     To { next: usize, events: usize },
     Blocked(Reason),

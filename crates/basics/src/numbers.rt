@@ -8,7 +8,7 @@ pub const DEPTH: u8 = 16;
 pub const NESTING: u8 = 16;
 
 // The bounds of numbers 2 and 3. Threads: not fewer than `fewest` and not more than `threads`.
-#[derive(Drop)]
+#[derive(Clone, Copy)]
 pub struct Limits {
     pub bytes: usize,
     pub procedures: u16,

@@ -1,5 +1,7 @@
 // The round-robin bench: tries the allotments of steps to threads in rising order, and answers the first whose run blocks. May use
 // `allotments`, `reader`, `concurrent` and what those use. Its call is for users; read it first, then src/search.rt and src/trial.rt.
+#![tactic(auto)]
+
 mod counts;
 mod search;
 mod trial;

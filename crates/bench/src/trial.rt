@@ -101,7 +101,7 @@ fn play(
 }
 
 // What trying an allotment comes to: it blocks, or the search goes on with this number.
-#[derive(Drop)]
+#[derive(Clone, Copy)]
 pub enum Tried {
     Blocks(u64),
     Goes(u64),

@@ -16,6 +16,8 @@
 //
 // What can be called: the calls below by 1 to 12, and the greeting by 90 (hexadecimal 5A, far from the calls that may still come). A
 // greeting's line has the version of requests and lines, so that the command `zaru` does not read the lines of another program.
+#![tactic(auto)]
+
 mod buffers;
 mod print;
 
@@ -75,7 +77,7 @@ const GREETING: u8 = 90;
 const VERSION: u64 = 9;
 
 // What is asked for, beside the table and the schedule.
-#[derive(Drop)]
+#[derive(Clone, Copy)]
 struct Request {
     call: u8,
     shown: bool,

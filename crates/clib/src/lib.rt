@@ -1,5 +1,7 @@
 // The calls for programs in C: a slice is a pointer and a length, and the numbers of an answer go into a lent array, each where the
 // array has a place for it. May use `reader`, `translator`, `machines`, `bench`, `prices`, `mender`, `printer`, `fromtext` and the types that they answer. Read specs/Numbers.antt first.
+#![tactic(auto)]
+
 ghost use Rattle.std.specs.Prelude.{◌≡◌, ◌+◌, ◌≤◌, set};
 ghost use Rattle.format.specs.Syntax.{concurrent, sequential};
 ghost use Rattle.format.specs.Calls.{read_call};

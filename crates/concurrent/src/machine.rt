@@ -16,7 +16,7 @@ use labels::label_map::fill_labels;
 use semantics::RunAnswer;
 
 // What a run came to: its end, the reason (0 unless it blocked), the entries taken, each for a step, and the events recorded.
-#[derive(Drop)]
+#[derive(Clone, Copy)]
 struct Ran {
     end: u8,
     reason: u8,

@@ -16,7 +16,7 @@ use value::Reason;
 
 // What a step of a frame's code does: the code goes on, with so many events then; a test comes out; a procedure is called; it returns; or why
 // it blocks.
-#[derive(Drop)]
+#[derive(Clone, Copy)]
 enum Turn {
     Next(usize),
     Test(bool),
@@ -77,7 +77,7 @@ fn take_turn(
 }
 
 // How many events there are after a thread's step, or why it did not take it.
-#[derive(Drop)]
+#[derive(Clone, Copy)]
 pub enum Stepped {
     To(usize),
     Blocked(Reason),

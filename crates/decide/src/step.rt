@@ -11,7 +11,7 @@ use engine::{evaluate, locals, memory, table};
 use value::{Answer, Reason, Value};
 
 // What a step does. `next` is where the instruction ends, of a test where its expression ends.
-#[derive(Drop)]
+#[derive(Clone, Copy)]
 pub enum Step {
     Return,
     Assign {
@@ -159,7 +159,7 @@ pub fn decide_read(
 }
 
 // The arguments of a call: all were passed, and the last one ends here; or why the first that has no value has none.
-#[derive(Drop)]
+#[derive(Clone, Copy)]
 enum Passed {
     All(usize),
     Missing(Reason),

@@ -6,7 +6,7 @@ use basics::numbers::LOCAL;
 use writer::bytes::{put, put_part};
 
 // What was copied: where the source goes on, and where the copy does.
-#[derive(Drop)]
+#[derive(Clone, Copy)]
 pub struct Copied {
     pub next: usize,
     pub to: usize,

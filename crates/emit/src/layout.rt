@@ -21,7 +21,7 @@ pub struct Shape {
 }
 
 // Where the copy keeps the thread selected last and the program counters.
-#[derive(Drop)]
+#[derive(Clone, Copy)]
 pub struct Hub {
     pub ptid: usize,
     pub pct: usize,
@@ -29,7 +29,7 @@ pub struct Hub {
 
 // What the code of a procedure's labels must know: how many locals the procedure has, and where the copy keeps the program counters,
 // the procedure's "from" and its first local.
-#[derive(Drop)]
+#[derive(Clone, Copy)]
 pub struct Site {
     pub locals: u8,
     pub pct: u32,

@@ -20,14 +20,14 @@ const DEPTH: usize = numbers::DEPTH as usize;
 const LEAVES: u8 = numbers::LOCAL + 1;
 
 // An expression's value, and where the expression ends.
-#[derive(Drop)]
+#[derive(Clone, Copy)]
 pub struct Valued {
     pub answer: Answer,
     pub next: usize,
 }
 
 // What the table says of an operator: the count of its operands, and their kind.
-#[derive(Drop)]
+#[derive(Clone, Copy)]
 struct Row {
     operands: u8,
     takes: u8,

@@ -10,7 +10,7 @@ use basics::numbers::{CELL, EVENT};
 use value::Value;
 
 // The thread that reads or writes, the cell, the value, and the label of the step: in the sequential machine the number of the procedure.
-#[derive(Drop)]
+#[derive(Clone, Copy)]
 pub struct Event {
     pub thread: u8,
     pub writes: bool,

@@ -11,7 +11,7 @@ use basics::{bytes, reasons};
 use value::{Answer, Reason, Value};
 
 // A cell's location, its index there and its number among all cells; or why there is none.
-#[derive(Drop)]
+#[derive(Clone, Copy)]
 pub enum Spot {
     At {
         location: usize,

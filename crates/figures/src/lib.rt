@@ -1,5 +1,7 @@
 // The run program's figures and its line: runs a program and its copy. May use every crate below. Its calls `compare::figures`,
 // `input::figures_of_input` and `input::print` are for users; read them first.
+#![tactic(auto)]
+
 pub mod compare;
 pub mod input;
 mod line;

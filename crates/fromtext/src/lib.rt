@@ -1,5 +1,7 @@
 // Reads C11 text back into the sequential table whose text it is. May use `retable`, `reader`, `ctext`, `translation`, `frame` and what those use. Its call
 // `read_text` is for users; read it first.
+#![tactic(auto)]
+
 ghost use Rattle.std.specs.Prelude.{◌≡◌};
 ghost use Rattle.translation.specs.Calls.{refusal};
 ghost use Rattle.ctext.specs.Calls.{read_text_call};

@@ -7,7 +7,7 @@ use parse::Ends;
 use parse::expression::read_expr;
 
 // Where a block or an instruction ends, and its labels.
-#[derive(Drop)]
+#[derive(Clone, Copy)]
 pub struct Counted {
     pub next: usize,
     pub labels: usize,

@@ -6,7 +6,7 @@ ghost use Rattle.labels.specs.Walks.{Only, Gathers, GathersLeaf, GathersEach, Co
 use basics::numbers::{DEPTH, LOCAL, LOCALS};
 
 // The set of the variables, and where the expression ends.
-#[derive(Drop)]
+#[derive(Clone, Copy)]
 pub struct Gathered {
     pub set: u16,
     pub next: usize,

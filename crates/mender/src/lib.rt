@@ -1,5 +1,7 @@
 // Mends a table whose trailer is lost. May use `mending`, `reader`, `writer`, `parse` and what those use. Its call is for users; read it first, then
 // src/search.rt.
+#![tactic(auto)]
+
 mod changes;
 mod search;
 mod trailer;

@@ -15,7 +15,7 @@ use parse::block::read_block;
 use parse::{Context, Ends, Kind};
 
 // The acceptable choices so far.
-#[derive(Drop)]
+#[derive(Clone, Copy)]
 pub enum Found {
     None,
     One(Counts),

@@ -9,7 +9,7 @@ use parse::Kind;
 use writer::bytes::{put, put_four, put_part, put_two};
 
 // A choice of the three counts.
-#[derive(Drop)]
+#[derive(Clone, Copy)]
 pub struct Counts {
     pub procedures: u16,
     pub locations: u16,

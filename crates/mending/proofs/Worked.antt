@@ -1,8 +1,8 @@
 -- Answers of the mender, worked by hand from request #108. The acceptable trailers are found as Laws/Narrow says: trying all counts would take
 -- thousands of verdicts.
 use Rattle.std.specs.Prelude.{ℕ, ◌≡◌, refl, true, false, List, [], ◌∷◌, ◌++◌, length, replicate, ltb}
-use Rattle.std.proofs.Common.{ap, ◌∙◌, ltb-false}
-use Rattle.value.specs.Lists.{all, over}
+use Rattle.std.proofs.Common.{ap, ltb-false}
+use Rattle.value.specs.Lists.{all}
 use Rattle.value.proofs.Laws.Lists.{all?}
 use Rattle.value.proofs.Laws.Tests.{lt?}
 use Rattle.format.specs.Syntax.{Kind, concurrent, sequential}

@@ -10,7 +10,7 @@ use basics::numbers::{DEPTH, LOCAL};
 use typeset::pieces::{put, put_all, put_number, put_whole};
 
 // What was shown: where the table goes on, and where the text does.
-#[derive(Drop)]
+#[derive(Clone, Copy)]
 pub struct Shown {
     pub next: usize,
     pub to: usize,

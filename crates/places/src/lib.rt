@@ -1,5 +1,7 @@
 // Where the copy keeps locals: where those of each procedure begin in the row of all locals, and how long that row is, in both modes. May use
 // `scan`, `translation` and what those use. Read `place` at the end first, then specs/Placed.antt. An inner room: its functions have a `requires`.
+#![tactic(auto)]
+
 mod marks;
 
 ghost use Rattle.std.specs.Prelude.{◌≡◌, ◌+◌, ◌*◌, max, ◌<◌, ◌≤◌, length, get_or};

@@ -7,14 +7,14 @@ use basics::numbers::{ASSIGN, ATOMIC, CALL, DEPTH, END, IF, NESTING, WHILE, WRIT
 use labels::variables::{count, gather, gather_each};
 
 // The least and the most that a step costs.
-#[derive(Drop)]
+#[derive(Clone, Copy)]
 pub struct Cost {
     pub least: u64,
     pub most: u64,
 }
 
 // The same of code inside an atomic block, and where it ends.
-#[derive(Drop)]
+#[derive(Clone, Copy)]
 struct Inside {
     least: u64,
     most: u64,

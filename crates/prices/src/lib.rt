@@ -1,5 +1,7 @@
 // What the step at a label costs the copy: document 01's price list, read from a table's bytes. May use `reader`, `labels`, `agreement` and
 // what those use. Its call `prices` is for users; read it first, then src/costs.rt.
+#![tactic(auto)]
+
 mod costs;
 
 ghost use Rattle.std.specs.Prelude.{◌≡◌};

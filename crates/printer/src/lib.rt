@@ -1,4 +1,6 @@
 // Prints a sequential table as C11 text. May use `reader`, `ctext`, `translation`, `frame` and what those use. Its call `print` is for users; read it first.
+#![tactic(auto)]
+
 ghost use Rattle.std.specs.Prelude.{◌≡◌};
 ghost use Rattle.translation.specs.Calls.{refusal};
 ghost use Rattle.ctext.specs.Calls.{print_call};

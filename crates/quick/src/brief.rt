@@ -21,7 +21,7 @@ const SINGLE: u8 = marks::NOT;
 const PAST: u64 = FIRST_LOCATION + 65536;
 
 // The word of an expression, and where it ends; that means nothing if the word is NOTHING.
-#[derive(Drop)]
+#[derive(Clone, Copy)]
 pub struct Worded {
     pub word: u64,
     pub next: usize,

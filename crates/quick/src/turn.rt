@@ -21,7 +21,7 @@ use value::Reason;
 
 // What a step does. `next` is where the instruction ends, of a test that holds where its expression ends. Of tests that fail `at` is
 // where the run goes on after so many of them. The arguments of a call are in the frame above.
-#[derive(Drop)]
+#[derive(Clone, Copy)]
 pub enum Quick {
     Assign {
         x: usize,

@@ -14,7 +14,7 @@ use parse::Ends;
 use scan::tokens::{body_start, byte_at};
 
 // What is set after a block or an instruction, and where it ends; or that a local may be read before it is set.
-#[derive(Drop)]
+#[derive(Clone, Copy)]
 enum After {
     Set(usize, u64),
     Unset,

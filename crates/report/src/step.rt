@@ -13,7 +13,7 @@ use engine::{event, locals, memory, table};
 use value::Reason;
 
 // How many events there are after a thread's step, or why it did not take it.
-#[derive(Drop)]
+#[derive(Clone, Copy)]
 pub enum Stepped {
     To(usize),
     Blocked(Reason),

@@ -19,7 +19,7 @@ const LESS: u8 = 0x13;
 const NEG: u8 = 0x17;
 
 // Where a thing ends in the text, and where its bytes end in the table.
-#[derive(Drop)]
+#[derive(Clone, Copy)]
 pub struct Parsed {
     pub next: usize,
     pub to: usize,

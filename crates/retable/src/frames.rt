@@ -10,7 +10,7 @@ use super::pieces::{number, peek, skip};
 use basics::numbers::{LOCATIONS, MOST_PROCEDURES};
 
 // The sizes of locations: how many, where their lines end in the text, and where their bytes end in the table.
-#[derive(Drop)]
+#[derive(Clone, Copy)]
 pub struct Sizes {
     pub count: usize,
     pub next: usize,
@@ -18,21 +18,21 @@ pub struct Sizes {
 }
 
 // How many things, and where they end.
-#[derive(Drop)]
+#[derive(Clone, Copy)]
 pub struct Counted {
     pub count: u8,
     pub next: usize,
 }
 
 // How many declarations, and where they end.
-#[derive(Drop)]
+#[derive(Clone, Copy)]
 pub struct Declared {
     pub count: usize,
     pub next: usize,
 }
 
 // A procedure's parameters and locals, and where its body begins.
-#[derive(Drop)]
+#[derive(Clone, Copy)]
 pub struct Locals {
     pub params: u8,
     pub locals: u8,

@@ -3,7 +3,7 @@ ghost use Rattle.std.specs.Prelude.{◌+◌, ◌≡◌, get_or};
 ghost use Rattle.retable.specs.Laws.Pieces.{Skips, ReadsNumber};
 
 // A number in a text, and where it ends.
-#[derive(Drop)]
+#[derive(Clone, Copy)]
 pub struct Numbered {
     pub number: u64,
     pub next: usize,

@@ -7,7 +7,7 @@ use basics::numbers::{ASSIGN, CALL, DEPTH, READ, SELECT, WRITE};
 use writer::bytes::put;
 
 // Arguments: how many, where they end in the text, and where their bytes end in the table.
-#[derive(Drop)]
+#[derive(Clone, Copy)]
 pub struct Arguments {
     pub count: u8,
     pub next: usize,

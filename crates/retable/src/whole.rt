@@ -19,7 +19,7 @@ const PRELUDE: usize = 5071;
 const RECORDS: usize = RECORD * MOST_PROCEDURES;
 
 // Where a definition ends in the text, its body in the table, and its record in its row.
-#[derive(Drop)]
+#[derive(Clone, Copy)]
 pub struct Defined {
     pub next: usize,
     pub to: usize,
@@ -27,14 +27,14 @@ pub struct Defined {
 }
 
 // Where all bodies end in the table, and all records in their row.
-#[derive(Drop)]
+#[derive(Clone, Copy)]
 pub struct Coded {
     pub to: usize,
     pub row: usize,
 }
 
 // How many locations and procedures there are, and where the definitions begin.
-#[derive(Drop)]
+#[derive(Clone, Copy)]
 pub struct Found {
     pub locations: u16,
     pub procedures: u16,

@@ -2,6 +2,8 @@
 // May use `figures` and the kit's input and output; read `figures::input::print` first.
 //
 // Stack, beside what the calls below use: 20,483 bytes for the input, 128 for the line.
+#![tactic(auto)]
+
 use basics::numbers::LONGEST_INPUT;
 use figures::input::LINE;
 

@@ -8,7 +8,7 @@ use basics::numbers;
 use basics::numbers::RECORD;
 
 // What a mark begins. A truth value, a whole number or an operator names nothing: it is plain.
-#[derive(Drop)]
+#[derive(Clone, Copy)]
 pub enum Token {
     Stop,
     Plain,

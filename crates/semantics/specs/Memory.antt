@@ -1,5 +1,5 @@
 -- Environments, memory and events.
-use Rattle.std.specs.Prelude.{ℕ, List, [], ◌∷◌, Bool, false, get_or, set, replicate, ℤ, pos, negsuc}
+use Rattle.std.specs.Prelude.{ℕ, List, [], ◌∷◌, false, get_or, set, replicate, ℤ, pos, negsuc}
 use Rattle.value.specs.Maybe.{Maybe, is, nothing, ◌>>=◌, pick}
 use Rattle.value.specs.Try.{Try, has, lacks, ◌⟫◌, or_lacks}
 use Rattle.value.specs.Lists.{at}

@@ -25,7 +25,7 @@ use value::{Answer, Value};
 
 // The state of a run beside its arrays: where it goes on, how many frames there are, the thread last selected, the entries taken and
 // the events recorded.
-#[derive(Drop)]
+#[derive(Clone, Copy)]
 struct State {
     at: usize,
     depth: usize,
@@ -35,7 +35,7 @@ struct State {
 }
 
 // What a run came to: its end, the reason (0 unless it blocked), its steps, the entries taken and the events recorded.
-#[derive(Drop)]
+#[derive(Clone, Copy)]
 struct Ran {
     end: u8,
     reason: u8,

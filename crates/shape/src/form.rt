@@ -8,7 +8,7 @@ use basics::numbers;
 use parse::Kind;
 
 // What rules 1 to 4 leave to know: the counts, and the byte at which the records of procedures begin.
-#[derive(Drop)]
+#[derive(Clone, Copy)]
 pub struct Shape {
     pub procedures: usize,
     pub locations: usize,
@@ -18,7 +18,7 @@ pub struct Shape {
 }
 
 // The number of refusal, or the shape of a table that rules 1 to 4 let through.
-#[derive(Drop)]
+#[derive(Clone, Copy)]
 pub enum Form {
     Refused(u8),
     Shaped(Shape),

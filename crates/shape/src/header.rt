@@ -10,7 +10,7 @@ use basics::numbers::{CONCURRENT_MARK, FORM_MARK, MAIN, RECORD, SEQUENTIAL_MARK,
 use parse::Kind;
 
 // What the trailer says.
-#[derive(Drop)]
+#[derive(Clone, Copy)]
 pub struct Trailer {
     pub kind: u8,
     pub mark: u8,
@@ -22,7 +22,7 @@ pub struct Trailer {
 }
 
 // The number of refusal, or the trailer that rules 1 and 2 let through.
-#[derive(Drop)]
+#[derive(Clone, Copy)]
 pub enum Header {
     Refused(u8),
     Is(Trailer),

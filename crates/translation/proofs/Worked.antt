@@ -4,7 +4,7 @@ use Rattle.std.proofs.Common.{arith}
 use Rattle.value.specs.Values.{not, add}
 use Rattle.value.specs.declared.Value.TheVariants.{Truth}
 use Rattle.value.proofs.Laws.Lists.{here}
-use Rattle.format.specs.Syntax.{Expr, constant, local, one, two, assign, write, call, atomic, Block, end, step, Proc, Program, Plain}
+use Rattle.format.specs.Syntax.{Expr, constant, local, one, two, assign, write, call, atomic, Block, end, Proc, Program, Plain}
 use Rattle.format.specs.Syntax.{concurrent, sequential}
 use Rattle.format.specs.Encode.{table}
 use Rattle.format.proofs.Laws.Calls.{direct}

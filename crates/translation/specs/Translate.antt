@@ -8,7 +8,7 @@ use Rattle.format.specs.Labels.{first, labelled, counts}
 pub use Rattle.format.specs.Labels.{body_of, begin_of, ends_of, begins}
 use Rattle.translation.specs.declared.Mode.{Mode}
 use Rattle.translation.specs.declared.Mode.TheVariants.{Own}
-use Rattle.translation.specs.Layout.{Layout, layout_in, sizes_in, layout}
+use Rattle.translation.specs.Layout.{Layout, layout_in, sizes_in}
 use Rattle.translation.specs.Code.{◌then◌, tmp, moved, num, loc, code, returns}
 
 -- ---- a procedure for each label, in label order

@@ -21,7 +21,7 @@ const STMT: u8 = 2;
 const TERMINATED: u8 = 3;
 
 // What procedure 0 has for each thread: its beginning, its "from", and whether it has finished.
-#[derive(Drop)]
+#[derive(Clone, Copy)]
 enum Part {
     Beginning,
     From,

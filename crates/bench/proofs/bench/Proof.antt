@@ -7,8 +7,8 @@ use Rattle.bench.proofs.Benching.{bench_refused, bench_threads, bench_many, benc
 use Rattle.bench.proofs.bench.Statement.{statement}
 use Rattle.bench.proofs.bench.Tie as tie
 
-pub bench-spec : {M : Type 1} → statement M
-bench-spec =
+pub bench_spec : {M : Type 1} → statement M
+bench_spec =
     tie.close
     (tie.spec
     (λ c κs. search rules)

@@ -3,8 +3,8 @@ use Rattle.std.proofs.Common.{arith, length-take, rules}
 use Rattle.cases.proofs.answer_part.Statement.{statement}
 use Rattle.cases.proofs.answer_part.Tie as tie
 
-pub answer-part-spec : {M : Type 1} → statement M
-answer-part-spec =
+pub answer_part_spec : {M : Type 1} → statement M
+answer_part_spec =
     tie.close
     (tie.spec
     (λ c. search rules)

@@ -3,8 +3,8 @@ use Rattle.std.proofs.Common.{arith, length-take, rules}
 use Rattle.cases.proofs.answer_scheduled.Statement.{statement}
 use Rattle.cases.proofs.answer_scheduled.Tie as tie
 
-pub answer-scheduled-spec : {M : Type 1} → statement M
-answer-scheduled-spec =
+pub answer_scheduled_spec : {M : Type 1} → statement M
+answer_scheduled_spec =
     tie.close
     (tie.spec
     (λ c. search rules)

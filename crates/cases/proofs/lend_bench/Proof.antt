@@ -3,8 +3,8 @@ use Rattle.std.proofs.Common.{arith, length-take, rules}
 use Rattle.cases.proofs.lend_bench.Statement.{statement}
 use Rattle.cases.proofs.lend_bench.Tie as tie
 
-pub lend-bench-spec : {M : Type 1} → statement M
-lend-bench-spec =
+pub lend_bench_spec : {M : Type 1} → statement M
+lend_bench_spec =
     tie.close
     (tie.spec
     (λ c. search rules)

@@ -3,8 +3,8 @@ use Rattle.std.proofs.Common.{arith, length-take, rules}
 use Rattle.cases.proofs.lend_cells.Statement.{statement}
 use Rattle.cases.proofs.lend_cells.Tie as tie
 
-pub lend-cells-spec : {M : Type 1} → statement M
-lend-cells-spec =
+pub lend_cells_spec : {M : Type 1} → statement M
+lend_cells_spec =
     tie.close
     (tie.spec
     (λ c. search rules)

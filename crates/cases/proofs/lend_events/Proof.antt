@@ -3,8 +3,8 @@ use Rattle.std.proofs.Common.{arith, length-take, rules}
 use Rattle.cases.proofs.lend_events.Statement.{statement}
 use Rattle.cases.proofs.lend_events.Tie as tie
 
-pub lend-events-spec : {M : Type 1} → statement M
-lend-events-spec =
+pub lend_events_spec : {M : Type 1} → statement M
+lend_events_spec =
     tie.close
     (tie.spec
     (λ c. search rules)

@@ -3,8 +3,8 @@ use Rattle.std.proofs.Common.{arith, length-take, rules}
 use Rattle.cases.proofs.lend_list.Statement.{statement}
 use Rattle.cases.proofs.lend_list.Tie as tie
 
-pub lend-list-spec : {M : Type 1} → statement M
-lend-list-spec =
+pub lend_list_spec : {M : Type 1} → statement M
+lend_list_spec =
     tie.close
     (tie.spec
     (λ c. search rules)

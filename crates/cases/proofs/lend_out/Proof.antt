@@ -3,8 +3,8 @@ use Rattle.std.proofs.Common.{arith, length-take, rules}
 use Rattle.cases.proofs.lend_out.Statement.{statement}
 use Rattle.cases.proofs.lend_out.Tie as tie
 
-pub lend-out-spec : {M : Type 1} → statement M
-lend-out-spec =
+pub lend_out_spec : {M : Type 1} → statement M
+lend_out_spec =
     tie.close
     (tie.spec
     (λ c. search rules)

@@ -3,8 +3,8 @@ use Rattle.std.proofs.Common.{arith, length-take, rules}
 use Rattle.cases.proofs.lend_table.Statement.{statement}
 use Rattle.cases.proofs.lend_table.Tie as tie
 
-pub lend-table-spec : {M : Type 1} → statement M
-lend-table-spec =
+pub lend_table_spec : {M : Type 1} → statement M
+lend_table_spec =
     tie.close
     (tie.spec
     (λ c. search rules)

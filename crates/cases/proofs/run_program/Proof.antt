@@ -12,8 +12,8 @@ array-share-prefix-line c = lies _ _ c.print.ensures
 slice-aggregate-line : tie.Need-slice-aggregate-line
 slice-aggregate-line c = let fits = array-share-prefix-line c.before in simp length-take (omega arith)
 
-pub run-program-spec : {M : Type 1} → statement M
-run-program-spec =
+pub run_program_spec : {M : Type 1} → statement M
+run_program_spec =
     tie.close
     (tie.spec
     (λ c κs. search rules)

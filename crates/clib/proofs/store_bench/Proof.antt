@@ -4,8 +4,8 @@ use Rattle.clib.proofs.Storing.{stores}
 use Rattle.clib.proofs.store_bench.Statement.{statement}
 use Rattle.clib.proofs.store_bench.Tie as tie
 
-pub store-bench-spec : {M : Type 1} → statement M
-store-bench-spec =
+pub store_bench_spec : {M : Type 1} → statement M
+store_bench_spec =
     tie.close
     (tie.spec
     (λ c. search rules)

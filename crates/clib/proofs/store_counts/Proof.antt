@@ -11,8 +11,8 @@ invariant-loop answer₀ r i₀ answer i = Storing answer₀ r.counts answer i
 abbrev decreases-loop : tie.decreases-loop
 decreases-loop answer₀ r i₀ answer i = 19 - i
 
-pub store-counts-spec : {M : Type 1} → statement M
-store-counts-spec =
+pub store_counts_spec : {M : Type 1} → statement M
+store_counts_spec =
     tie.close
     (tie.spec
     invariant-loop

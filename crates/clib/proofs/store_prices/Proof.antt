@@ -4,8 +4,8 @@ use Rattle.clib.proofs.Storing.{stores}
 use Rattle.clib.proofs.store_prices.Statement.{statement}
 use Rattle.clib.proofs.store_prices.Tie as tie
 
-pub store-prices-spec : {M : Type 1} → statement M
-store-prices-spec =
+pub store_prices_spec : {M : Type 1} → statement M
+store_prices_spec =
     tie.close
     (tie.spec
     (λ c. search rules)

@@ -4,8 +4,8 @@ use Rattle.clib.proofs.Storing.{stores}
 use Rattle.clib.proofs.store_read.Statement.{statement}
 use Rattle.clib.proofs.store_read.Tie as tie
 
-pub store-read-spec : {M : Type 1} → statement M
-store-read-spec =
+pub store_read_spec : {M : Type 1} → statement M
+store_read_spec =
     tie.close
     (tie.spec
     (λ c. search rules)

@@ -4,8 +4,8 @@ use Rattle.clib.proofs.Storing.{stores}
 use Rattle.clib.proofs.store_run.Statement.{statement}
 use Rattle.clib.proofs.store_run.Tie as tie
 
-pub store-run-spec : {M : Type 1} → statement M
-store-run-spec =
+pub store_run_spec : {M : Type 1} → statement M
+store_run_spec =
     tie.close
     (tie.spec
     (λ c. search rules)

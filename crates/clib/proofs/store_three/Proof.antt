@@ -4,8 +4,8 @@ use Rattle.clib.proofs.Storing.{stores}
 use Rattle.clib.proofs.store_three.Statement.{statement}
 use Rattle.clib.proofs.store_three.Tie as tie
 
-pub store-three-spec : {M : Type 1} → statement M
-store-three-spec =
+pub store_three_spec : {M : Type 1} → statement M
+store_three_spec =
     tie.close
     (tie.spec
     (λ c κs. search rules)

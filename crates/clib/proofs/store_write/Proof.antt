@@ -4,8 +4,8 @@ use Rattle.clib.proofs.Storing.{stores}
 use Rattle.clib.proofs.store_write.Statement.{statement}
 use Rattle.clib.proofs.store_write.Tie as tie
 
-pub store-write-spec : {M : Type 1} → statement M
-store-write-spec =
+pub store_write_spec : {M : Type 1} → statement M
+store_write_spec =
     tie.close
     (tie.spec
     (λ c. search rules)

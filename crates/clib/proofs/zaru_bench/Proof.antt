@@ -4,8 +4,8 @@ use Rattle.clib.proofs.Storing.{stores}
 use Rattle.clib.proofs.zaru_bench.Statement.{statement}
 use Rattle.clib.proofs.zaru_bench.Tie as tie
 
-pub zaru-bench-spec : {M : Type 1} → statement M
-zaru-bench-spec =
+pub zaru_bench_spec : {M : Type 1} → statement M
+zaru_bench_spec =
     tie.close
     (tie.spec
     (λ c κs. search rules)

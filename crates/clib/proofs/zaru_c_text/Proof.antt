@@ -4,8 +4,8 @@ use Rattle.clib.proofs.Storing.{stores}
 use Rattle.clib.proofs.zaru_c_text.Statement.{statement}
 use Rattle.clib.proofs.zaru_c_text.Tie as tie
 
-pub zaru-c-text-spec : {M : Type 1} → statement M
-zaru-c-text-spec =
+pub zaru_c_text_spec : {M : Type 1} → statement M
+zaru_c_text_spec =
     tie.close
     (tie.spec
     (λ c κs. search rules)

@@ -6,8 +6,8 @@ use Rattle.clib.proofs.Storing.{mend_told}
 use Rattle.clib.proofs.zaru_mend.Statement.{statement}
 use Rattle.clib.proofs.zaru_mend.Tie as tie
 
-pub zaru-mend-spec : {M : Type 1} → statement M
-zaru-mend-spec =
+pub zaru_mend_spec : {M : Type 1} → statement M
+zaru_mend_spec =
     tie.close
     (tie.spec
     (λ c κs. search rules)

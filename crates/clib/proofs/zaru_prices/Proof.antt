@@ -4,8 +4,8 @@ use Rattle.clib.proofs.Storing.{stores}
 use Rattle.clib.proofs.zaru_prices.Statement.{statement}
 use Rattle.clib.proofs.zaru_prices.Tie as tie
 
-pub zaru-prices-spec : {M : Type 1} → statement M
-zaru-prices-spec =
+pub zaru_prices_spec : {M : Type 1} → statement M
+zaru_prices_spec =
     tie.close
     (tie.spec
     (λ c κs. search rules)

@@ -4,8 +4,8 @@ use Rattle.clib.proofs.Storing.{stores}
 use Rattle.clib.proofs.zaru_read_concurrent.Statement.{statement}
 use Rattle.clib.proofs.zaru_read_concurrent.Tie as tie
 
-pub zaru-read-concurrent-spec : {M : Type 1} → statement M
-zaru-read-concurrent-spec =
+pub zaru_read_concurrent_spec : {M : Type 1} → statement M
+zaru_read_concurrent_spec =
     tie.close
     (tie.spec
     (λ c κs. search rules)

@@ -4,8 +4,8 @@ use Rattle.clib.proofs.Storing.{stores}
 use Rattle.clib.proofs.zaru_read_sequential.Statement.{statement}
 use Rattle.clib.proofs.zaru_read_sequential.Tie as tie
 
-pub zaru-read-sequential-spec : {M : Type 1} → statement M
-zaru-read-sequential-spec =
+pub zaru_read_sequential_spec : {M : Type 1} → statement M
+zaru_read_sequential_spec =
     tie.close
     (tie.spec
     (λ c κs. search rules)

@@ -4,8 +4,8 @@ use Rattle.clib.proofs.Storing.{stores}
 use Rattle.clib.proofs.zaru_run_concurrent.Statement.{statement}
 use Rattle.clib.proofs.zaru_run_concurrent.Tie as tie
 
-pub zaru-run-concurrent-spec : {M : Type 1} → statement M
-zaru-run-concurrent-spec =
+pub zaru_run_concurrent_spec : {M : Type 1} → statement M
+zaru_run_concurrent_spec =
     tie.close
     (tie.spec
     (λ c κs. search rules)

@@ -4,8 +4,8 @@ use Rattle.clib.proofs.Storing.{stores}
 use Rattle.clib.proofs.zaru_run_plain.Statement.{statement}
 use Rattle.clib.proofs.zaru_run_plain.Tie as tie
 
-pub zaru-run-plain-spec : {M : Type 1} → statement M
-zaru-run-plain-spec =
+pub zaru_run_plain_spec : {M : Type 1} → statement M
+zaru_run_plain_spec =
     tie.close
     (tie.spec
     (λ c κs. search rules)

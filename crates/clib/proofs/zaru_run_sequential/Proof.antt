@@ -4,8 +4,8 @@ use Rattle.clib.proofs.Storing.{stores}
 use Rattle.clib.proofs.zaru_run_sequential.Statement.{statement}
 use Rattle.clib.proofs.zaru_run_sequential.Tie as tie
 
-pub zaru-run-sequential-spec : {M : Type 1} → statement M
-zaru-run-sequential-spec =
+pub zaru_run_sequential_spec : {M : Type 1} → statement M
+zaru_run_sequential_spec =
     tie.close
     (tie.spec
     (λ c κs. search rules)

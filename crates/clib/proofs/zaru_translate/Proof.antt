@@ -4,8 +4,8 @@ use Rattle.clib.proofs.Storing.{mode_told}
 use Rattle.clib.proofs.zaru_translate.Statement.{statement}
 use Rattle.clib.proofs.zaru_translate.Tie as tie
 
-pub zaru-translate-spec : {M : Type 1} → statement M
-zaru-translate-spec =
+pub zaru_translate_spec : {M : Type 1} → statement M
+zaru_translate_spec =
     tie.close
     (tie.spec
     (λ c κs. search rules)

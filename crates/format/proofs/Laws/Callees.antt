@@ -38,6 +38,7 @@ module _ {A : Type 0} (n : ℕ) where
     listed_i (call m es) here = itself refl
     listed_i (atomic b) h = inside (listed b h)
     listed_i (select a b) h = none h
+    listed_i (call m es) (Rattle.value.proofs.Laws.Lists.there x4) = elim x4 [ ]
 
     -- in a block
     listed : (b : Block A) → In n (callees b) → Calls n b

@@ -2,6 +2,7 @@
 use Rattle.std.specs.Prelude.{ℕ, zero, suc, ◌≤◌, ◌<◌, ◌≡◌, refl, ◌≢◌, List, [], ◌∷◌, Bool, true, false, not, length, eqb}
 use Rattle.std.proofs.Common.{arith, sym, ◌∙◌, eqb-true, eq-eqb}
 use Rattle.std.proofs.lemmas.Bool.{eqb-false}
+use Rattle.std.proofs.Math.Path.{subst⁻¹}
 use Rattle.value.specs.Maybe.{either}
 use Rattle.value.specs.Lists.{upto}
 use Rattle.value.proofs.Laws.Tests.{Decides, never, either_passed, either_left, either_right, either_failed, by_test}
@@ -114,7 +115,7 @@ module _ {A : Type 0} (ps : List (Proc A)) where
       (λ no. absurd (never no))
   shortcut x m (c ∷ cs) n h w d =
       either_passed (eqb m x) (member x (c ∷ cs)) h
-      (λ e. let same : x ≡ m = sym (eqb-true m x e) in (c ∷ cs, rw same w, rw same d))
+      (λ e. let same : x ≡ m = sym (eqb-true m x e) in (c ∷ cs, rw same w, subst⁻¹ (λ y. Distinct (y ∷ c ∷ cs)) same d))
       (λ later. shortcut x c cs n later w.1 d.1)
 
   -- every walk can be made without repetition

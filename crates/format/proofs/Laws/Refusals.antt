@@ -166,6 +166,7 @@ module _ (k : Kind) (t : List ℕ) where
           by_test (eqb n (suc m))
           (λ q. rw (eqb-true n (suc m) q) e)
           (λ q. absurd (let other : n ≢ suc m = eqb-false n (suc m) q in s.broken (below k t n m (omega (arith, w.low)) u)))
+      of s (refused zero) e x5 = elim x5 [ ]
 
 -- ---- rules 1 to 4: the program of a table
 
@@ -197,3 +198,4 @@ formed_if k t h late = by (verdict k t) refl (holds k t h)
     by : (v : Verdict) → verdict k t ≡ v → Holds k t v → (p : Program Plain) × Formed k t p
     by (accepted p) e (passes formed named labels calls set) = (p, formed)
     by (refused (suc n)) e (stops u) = program_of k t (below k t 4 n (omega (arith, late (suc n) e)) u)
+    by (refused zero) e x5 = elim x5 [ ]

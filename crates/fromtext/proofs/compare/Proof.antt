@@ -31,8 +31,8 @@ returns-3 c =
     judge_writes start.requires c.before.before.before.before.before.before.before.put-text.ensures fits (bytes_at start.args.table.now (λ i l. (c.before.before.before.before.before.before.before.before.before.before.shared-slice-known2.given i).fits)) c.before.before.before.before.before.if1.false
     c.before.before.before.before.if2.false c.before.before.put-part.ensures
 
-pub compare-spec : {M : Type 1} → statement M
-compare-spec =
+pub compare_spec : {M : Type 1} → statement M
+compare_spec =
     tie.close
     (tie.spec
     (λ c. search rules)

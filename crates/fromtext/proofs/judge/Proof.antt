@@ -15,8 +15,8 @@ compare-requires : tie.Need-compare-requires
 compare-requires c κs =
     call_accepts c.before.before.before.before.before.before.before.args.table.now c.before.before.before.read-sequential.ensures (λ i l. (c.before.before.before.before.before.shared-slice-known2.given i).fits) c.before.if1.false
 
-pub judge-spec : {M : Type 1} → statement M
-judge-spec =
+pub judge_spec : {M : Type 1} → statement M
+judge_spec =
     tie.close
     (tie.spec
     (λ c κs. search rules)

@@ -25,8 +25,8 @@ returns-2 : tie.Need-returns-2
 returns-2 c =
     call_judged c.before.before.before.before.before.before.before.parse.ensures (length-replicate {A = ℕ} 65536 0) c.before.before.judge.ensures
 
-pub read-text-spec : {M : Type 1} → statement M
-read-text-spec =
+pub read_text_spec : {M : Type 1} → statement M
+read_text_spec =
     tie.close
     (tie.spec
     (λ c. search rules)

@@ -7,8 +7,8 @@ use Rattle.concurrent.proofs.ConcurrentCall.{accepted_cells, read_accepted, call
 use Rattle.machines.proofs.run_concurrent.Statement.{statement}
 use Rattle.machines.proofs.run_concurrent.Tie as tie
 
-pub run-concurrent-spec : {M : Type 1} → statement M
-run-concurrent-spec =
+pub run_concurrent_spec : {M : Type 1} → statement M
+run_concurrent_spec =
     tie.close
     (tie.spec
     (λ c κs. search rules)

@@ -7,8 +7,8 @@ use Rattle.concurrent.proofs.ConcurrentCall.{accepted_cells, read_accepted, call
 use Rattle.machines.proofs.run_plain.Statement.{statement}
 use Rattle.machines.proofs.run_plain.Tie as tie
 
-pub run-plain-spec : {M : Type 1} → statement M
-run-plain-spec =
+pub run_plain_spec : {M : Type 1} → statement M
+run_plain_spec =
     tie.close
     (tie.spec
     (λ c κs. search rules)

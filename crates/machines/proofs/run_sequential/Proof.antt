@@ -6,8 +6,8 @@ use Rattle.sequential.proofs.Calling.{accepted_cells, read_accepted, call_refuse
 use Rattle.machines.proofs.run_sequential.Statement.{statement}
 use Rattle.machines.proofs.run_sequential.Tie as tie
 
-pub run-sequential-spec : {M : Type 1} → statement M
-run-sequential-spec =
+pub run_sequential_spec : {M : Type 1} → statement M
+run_sequential_spec =
     tie.close
     (tie.spec
     (λ c κs. search rules)

@@ -13,8 +13,8 @@ invariant-loop schedule threads i₀ i = Asking threads schedule i
 abbrev decreases-loop : tie.decreases-loop
 decreases-loop schedule threads i₀ i = length schedule - i
 
-pub scheduled-spec : {M : Type 1} → statement M
-scheduled-spec =
+pub scheduled_spec : {M : Type 1} → statement M
+scheduled_spec =
     tie.close
     (tie.spec
     invariant-loop

@@ -4,8 +4,8 @@ use Rattle.mender.proofs.Answering.{answer_ways}
 use Rattle.mender.proofs.kind_numbered.Statement.{statement}
 use Rattle.mender.proofs.kind_numbered.Tie as tie
 
-pub kind-numbered-spec : {M : Type 1} → statement M
-kind-numbered-spec =
+pub kind_numbered_spec : {M : Type 1} → statement M
+kind_numbered_spec =
     tie.close
     (tie.spec
     (λ c. search rules)

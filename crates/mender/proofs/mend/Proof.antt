@@ -6,8 +6,8 @@ use Rattle.mender.proofs.Answering.{call_short, call_over, call_sized, call_whol
 use Rattle.mender.proofs.mend.Statement.{statement}
 use Rattle.mender.proofs.mend.Tie as tie
 
-pub mend-spec : {M : Type 1} → statement M
-mend-spec =
+pub mend_spec : {M : Type 1} → statement M
+mend_spec =
     tie.close
     (tie.spec
     (λ c κs. search rules)

@@ -4,8 +4,8 @@ use Rattle.mender.proofs.Answering.{becomes_new, answer_ways}
 use Rattle.mender.proofs.mend_by.Statement.{statement}
 use Rattle.mender.proofs.mend_by.Tie as tie
 
-pub mend-by-spec : {M : Type 1} → statement M
-mend-by-spec =
+pub mend_by_spec : {M : Type 1} → statement M
+mend_by_spec =
     tie.close
     (tie.spec
     (λ c κs. search rules)

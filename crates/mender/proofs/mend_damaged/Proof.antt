@@ -4,8 +4,8 @@ use Rattle.mender.proofs.Answering.{answer_ways}
 use Rattle.mender.proofs.mend_damaged.Statement.{statement}
 use Rattle.mender.proofs.mend_damaged.Tie as tie
 
-pub mend-damaged-spec : {M : Type 1} → statement M
-mend-damaged-spec =
+pub mend_damaged_spec : {M : Type 1} → statement M
+mend_damaged_spec =
     tie.close
     (tie.spec
     (λ c κs. search rules)

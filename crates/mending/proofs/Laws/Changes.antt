@@ -1,5 +1,5 @@
 -- The list of changes: each place where two byte strings differ, by rising place; a trailer changes at most the last sixteen bytes.
-use Rattle.std.specs.Prelude.{ℕ, zero, suc, ◌+◌, ◌*◌, ◌-◌, ◌≤◌, ◌≡◌, refl, List, [], ◌∷◌, ◌++◌, true, false, length, eqb}
+use Rattle.std.specs.Prelude.{ℕ, zero, suc, ◌+◌, ◌*◌, ◌-◌, ◌≤◌, ◌≡◌, refl, List, [], ◌∷◌, ◌++◌, length, eqb}
 use Rattle.std.proofs.Common.{arith, sym, ap, ◌∙◌, length-take, length-drop, eq-eqb, ne_eqb}
 use Rattle.std.proofs.lemmas.Bool.{eqb-false}
 use Rattle.value.specs.Maybe.{is}
@@ -36,6 +36,8 @@ listed_differs i (a ∷ t) (b ∷ u) c p =
     in_cons (rw e at p)
     (λ same. record { j = 0; place = rw same (omega arith); old = rw same; new = rw same; other = rw same (eqb-false a b e) })
     (λ q. further (listed_differs (suc i) t u c q)))
+listed_differs i [] u c p = elim p [ ]
+listed_differs i (a ∷ t) [] c p = elim p [ ]
 
 -- AND EACH CHANGE IS LISTED.
 pub differs_listed : (i : ℕ) (t u : List ℕ) (c : Change) → Differs i t u c → In c (changes_from i t u)

@@ -1,8 +1,8 @@
 -- What it means that a choice of the three counts is acceptable: there is an accepted program with these counts and the bytes before the trailer.
-use Rattle.std.specs.Prelude.{ℕ, ◌+◌, ◌-◌, ◌≤◌, ◌<◌, ◌≡◌, refl, List, ◌++◌, true, false, length, get_or}
-use Rattle.std.proofs.Common.{arith, sym, ap, subst, ◌∙◌, length-append, length-take}
-use Rattle.value.proofs.Laws.Tests.{Decides, never}
-use Rattle.value.proofs.Laws.Bytes.{Bytes, bytes_bytes}
+use Rattle.std.specs.Prelude.{ℕ, ◌+◌, ◌-◌, ◌≤◌, ◌<◌, ◌≡◌, refl, List, true, length, get_or}
+use Rattle.std.proofs.Common.{arith, sym, ap, ◌∙◌, length-take}
+use Rattle.value.proofs.Laws.Tests.{never}
+use Rattle.value.proofs.Laws.Bytes.{Bytes}
 use Rattle.value.proofs.Laws.Lists.{each_append}
 use Rattle.format.specs.Syntax.{Program, Plain, Kind, concurrent, sequential}
 use Rattle.format.specs.Encode.{Trailer, trailer, trailer_of, trailer_size, kind_mark, distance, table}

@@ -1,6 +1,6 @@
 -- What is in the list of acceptable trailers: each choice that has a program, and nothing else. In the sequential kind that is at most one.
-use Rattle.std.specs.Prelude.{ℕ, ◌+◌, ◌-◌, ◌≤◌, ◌<◌, ◌≡◌, refl, List, [], ◌∷◌, true, false, length}
-use Rattle.std.proofs.Common.{arith, sym, ap, subst, ◌∙◌}
+use Rattle.std.specs.Prelude.{ℕ, ◌+◌, ◌≤◌, ◌≡◌, List, [], ◌∷◌, true, length}
+use Rattle.std.proofs.Common.{arith, sym, ap, ◌∙◌}
 use Rattle.value.proofs.Laws.Tests.{by_test}
 use Rattle.value.proofs.Laws.Bytes.{Bytes}
 use Rattle.value.proofs.Laws.Lists.{In, here}

@@ -1,17 +1,16 @@
 -- Two accepted programs with the same bytes before the trailer have as many procedures: P is unique.
-use Rattle.std.specs.Prelude.{ℕ, zero, suc, ◌+◌, ◌*◌, ◌-◌, ◌/◌, ◌%◌, ◌≤◌, ◌<◌, ◌≡◌, refl, List, [], ◌∷◌, ◌++◌, length, get_or, ltb}
+use Rattle.std.specs.Prelude.{ℕ, suc, ◌+◌, ◌*◌, ◌-◌, ◌/◌, ◌≤◌, ◌<◌, ◌≡◌, refl, List, [], ◌∷◌, length, get_or, ltb}
 use Rattle.std.proofs.Common.{arith, sym, ap, subst, ◌∙◌, ltb-true, ltb-false}
 use Rattle.value.specs.Values.{bytes}
 use Rattle.value.proofs.Laws.Tests.{by_test}
 use Rattle.value.proofs.Laws.Lists.{Each, each_at, each_so, at_get_d}
-use Rattle.format.specs.Syntax.{Block, end, step, Instr, assign, write, read, while, if, call, atomic, select, Program, Plain, Kind, concurrent, sequential}
+use Rattle.format.specs.Syntax.{Block, end, step, assign, write, read, while, if, call, atomic, select, Program, Plain, Kind, concurrent, sequential}
 use Rattle.format.specs.Encode.{block, front, table, distance, record_size}
 use Rattle.format.specs.Rules.{limits, max_size}
-use Rattle.format.proofs.Laws.Names.{Takes}
 use Rattle.format.proofs.Laws.Sound.{Sound, Within, LocalsRight}
 use Rattle.format.proofs.Laws.Grammar.{block_long}
 use Rattle.format.proofs.Laws.Passes.{takes_below, at_most}
-use Rattle.format.proofs.Laws.Stands.{Stands, first, others, two_bytes, four_bytes}
+use Rattle.format.proofs.Laws.Stands.{Stands, first, others, two_bytes}
 use Rattle.format.proofs.Laws.TablePlaces.{body_at, records_at, length_table}
 use Rattle.mending.proofs.Laws.Places.{proc_at, proc_at_lem, next_body, bodies_grow, front_length, records_behind, body_in_lem, record_in, size_in, main_in, bodies_same}
 

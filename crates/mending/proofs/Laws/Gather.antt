@@ -1,5 +1,5 @@
 -- Lists made for each number of a range, and their members.
-use Rattle.std.specs.Prelude.{ℕ, zero, suc, ◌+◌, ◌-◌, ◌≤◌, ◌<◌, ◌≡◌, refl, List, [], ◌∷◌, ◌++◌, length, eqb}
+use Rattle.std.specs.Prelude.{ℕ, zero, suc, ◌+◌, ◌-◌, ◌≤◌, ◌<◌, ◌≡◌, refl, List, [], ◌∷◌, length, eqb}
 use Rattle.std.proofs.Common.{arith, ap, append-nil, eqb-true}
 use Rattle.std.proofs.lemmas.Bool.{eqb-false}
 use Rattle.value.specs.Lists.{upto}
@@ -52,6 +52,7 @@ module _ {B : Type 0} (f : ℕ → List B) where
       (λ q.
       let later : (m : ℕ) × (suc i ≤ m) × (m < suc i + n) × In x (f m) = from_upto (suc i) n q in
       (later.0, omega arith, omega arith, later.3))
+  from_upto i zero {x = x} p = elim p [ ]
 
   -- and what comes from one is there
   pub into_upto : (i n m : ℕ) {x : B} → i ≤ m → m < i + n → In x (f m) → In x (gather (upto i n) f)

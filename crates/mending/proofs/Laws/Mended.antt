@@ -1,24 +1,23 @@
 -- What the mender's answers are worth: request #108's three laws.
-use Rattle.std.specs.Prelude.{ℕ, zero, suc, ◌+◌, ◌*◌, ◌-◌, ◌≤◌, ◌<◌, ◌≡◌, refl, List, [], ◌∷◌, ◌++◌, Bool, true, false, length, take, drop, ltb, eqb}
-use Rattle.std.proofs.Common.{arith, sym, ap, subst, ◌∙◌, length-append, length-take, length-drop, ltb-true, ltb-false, le-ltb, eq-eqb}
+use Rattle.std.specs.Prelude.{ℕ, ◌+◌, ◌*◌, ◌-◌, ◌≤◌, ◌<◌, ◌≡◌, refl, List, [], ◌∷◌, true, false, length, ltb}
+use Rattle.std.proofs.Common.{arith, sym, ap, ◌∙◌, length-append, length-take, ltb-true, ltb-false, le-ltb}
 use Rattle.value.specs.Lists.{over}
 use Rattle.value.proofs.Laws.Tests.{by_test, never}
 use Rattle.value.proofs.Laws.Bytes.{Bytes}
-use Rattle.value.proofs.Laws.Lists.{In, here, there}
+use Rattle.value.proofs.Laws.Lists.{In, here}
 use Rattle.format.specs.Syntax.{Program, Plain, Kind, sequential}
 use Rattle.format.specs.Encode.{each, Trailer, trailer, trailer_of, trailer_size, table}
 use Rattle.format.specs.Encode as E
-use Rattle.format.specs.Decode.{but, last}
+use Rattle.format.specs.Decode.{but}
 use Rattle.format.specs.Rules.{limits, accepted, verdict}
 use Rattle.format.proofs.Laws.Sound.{Sound}
-use Rattle.format.proofs.Laws.Sections.{but_append, but_last}
+use Rattle.format.proofs.Laws.Sections.{but_append}
 use Rattle.format.proofs.Laws.Accepted.{accepted_exactly}
-use Rattle.mending.specs.Mending.{trailer_for, with_trailer, passes, accepts, acceptable, Change, changes_from, change_bytes, change_size}
+use Rattle.mending.specs.Mending.{trailer_for, with_trailer, accepts, acceptable, Change, changes_from, change_bytes, change_size}
 use Rattle.mending.specs.Mending.{Outcome, untouched, become, mend_by, mend_call}
-use Rattle.mending.proofs.Laws.Choices.{Chosen}
 use Rattle.mending.proofs.Laws.Changes.{at_most_16}
 use Rattle.mending.proofs.Laws.Gather.{in_none, in_single}
-use Rattle.mending.proofs.Laws.Found.{Listed, listed, chosen_in, sequential_one}
+use Rattle.mending.proofs.Laws.Found.{listed, chosen_in, sequential_one}
 
 -- ---- the answers, one by one
 

@@ -1,7 +1,6 @@
 -- The acceptable trailers are found by reading the bodies once: with P of them read, M + T follows from the length.
-use Rattle.std.specs.Prelude.{ℕ, zero, suc, ◌+◌, ◌*◌, ◌-◌, ◌/◌, ◌%◌, ◌≤◌, ◌<◌, ◌≡◌, refl, List, [], ◌∷◌, ◌++◌, Bool, true, false, length, drop, leb, eqb}
-use Rattle.std.proofs.Common.{arith, sym, ap, ap₂, subst, ◌∙◌, length-drop, length-take, leb-true, leb-false, le-leb, eqb-true}
-use Rattle.std.proofs.lemmas.Bool.{lt-leb, eqb-false}
+use Rattle.std.specs.Prelude.{ℕ, zero, suc, ◌+◌, ◌*◌, ◌-◌, ◌/◌, ◌%◌, ◌≤◌, ◌<◌, ◌≡◌, refl, List, [], ◌++◌, length, drop, leb, eqb}
+use Rattle.std.proofs.Common.{arith, sym, ap, ap₂, subst, ◌∙◌, length-drop, length-take}
 use Rattle.value.specs.Maybe.{Maybe, is, nothing, ◌>>=◌, when, pick, both}
 use Rattle.value.specs.Lists.{upto}
 use Rattle.value.proofs.Laws.Maybes.{is_inj, missing}

@@ -1,11 +1,11 @@
 -- What stands where in the bytes before the trailer.
 use Rattle.std.specs.Prelude.{ℕ, zero, suc, ◌+◌, ◌*◌, ◌-◌, ◌≤◌, ◌<◌, ◌≡◌, refl, List, [], ◌∷◌, length, get_or}
-use Rattle.std.proofs.Common.{arith, sym, ap, subst, ◌∙◌, length-append}
+use Rattle.std.proofs.Common.{arith, sym, subst, ◌∙◌, length-append}
 use Rattle.value.specs.Maybe.{is}
 use Rattle.value.specs.Values.{bytes}
 use Rattle.value.specs.Lists.{at}
 use Rattle.value.proofs.Laws.Maybes.{is_inj, missing}
-use Rattle.value.proofs.Laws.Lists.{at_get_d, at_below, each_at}
+use Rattle.value.proofs.Laws.Lists.{at_get_d, each_at}
 use Rattle.format.specs.Syntax.{Proc, Program, Plain, Kind, end}
 use Rattle.format.specs.Encode.{each, block, bodies_of, front, table, trailer, trailer_of, distance, record_size}
 use Rattle.format.specs.Decode.{max_nesting}

@@ -11,8 +11,8 @@ invariant-loop t procedures records starts₀ row₀ m₀ starts row m = InOrder
 abbrev decreases-loop : tie.decreases-loop
 decreases-loop t procedures records starts₀ row₀ m₀ starts row m = procedures - m
 
-pub in-order-spec : {M : Type 1} → statement M
-in-order-spec =
+pub in_order_spec : {M : Type 1} → statement M
+in_order_spec =
     tie.close
     (tie.spec
     invariant-loop

@@ -11,8 +11,8 @@ invariant-loop t procedures records starts row₀ m₀ row m = LongestTo t proce
 abbrev decreases-loop : tie.decreases-loop
 decreases-loop t procedures records starts row₀ m₀ row m = procedures - m
 
-pub longest-spec : {M : Type 1} → statement M
-longest-spec =
+pub longest_spec : {M : Type 1} → statement M
+longest_spec =
     tie.close
     (tie.spec
     invariant-loop

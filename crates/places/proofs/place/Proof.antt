@@ -13,8 +13,8 @@ use Rattle.places.proofs.place.Tie as tie
 in-mode : {t : List ℕ} {P R : ℕ} {mode k : Mode} {r : Places} → mode ≡ k → PlacesOf t P R k r → PlacesOf t P R mode r
 in-mode {t} {P} {R} {r = r} e h = subst (λ m. PlacesOf t P R m r) (sym e) h
 
-pub place-spec : {M : Type 1} → statement M
-place-spec =
+pub place_spec : {M : Type 1} → statement M
+place_spec =
     tie.close
     (tie.spec
     (λ c. search rules)

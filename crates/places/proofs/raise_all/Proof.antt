@@ -11,8 +11,8 @@ invariant-loop t procedures records marks starts₀ q₀ starts q = Rounding t p
 abbrev decreases-loop : tie.decreases-loop
 decreases-loop t procedures records marks starts₀ q₀ starts q = procedures - q
 
-pub raise-all-spec : {M : Type 1} → statement M
-raise-all-spec =
+pub raise_all_spec : {M : Type 1} → statement M
+raise_all_spec =
     tie.close
     (tie.spec
     invariant-loop

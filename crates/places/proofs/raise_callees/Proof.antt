@@ -11,8 +11,8 @@ invariant-loop marks procedures q end starts₀ m₀ starts m = Raising marks pr
 abbrev decreases-loop : tie.decreases-loop
 decreases-loop marks procedures q end starts₀ m₀ starts m = procedures - m
 
-pub raise-callees-spec : {M : Type 1} → statement M
-raise-callees-spec =
+pub raise_callees_spec : {M : Type 1} → statement M
+raise_callees_spec =
     tie.close
     (tie.spec
     invariant-loop

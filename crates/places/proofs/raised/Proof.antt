@@ -4,8 +4,8 @@ use Rattle.places.specs.Laws.Raising.{raise_ways}
 use Rattle.places.proofs.raised.Statement.{statement}
 use Rattle.places.proofs.raised.Tie as tie
 
-pub raised-spec : {M : Type 1} → statement M
-raised-spec = tie.close (tie.spec
+pub raised_spec : {M : Type 1} → statement M
+raised_spec = tie.close (tie.spec
     (λ c. search raise_ways)
     (λ c κs. search rules)
     (λ c. search raise_ways))

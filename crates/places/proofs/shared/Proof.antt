@@ -11,8 +11,8 @@ invariant-loop t procedures records marks starts₀ round₀ starts round = Roun
 abbrev decreases-loop : tie.decreases-loop
 decreases-loop t procedures records marks starts₀ round₀ starts round = procedures - round
 
-pub shared-spec : {M : Type 1} → statement M
-shared-spec =
+pub shared_spec : {M : Type 1} → statement M
+shared_spec =
     tie.close
     (tie.spec
     invariant-loop

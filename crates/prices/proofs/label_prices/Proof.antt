@@ -4,8 +4,8 @@ use Rattle.prices.proofs.Labelling.{label_ways}
 use Rattle.prices.proofs.label_prices.Statement.{statement}
 use Rattle.prices.proofs.label_prices.Tie as tie
 
-pub label-prices-spec : {M : Type 1} → statement M
-label-prices-spec =
+pub label_prices_spec : {M : Type 1} → statement M
+label_prices_spec =
     tie.close
     (tie.spec
     (λ c κs. (search label_ways, search rules))

@@ -11,8 +11,8 @@ label-prices-requires c κs =
     prices_label table.before.args.table.now c.before.before.before.before.read-concurrent.ensures c.before.before.if1.false
     (λ i l. (table.shared-slice-known.given i).fits) table.before.args.label c.before.if2.false c.if3.false
 
-pub prices-spec : {M : Type 1} → statement M
-prices-spec =
+pub prices_spec : {M : Type 1} → statement M
+prices_spec =
     tie.close
     (tie.spec
     (λ c κs. search rules)

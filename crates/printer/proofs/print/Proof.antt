@@ -18,8 +18,8 @@ write-text-requires c κs =
     call_accepts table.before.args.table.now c.before.before.before.read-sequential.ensures
     (λ i l. (table.shared-slice-known.given i).fits) c.before.if1.false
 
-pub print-spec : {M : Type 1} → statement M
-print-spec =
+pub print_spec : {M : Type 1} → statement M
+print_spec =
     tie.close
     (tie.spec
     (λ c κs. search rules)

@@ -23,8 +23,8 @@ returns-2 c =
     let fits : length start.args.out.now < 2 ^ 63 = omega arith in
     printed start.requires test.before.before.put-text.ensures fits test.if1.false done.put-text2.ensures
 
-pub write-text-spec : {M : Type 1} → statement M
-write-text-spec =
+pub write_text_spec : {M : Type 1} → statement M
+write_text_spec =
     tie.close
     (tie.spec
     (λ c. search rules)

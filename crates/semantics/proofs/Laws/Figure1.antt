@@ -1,6 +1,6 @@
 -- Report RR-2017-03, figure 1: its rules as the report writes them, and that Step takes exactly these steps.
 use Rattle.std.specs.Prelude.{ℕ, zero, suc, ◌-◌, ◌≤◌, ◌<◌, ◌≡◌, refl, ◌↔◌, ◌≢◌, List, [], ◌∷◌, ◌++◌, map, Bool, true, false, length, replicate, ℤ, pos, negsuc, eqb}
-use Rattle.std.proofs.Common.{arith, sym, ◌∙◌, length-append, ne_eqb}
+use Rattle.std.proofs.Common.{arith, length-append, ne_eqb}
 use Rattle.std.proofs.Math.Bool as B
 use Rattle.std.proofs.lemmas.List.{length-map, length-replicate}
 use Rattle.std.proofs.lemmas.Bool.{eqb-false, not-true}

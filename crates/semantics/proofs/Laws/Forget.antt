@@ -6,19 +6,16 @@ use Rattle.std.proofs.Math.Bool as B
 use Rattle.value.specs.Maybe.{Maybe, is, nothing, ◌>>=◌, either}
 use Rattle.value.specs.Try.{Try, has, lacks, ◌⟫◌, or_lacks}
 use Rattle.value.specs.Lists.{at}
-use Rattle.value.specs.Values.{apply₂, number, place, truth}
-use Rattle.value.specs.Marks.{judged}
+use Rattle.value.specs.Values.{number, place, truth}
 use Rattle.value.specs.declared.Value.{Value}
 use Rattle.value.specs.declared.Value.TheVariants.{Whole, Location, Truth}
 use Rattle.value.specs.declared.Reason.{Reason}
 use Rattle.value.specs.declared.Reason.TheVariants.{WrongKind, IndexOutside, FinishedThread}
-use Rattle.value.proofs.Laws.Maybes.{bind_none}
 use Rattle.value.proofs.Laws.Tries.{forget, forget_chain}
 use Rattle.value.proofs.Laws.Tests.{by_test}
-use Rattle.value.proofs.Laws.Reasons.{judged_passes}
-use Rattle.value.proofs.Laws.Forget.{forget_provided, forget_or_lacks, forget_place, forget_truth, forget_two, forget_one, refused_left}
+use Rattle.value.proofs.Laws.Forget.{forget_provided, forget_or_lacks, forget_place, forget_truth}
 use Rattle.value.proofs.Laws.Bare as BareValues
-use Rattle.format.specs.Syntax.{Expr, constant, local, one, two, Instr, assign, write, read, while, if, call, atomic, select, Block, end, step, Proc}
+use Rattle.format.specs.Syntax.{Expr, local, Instr, assign, write, read, while, if, call, atomic, select, Block, end, step, Proc}
 use Rattle.format.specs.Syntax.{Program, Plain}
 use Rattle.semantics.specs.Memory.{Env, lookup, eval, evals, index, Memory, cell, Event}
 use Rattle.semantics.specs.Step.{Frame, Stack, Moved, runs, instr}

@@ -1,6 +1,6 @@
 -- Request #103 beside document 01's "and (both sides are evaluated)": what had a value has it still, an expression differs only at an `and` that is cut
 -- short, and a run that did not block is the same run.
-use Rattle.std.specs.Prelude.{ℕ, zero, suc, ◌≡◌, refl, List, [], ◌∷◌, ◌++◌, Bool, true, false}
+use Rattle.std.specs.Prelude.{ℕ, zero, suc, ◌≡◌, refl, List, [], ◌∷◌, ◌++◌, Bool, false}
 use Rattle.std.proofs.Common.{arith, sym, ap, ◌∙◌}
 use Rattle.value.specs.Maybe.{Maybe, is, nothing, ◌>>=◌}
 use Rattle.value.specs.Try.{Try, has, lacks}
@@ -15,7 +15,7 @@ use Rattle.value.proofs.Laws.Forget.{forget_two, forget_one}
 use Rattle.value.proofs.Laws.Bare as BareValues
 use Rattle.format.specs.Syntax.{Expr, constant, local, one, two, Instr, assign, write, read, while, if, call, atomic, select, Block, end, step, Proc}
 use Rattle.format.specs.Syntax.{Program, Plain}
-use Rattle.semantics.specs.Memory.{Env, lookup, eval, Memory, Event}
+use Rattle.semantics.specs.Memory.{Env, eval, Memory, Event}
 use Rattle.semantics.specs.Step.{Frame, Stack, Moved}
 use Rattle.semantics.specs.Threads.{State, done, size, Atomic, Step}
 use Rattle.semantics.specs.Threads as P

@@ -8,7 +8,7 @@ use Rattle.value.proofs.Laws.Lists.{Each, each_so, each_append}
 use Rattle.format.specs.Syntax.{Proc, Program, Plain, concurrent, sequential}
 use Rattle.format.specs.Encode.{table, bodies_of}
 use Rattle.format.specs.Labels.{count, counts, labels, label}
-use Rattle.format.specs.Rules.{named, verdict, accepted, limits}
+use Rattle.format.specs.Rules.{verdict, accepted, limits}
 use Rattle.format.proofs.Laws.Bytes.{Bytes}
 use Rattle.format.proofs.Laws.Names.{Takes}
 use Rattle.format.proofs.Laws.Permits.{all_permitted?}

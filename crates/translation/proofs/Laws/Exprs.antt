@@ -77,6 +77,7 @@ keep_out false P p q i = q i
 -- and what is among them is mentioned
 pub variables_out : (x y k : ℕ) (es : List Expr) → In x (variables y k es) → mentions x es ≡ true
 variables_out x y (suc k) es i = keep_out (mentions y es) (λ z. mentions z es ≡ true) (λ e. e) (variables_out x (suc y) k es) i
+variables_out x y zero es i = elim i [ ]
 
 -- so what they all have, each that is mentioned has
 pub variables_all : (P : ℕ → Type 0) (i n : ℕ) (es : List Expr) → Each P (variables i n es) → (x : ℕ) → i ≤ x → x < i + n → mentions x es ≡ true → P x

@@ -4,7 +4,7 @@ use Rattle.std.proofs.Common.{arith, ◌∙◌, ap, length-append}
 use Rattle.value.proofs.Laws.Lists.{Each, each_append}
 use Rattle.format.specs.Syntax.{Expr, Instr, assign, write, read, while, if, call, atomic, select, Block, end, step, Proc, Program, Plain}
 use Rattle.format.specs.Labels.{count, count_i, tag, tag_i, label, label_i, first}
-use Rattle.format.specs.Rules.{Here, Known, named, max_locals}
+use Rattle.format.specs.Rules.{Here, Known, max_locals}
 use Rattle.format.proofs.Laws.Names.{Takes, InRange, Names, NamesI}
 use Rattle.format.proofs.Laws.Depths.{ExprRight, nesting, nesting_i, ExprsRight, ExprsRightI}
 use Rattle.format.proofs.Laws.Blocks.{nesting_pos}

@@ -4,7 +4,7 @@ use Rattle.std.proofs.Common.{arith}
 use Rattle.value.proofs.Laws.Tests.{either_left, either_right}
 use Rattle.value.proofs.Laws.Lists.{Each, each_so}
 use Rattle.format.specs.Syntax.{Expr, local, Block, end, Program, Plain}
-use Rattle.format.specs.Rules.{Here, Known, with, known, max_locals}
+use Rattle.format.specs.Rules.{Here, Known, with, max_locals}
 use Rattle.format.proofs.Laws.Names.{InRange}
 use Rattle.format.proofs.Laws.Depths.{depth, WholesRight, ExprRight}
 use Rattle.format.proofs.Laws.Sets.{◌⊆◌, and_more, set_there, set_more, known_more}

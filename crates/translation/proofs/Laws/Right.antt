@@ -6,7 +6,7 @@ use Rattle.value.specs.Maybe.{there}
 use Rattle.value.proofs.Laws.Tests.{pass_both}
 use Rattle.value.proofs.Laws.Lists.{Each, each_so, all_pass, each_append}
 use Rattle.format.specs.Syntax.{Expr, local, assign, write, read, while, if, call, select, Block, end, Program, Plain}
-use Rattle.format.specs.Rules.{Here, Known, with, known, after, named, allowed, plainly, is_concurrent, callees}
+use Rattle.format.specs.Rules.{Here, Known, with, known, after, allowed, plainly, is_concurrent, callees}
 use Rattle.format.proofs.Laws.Reading.{so, chain, there_chain}
 use Rattle.format.proofs.Laws.Names.{Takes, InRange, Names}
 use Rattle.format.proofs.Laws.Depths.{ExprRight, nesting, ExprsRight}

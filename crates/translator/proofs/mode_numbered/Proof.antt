@@ -16,5 +16,5 @@ shared : (n : ℕ) → (n ≡ 0 → ⊥) → Shared ≡ mode_numbered n
 shared zero some = absurd (some refl)
 shared (suc n) some = refl
 
-pub mode-numbered-spec : {M : Type 1} → statement M
-mode-numbered-spec = tie.close (tie.spec (λ c. search own) (λ c. search shared))
+pub mode_numbered_spec : {M : Type 1} → statement M
+mode_numbered_spec = tie.close (tie.spec (λ c. search own) (λ c. search shared))

@@ -29,8 +29,8 @@ returns-2 c =
     call_copies start.args.table.now start.args.out.now
     c.before.before.before.before.shape_of.ensures c.before.before.write_copy.ensures
 
-pub translate-spec : {M : Type 1} → statement M
-translate-spec =
+pub translate_spec : {M : Type 1} → statement M
+translate_spec =
     tie.close
     (tie.spec
     (λ c κs. search rules)

@@ -4,8 +4,8 @@ use Rattle.translator.proofs.Answering.{answer_ways}
 use Rattle.translator.proofs.write_copy.Statement.{statement}
 use Rattle.translator.proofs.write_copy.Tie as tie
 
-pub write-copy-spec : {M : Type 1} → statement M
-write-copy-spec =
+pub write_copy_spec : {M : Type 1} → statement M
+write_copy_spec =
     tie.close
     (tie.spec
     (λ c. search rules)

@@ -143,6 +143,7 @@ module _ {A : Type 0} {x : A} where
   pub in_front : (xs ys : List A) → In x xs → In x (xs ++ ys)
   in_front (x ∷ xs) ys here = here
   in_front (y ∷ xs) ys (there p) = there (in_front xs ys p)
+  in_front [] ys x'' = elim x'' [ ]
 
   -- of the second
   pub in_back : (xs ys : List A) → In x ys → In x (xs ++ ys)
@@ -159,11 +160,13 @@ module _ {A : Type 0} {x : A} where
   pub each_in : (P : A → Type 0) (xs : List A) → Each P xs → In x xs → P x
   each_in P (x ∷ xs) h here = h.0
   each_in P (y ∷ xs) h (there p) = each_in P xs h.1 p
+  each_in P [] h x3 = elim x3 [ ]
 
   -- a test that some thing passes
   pub some_pass : (f : A → Bool) (xs : List A) → In x xs → f x ≡ true → any f xs ≡ true
   some_pass f (x ∷ xs) here e = either_left (any f xs) e
   some_pass f (y ∷ xs) (there p) e = either_right (f y) (some_pass f xs p e)
+  some_pass f [] x3 e = elim x3 [ ]
 
 -- what stands at a place is one of them
 pub in_at : {A : Type 0} {x : A} (xs : List A) (i : ℕ) → at xs i ≡ is x → In x xs

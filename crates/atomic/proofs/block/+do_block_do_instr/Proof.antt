@@ -63,8 +63,8 @@ do-instr-calls t = (
   carry-out-reads.Learnt,
 )
 
-pub +do-block-do-instr-spec : {M : Type 1} → statement M
-+do-block-do-instr-spec =
+pub +do_block_do_instr_spec : {M : Type 1} → statement M
++do_block_do_instr_spec =
     close μ-do-block μ-do-instr (λ t. do-block-lts.spec (do-block-calls t) (do-block-at t) do-block.Post do-block-Inv-loop do-block-μ-loop
     (λ c. search (block_ways, rules))
     (λ c. search (block_ways, rules))

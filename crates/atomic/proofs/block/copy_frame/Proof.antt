@@ -15,8 +15,8 @@ invariant-loop words base copy₀ i₀ copy i = (i ≤ frame_words) × (length c
 abbrev decreases-loop : tie.decreases-loop
 decreases-loop words base copy₀ i₀ copy i = frame_words - i
 
-pub copy-frame-spec : {M : Type 1} → statement M
-copy-frame-spec =
+pub copy_frame_spec : {M : Type 1} → statement M
+copy_frame_spec =
     tie.close
     (tie.spec
     invariant-loop

@@ -4,8 +4,8 @@ use Rattle.atomic.proofs.InsideBlock.{whole_room, doing_tried, whole_blocked, wh
 use Rattle.atomic.proofs.block.do_atomic.Statement.{statement}
 use Rattle.atomic.proofs.block.do_atomic.Tie as tie
 
-pub do-atomic-spec : {M : Type 1} → statement M
-do-atomic-spec =
+pub do_atomic_spec : {M : Type 1} → statement M
+do_atomic_spec =
     tie.close
     (tie.spec
     (λ c. search rules)

@@ -7,8 +7,8 @@ use Rattle.basics.proofs.Buffers.{four_stored}
 use Rattle.basics.proofs.bytes.write_four.Statement.{statement}
 use Rattle.basics.proofs.bytes.write_four.Tie as tie
 
-pub write-four-spec : {M : Type 1} → statement M
-write-four-spec =
+pub write_four_spec : {M : Type 1} → statement M
+write_four_spec =
     tie.close
     (tie.spec
     (λ c. search rules)

@@ -4,8 +4,8 @@ use Rattle.bench.proofs.Counting.{count_ways}
 use Rattle.bench.proofs.counts.allotments.Statement.{statement}
 use Rattle.bench.proofs.counts.allotments.Tie as tie
 
-pub allotments-spec : {M : Type 1} → statement M
-allotments-spec =
+pub allotments_spec : {M : Type 1} → statement M
+allotments_spec =
     tie.close
     (tie.spec
     (λ c. search (count_ways, rules))

@@ -10,8 +10,8 @@ invariant-loop number base n counts₀ rest₀ i₀ counts rest i = Placing numb
 abbrev decreases-loop : tie.decreases-loop
 decreases-loop number base n counts₀ rest₀ i₀ counts rest i = i
 
-pub fill-counts-spec : {M : Type 1} → statement M
-fill-counts-spec =
+pub fill_counts_spec : {M : Type 1} → statement M
+fill_counts_spec =
     tie.close
     (tie.spec
     invariant-loop

@@ -11,8 +11,8 @@ invariant-loop base n total₀ i₀ total i = Powered base n total i
 abbrev decreases-loop : tie.decreases-loop
 decreases-loop base n total₀ i₀ total i = n - i
 
-pub power-spec : {M : Type 1} → statement M
-power-spec =
+pub power_spec : {M : Type 1} → statement M
+power_spec =
     tie.close
     (tie.spec
     invariant-loop

@@ -15,8 +15,8 @@ abbrev decreases-loop : tie.decreases-loop
 decreases-loop t procedures locations threads count rounds most total out₀ mains map bounds starts counts₀ labels₀ depths₀ words₀ cells₀ i₀ out counts labels depths words cells i =
     total - i
 
-pub search-spec : {M : Type 1} → statement M
-search-spec =
+pub search_spec : {M : Type 1} → statement M
+search_spec =
     tie.close
     (tie.spec
     invariant-loop

@@ -21,8 +21,8 @@ abbrev decreases-rounds : tie.decreases-rounds
 decreases-rounds t map bounds starts rounds threads counts labels₀ depths₀ words₀ cells₀ blocked₀ place₀ round₀ labels depths words cells blocked place round =
     rounds - round
 
-pub play-spec : {M : Type 1} → statement M
-play-spec =
+pub play_spec : {M : Type 1} → statement M
+play_spec =
     tie.close
     (tie.spec
     invariant-loop

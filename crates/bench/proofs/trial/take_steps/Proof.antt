@@ -11,8 +11,8 @@ invariant-loop t map bounds starts thread steps labels₀ depths₀ words₀ cel
 abbrev decreases-loop : tie.decreases-loop
 decreases-loop t map bounds starts thread steps labels₀ depths₀ words₀ cells₀ left₀ labels depths words cells left = left
 
-pub take-steps-spec : {M : Type 1} → statement M
-take-steps-spec =
+pub take_steps_spec : {M : Type 1} → statement M
+take_steps_spec =
     tie.close
     (tie.spec
     invariant-loop

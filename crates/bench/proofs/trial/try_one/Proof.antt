@@ -4,8 +4,8 @@ use Rattle.bench.proofs.Trying.{trying_playing, try_blocks, try_goes, try_ways}
 use Rattle.bench.proofs.trial.try_one.Statement.{statement}
 use Rattle.bench.proofs.trial.try_one.Tie as tie
 
-pub try-one-spec : {M : Type 1} → statement M
-try-one-spec =
+pub try_one_spec : {M : Type 1} → statement M
+try_one_spec =
     tie.close
     (tie.spec
     (λ c. search (try_ways, rules))

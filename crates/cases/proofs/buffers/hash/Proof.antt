@@ -9,8 +9,8 @@ invariant-loop buffer h₀ i₀ h i = i ≤ length buffer
 abbrev decreases-loop : tie.decreases-loop
 decreases-loop buffer h₀ i₀ h i = length buffer - i
 
-pub hash-spec : {M : Type 1} → statement M
-hash-spec =
+pub hash_spec : {M : Type 1} → statement M
+hash_spec =
     tie.close
     (tie.spec
     invariant-loop

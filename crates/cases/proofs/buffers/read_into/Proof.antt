@@ -21,8 +21,8 @@ returns c = search rules
 returns-2 : tie.Need-returns-2
 returns-2 c = search rules
 
-pub read-into-spec : {M : Type 1} → statement M
-read-into-spec =
+pub read_into_spec : {M : Type 1} → statement M
+read_into_spec =
     tie.close
     (tie.spec
     slice-relend-prefix-read-full

@@ -9,8 +9,8 @@ invariant-loop call r i₀ i = i ≤ 19
 abbrev decreases-loop : tie.decreases-loop
 decreases-loop call r i₀ i = 19 - i
 
-pub bench-spec : {M : Type 1} → statement M
-bench-spec =
+pub bench_spec : {M : Type 1} → statement M
+bench_spec =
     tie.close
     (tie.spec
     invariant-loop

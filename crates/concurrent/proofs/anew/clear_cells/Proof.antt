@@ -11,8 +11,8 @@ invariant-loop count cells₀ i₀ cells i = Clearing count i cells
 abbrev decreases-loop : tie.decreases-loop
 decreases-loop count cells₀ i₀ cells i = count - i
 
-pub clear-cells-spec : {M : Type 1} → statement M
-clear-cells-spec =
+pub clear_cells_spec : {M : Type 1} → statement M
+clear_cells_spec =
     tie.close
     (tie.spec
     invariant-loop

@@ -12,8 +12,8 @@ invariant-loop threads words₀ i₀ words i = FramesClear i words × (i ≤ thr
 abbrev decreases-loop : tie.decreases-loop
 decreases-loop threads words₀ i₀ words i = threads - i
 
-pub clear-frames-spec : {M : Type 1} → statement M
-clear-frames-spec =
+pub clear_frames_spec : {M : Type 1} → statement M
+clear_frames_spec =
     tie.close
     (tie.spec
     invariant-loop

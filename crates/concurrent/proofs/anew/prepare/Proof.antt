@@ -4,8 +4,8 @@ use Rattle.concurrent.proofs.Renewing.{prepare_ways}
 use Rattle.concurrent.proofs.anew.prepare.Statement.{statement}
 use Rattle.concurrent.proofs.anew.prepare.Tie as tie
 
-pub prepare-spec : {M : Type 1} → statement M
-prepare-spec =
+pub prepare_spec : {M : Type 1} → statement M
+prepare_spec =
     tie.close
     (tie.spec
     (λ c κs. search (prepare_ways, rules))

@@ -12,8 +12,8 @@ invariant-loop t at threads bounds labels₀ depths₀ i₀ labels depths i = Be
 abbrev decreases-loop : tie.decreases-loop
 decreases-loop t at threads bounds labels₀ depths₀ i₀ labels depths i = threads - i
 
-pub begin-spec : {M : Type 1} → statement M
-begin-spec =
+pub begin_spec : {M : Type 1} → statement M
+begin_spec =
     tie.close
     (tie.spec
     invariant-loop

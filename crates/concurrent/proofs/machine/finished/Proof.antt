@@ -11,8 +11,8 @@ invariant-loop depths threads i₀ i = NoneOf depths threads i
 abbrev decreases-loop : tie.decreases-loop
 decreases-loop depths threads i₀ i = threads - i
 
-pub finished-spec : {M : Type 1} → statement M
-finished-spec =
+pub finished_spec : {M : Type 1} → statement M
+finished_spec =
     tie.close
     (tie.spec
     invariant-loop

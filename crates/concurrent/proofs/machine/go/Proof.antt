@@ -15,8 +15,8 @@ abbrev decreases-loop : tie.decreases-loop
 decreases-loop t threads schedule map bounds starts labels₀ depths₀ words₀ cells₀ events₀ taken₀ count₀ labels depths words cells events taken count =
     length schedule - taken
 
-pub go-spec : {M : Type 1} → statement M
-go-spec =
+pub go_spec : {M : Type 1} → statement M
+go_spec =
     tie.close
     (tie.spec
     invariant-loop

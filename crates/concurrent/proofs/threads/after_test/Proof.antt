@@ -4,8 +4,8 @@ use Rattle.concurrent.proofs.Moving.{move_ways}
 use Rattle.concurrent.proofs.threads.after_test.Statement.{statement}
 use Rattle.concurrent.proofs.threads.after_test.Tie as tie
 
-pub after-test-spec : {M : Type 1} → statement M
-after-test-spec =
+pub after_test_spec : {M : Type 1} → statement M
+after_test_spec =
     tie.close
     (tie.spec
     (λ c. search rules)

@@ -4,8 +4,8 @@ use Rattle.concurrent.proofs.Moving.{move_ways}
 use Rattle.concurrent.proofs.threads.move_on.Statement.{statement}
 use Rattle.concurrent.proofs.threads.move_on.Tie as tie
 
-pub move-on-spec : {M : Type 1} → statement M
-move-on-spec =
+pub move_on_spec : {M : Type 1} → statement M
+move_on_spec =
     tie.close
     (tie.spec
     (λ c. search rules)

@@ -4,8 +4,8 @@ use Rattle.concurrent.proofs.Turning.{call_byte, call_room, call_above, turn_way
 use Rattle.concurrent.proofs.threads.take_turn.Statement.{statement}
 use Rattle.concurrent.proofs.threads.take_turn.Tie as tie
 
-pub take-turn-spec : {M : Type 1} → statement M
-take-turn-spec =
+pub take_turn_spec : {M : Type 1} → statement M
+take_turn_spec =
     tie.close
     (tie.spec
     (λ c. search (turn_ways, rules))

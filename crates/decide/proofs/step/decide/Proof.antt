@@ -4,8 +4,8 @@ use Rattle.decide.proofs.Deciding.{act_inside, decide_ways}
 use Rattle.decide.proofs.step.decide.Statement.{statement}
 use Rattle.decide.proofs.step.decide.Tie as tie
 
-pub decide-spec : {M : Type 1} → statement M
-decide-spec =
+pub decide_spec : {M : Type 1} → statement M
+decide_spec =
     tie.close
     (tie.spec
     (λ c. search (decide_ways, rules))

@@ -4,8 +4,8 @@ use Rattle.decide.proofs.Deciding.{assign_ways}
 use Rattle.decide.proofs.step.decide_assign.Statement.{statement}
 use Rattle.decide.proofs.step.decide_assign.Tie as tie
 
-pub decide-assign-spec : {M : Type 1} → statement M
-decide-assign-spec =
+pub decide_assign_spec : {M : Type 1} → statement M
+decide_assign_spec =
     tie.close
     (tie.spec
     (λ c. search (assign_ways, rules))

@@ -4,8 +4,8 @@ use Rattle.decide.proofs.Deciding.{call_ways}
 use Rattle.decide.proofs.step.decide_call.Statement.{statement}
 use Rattle.decide.proofs.step.decide_call.Tie as tie
 
-pub decide-call-spec : {M : Type 1} → statement M
-decide-call-spec =
+pub decide_call_spec : {M : Type 1} → statement M
+decide_call_spec =
     tie.close
     (tie.spec
     (λ c. search (call_ways, rules))

@@ -4,8 +4,8 @@ use Rattle.decide.proofs.Deciding.{read_inside, read_ways}
 use Rattle.decide.proofs.step.decide_read.Statement.{statement}
 use Rattle.decide.proofs.step.decide_read.Tie as tie
 
-pub decide-read-spec : {M : Type 1} → statement M
-decide-read-spec =
+pub decide_read_spec : {M : Type 1} → statement M
+decide_read_spec =
     tie.close
     (tie.spec
     (λ c. search (read_inside c.before.before.before.requires.0, rules))

@@ -4,8 +4,8 @@ use Rattle.decide.proofs.Deciding.{test_ways}
 use Rattle.decide.proofs.step.decide_test.Statement.{statement}
 use Rattle.decide.proofs.step.decide_test.Tie as tie
 
-pub decide-test-spec : {M : Type 1} → statement M
-decide-test-spec =
+pub decide_test_spec : {M : Type 1} → statement M
+decide_test_spec =
     tie.close
     (tie.spec
     (λ c. search (test_ways, rules))

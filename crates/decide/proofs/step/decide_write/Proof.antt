@@ -4,8 +4,8 @@ use Rattle.decide.proofs.Deciding.{write_inside, write_ways}
 use Rattle.decide.proofs.step.decide_write.Statement.{statement}
 use Rattle.decide.proofs.step.decide_write.Tie as tie
 
-pub decide-write-spec : {M : Type 1} → statement M
-decide-write-spec =
+pub decide_write_spec : {M : Type 1} → statement M
+decide_write_spec =
     tie.close
     (tie.spec
     (λ c. search (write_ways, rules))

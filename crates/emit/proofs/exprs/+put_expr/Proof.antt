@@ -40,8 +40,8 @@ put-expr-calls t = (
   put-part-reads.Learnt,
 )
 
-pub +put-expr-spec : {M : Type 1} → statement M
-+put-expr-spec =
+pub +put_expr_spec : {M : Type 1} → statement M
++put_expr_spec =
     close μ-put-expr
     (λ t. put-expr-lts.spec (put-expr-calls t) (put-expr-at t) put-expr.Post
     (λ c. search copy_ways)

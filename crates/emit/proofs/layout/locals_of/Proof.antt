@@ -4,8 +4,8 @@ use Rattle.emit.proofs.Placing.{place_ways}
 use Rattle.emit.proofs.layout.locals_of.Statement.{statement}
 use Rattle.emit.proofs.layout.locals_of.Tie as tie
 
-pub locals-of-spec : {M : Type 1} → statement M
-locals-of-spec =
+pub locals_of_spec : {M : Type 1} → statement M
+locals_of_spec =
     tie.close
     (tie.spec
     (λ c. search rules)

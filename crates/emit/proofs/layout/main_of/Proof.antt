@@ -4,8 +4,8 @@ use Rattle.emit.proofs.Placing.{place_ways}
 use Rattle.emit.proofs.layout.main_of.Statement.{statement}
 use Rattle.emit.proofs.layout.main_of.Tie as tie
 
-pub main-of-spec : {M : Type 1} → statement M
-main-of-spec =
+pub main_of_spec : {M : Type 1} → statement M
+main_of_spec =
     tie.close
     (tie.spec
     (λ c. search rules)

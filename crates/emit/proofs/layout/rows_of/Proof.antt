@@ -4,8 +4,8 @@ use Rattle.emit.proofs.Placing.{place_ways}
 use Rattle.emit.proofs.layout.rows_of.Statement.{statement}
 use Rattle.emit.proofs.layout.rows_of.Tie as tie
 
-pub rows-of-spec : {M : Type 1} → statement M
-rows-of-spec =
+pub rows_of_spec : {M : Type 1} → statement M
+rows_of_spec =
     tie.close
     (tie.spec
     (λ c. search rules)

@@ -4,8 +4,8 @@ use Rattle.emit.proofs.Placing.{place_ways}
 use Rattle.emit.proofs.layout.site_of.Statement.{statement}
 use Rattle.emit.proofs.layout.site_of.Tie as tie
 
-pub site-of-spec : {M : Type 1} → statement M
-site-of-spec =
+pub site_of_spec : {M : Type 1} → statement M
+site_of_spec =
     tie.close
     (tie.spec
     (λ c. search place_ways)

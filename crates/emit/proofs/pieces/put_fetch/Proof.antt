@@ -4,8 +4,8 @@ use Rattle.emit.proofs.Coding.{code_ways}
 use Rattle.emit.proofs.pieces.put_fetch.Statement.{statement}
 use Rattle.emit.proofs.pieces.put_fetch.Tie as tie
 
-pub put-fetch-spec : {M : Type 1} → statement M
-put-fetch-spec =
+pub put_fetch_spec : {M : Type 1} → statement M
+put_fetch_spec =
     tie.close
     (tie.spec
     (λ c κs. search rules)

@@ -4,8 +4,8 @@ use Rattle.emit.proofs.Coding.{code_ways}
 use Rattle.emit.proofs.pieces.put_goto.Statement.{statement}
 use Rattle.emit.proofs.pieces.put_goto.Tie as tie
 
-pub put-goto-spec : {M : Type 1} → statement M
-put-goto-spec =
+pub put_goto_spec : {M : Type 1} → statement M
+put_goto_spec =
     tie.close
     (tie.spec
     (λ c κs. search rules)

@@ -4,8 +4,8 @@ use Rattle.emit.proofs.Coding.{code_ways}
 use Rattle.emit.proofs.pieces.put_keep.Statement.{statement}
 use Rattle.emit.proofs.pieces.put_keep.Tie as tie
 
-pub put-keep-spec : {M : Type 1} → statement M
-put-keep-spec =
+pub put_keep_spec : {M : Type 1} → statement M
+put_keep_spec =
     tie.close
     (tie.spec
     (λ c κs. search rules)

@@ -4,8 +4,8 @@ use Rattle.emit.proofs.Coding.{code_ways}
 use Rattle.emit.proofs.pieces.put_load.Statement.{statement}
 use Rattle.emit.proofs.pieces.put_load.Tie as tie
 
-pub put-load-spec : {M : Type 1} → statement M
-put-load-spec =
+pub put_load_spec : {M : Type 1} → statement M
+put_load_spec =
     tie.close
     (tie.spec
     (λ c κs. search rules)

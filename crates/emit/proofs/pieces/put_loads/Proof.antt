@@ -11,8 +11,8 @@ invariant-loop s set out₀ at left₀ p₀ out left p = Loading s set out₀ at
 abbrev decreases-loop : tie.decreases-loop
 decreases-loop s set out₀ at left₀ p₀ out left p = left
 
-pub put-loads-spec : {M : Type 1} → statement M
-put-loads-spec =
+pub put_loads_spec : {M : Type 1} → statement M
+put_loads_spec =
     tie.close
     (tie.spec
     invariant-loop

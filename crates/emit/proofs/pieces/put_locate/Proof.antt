@@ -4,8 +4,8 @@ use Rattle.emit.proofs.Coding.{code_ways}
 use Rattle.emit.proofs.pieces.put_locate.Statement.{statement}
 use Rattle.emit.proofs.pieces.put_locate.Tie as tie
 
-pub put-locate-spec : {M : Type 1} → statement M
-put-locate-spec =
+pub put_locate_spec : {M : Type 1} → statement M
+put_locate_spec =
     tie.close
     (tie.spec
     (λ c κs. search rules)

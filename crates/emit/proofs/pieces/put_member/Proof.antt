@@ -4,8 +4,8 @@ use Rattle.emit.proofs.Coding.{code_ways}
 use Rattle.emit.proofs.pieces.put_member.Statement.{statement}
 use Rattle.emit.proofs.pieces.put_member.Tie as tie
 
-pub put-member-spec : {M : Type 1} → statement M
-put-member-spec =
+pub put_member_spec : {M : Type 1} → statement M
+put_member_spec =
     tie.close
     (tie.spec
     (λ c κs. search rules)

@@ -4,8 +4,8 @@ use Rattle.emit.proofs.Coding.{code_ways}
 use Rattle.emit.proofs.pieces.put_pc.Statement.{statement}
 use Rattle.emit.proofs.pieces.put_pc.Tie as tie
 
-pub put-pc-spec : {M : Type 1} → statement M
-put-pc-spec =
+pub put_pc_spec : {M : Type 1} → statement M
+put_pc_spec =
     tie.close
     (tie.spec
     (λ c. search rules)

@@ -4,8 +4,8 @@ use Rattle.emit.proofs.Coding.{code_ways}
 use Rattle.emit.proofs.pieces.put_return.Statement.{statement}
 use Rattle.emit.proofs.pieces.put_return.Tie as tie
 
-pub put-return-spec : {M : Type 1} → statement M
-put-return-spec =
+pub put_return_spec : {M : Type 1} → statement M
+put_return_spec =
     tie.close
     (tie.spec
     (λ c. search rules)

@@ -4,8 +4,8 @@ use Rattle.emit.proofs.Coding.{code_ways}
 use Rattle.emit.proofs.pieces.put_take.Statement.{statement}
 use Rattle.emit.proofs.pieces.put_take.Tie as tie
 
-pub put-take-spec : {M : Type 1} → statement M
-put-take-spec =
+pub put_take_spec : {M : Type 1} → statement M
+put_take_spec =
     tie.close
     (tie.spec
     (λ c κs. search rules)

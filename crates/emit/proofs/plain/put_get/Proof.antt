@@ -4,8 +4,8 @@ use Rattle.emit.proofs.Plainly.{plain_ways}
 use Rattle.emit.proofs.plain.put_get.Statement.{statement}
 use Rattle.emit.proofs.plain.put_get.Tie as tie
 
-pub put-get-spec : {M : Type 1} → statement M
-put-get-spec =
+pub put_get_spec : {M : Type 1} → statement M
+put_get_spec =
     tie.close
     (tie.spec
     (λ c κs. search rules)

@@ -4,8 +4,8 @@ use Rattle.emit.proofs.Plainly.{plain_ways}
 use Rattle.emit.proofs.plain.put_held.Statement.{statement}
 use Rattle.emit.proofs.plain.put_held.Tie as tie
 
-pub put-held-spec : {M : Type 1} → statement M
-put-held-spec =
+pub put_held_spec : {M : Type 1} → statement M
+put_held_spec =
     tie.close
     (tie.spec
     (λ c κs. search rules)

@@ -4,8 +4,8 @@ use Rattle.emit.proofs.Plainly.{plain_ways}
 use Rattle.emit.proofs.plain.put_loads_of.Statement.{statement}
 use Rattle.emit.proofs.plain.put_loads_of.Tie as tie
 
-pub put-loads-of-spec : {M : Type 1} → statement M
-put-loads-of-spec =
+pub put_loads_of_spec : {M : Type 1} → statement M
+put_loads_of_spec =
     tie.close
     (tie.spec
     (λ c κs. search rules)

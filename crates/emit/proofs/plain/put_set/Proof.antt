@@ -4,8 +4,8 @@ use Rattle.emit.proofs.Plainly.{plain_ways}
 use Rattle.emit.proofs.plain.put_set.Statement.{statement}
 use Rattle.emit.proofs.plain.put_set.Tie as tie
 
-pub put-set-spec : {M : Type 1} → statement M
-put-set-spec =
+pub put_set_spec : {M : Type 1} → statement M
+put_set_spec =
     tie.close
     (tie.spec
     (λ c κs. search rules)

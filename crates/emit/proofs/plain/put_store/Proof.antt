@@ -4,8 +4,8 @@ use Rattle.emit.proofs.Plainly.{plain_ways}
 use Rattle.emit.proofs.plain.put_store.Statement.{statement}
 use Rattle.emit.proofs.plain.put_store.Tie as tie
 
-pub put-store-spec : {M : Type 1} → statement M
-put-store-spec =
+pub put_store_spec : {M : Type 1} → statement M
+put_store_spec =
     tie.close
     (tie.spec
     (λ c κs. search rules)

@@ -4,8 +4,8 @@ use Rattle.emit.proofs.Plainly.{plain_ways}
 use Rattle.emit.proofs.plain.put_write.Statement.{statement}
 use Rattle.emit.proofs.plain.put_write.Tie as tie
 
-pub put-write-spec : {M : Type 1} → statement M
-put-write-spec =
+pub put_write_spec : {M : Type 1} → statement M
+put_write_spec =
     tie.close
     (tie.spec
     (λ c. search rules)

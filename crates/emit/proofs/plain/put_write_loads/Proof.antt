@@ -4,8 +4,8 @@ use Rattle.emit.proofs.Plainly.{plain_ways}
 use Rattle.emit.proofs.plain.put_write_loads.Statement.{statement}
 use Rattle.emit.proofs.plain.put_write_loads.Tie as tie
 
-pub put-write-loads-spec : {M : Type 1} → statement M
-put-write-loads-spec =
+pub put_write_loads_spec : {M : Type 1} → statement M
+put_write_loads_spec =
     tie.close
     (tie.spec
     (λ c κs. search rules)

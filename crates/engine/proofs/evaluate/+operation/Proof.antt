@@ -61,8 +61,8 @@ second : (t : ℕ) (c : operation-lts.Joined3 (calls t) (operation-at t) operati
     Evaluates a.t.now a.locals.now a.base x.if1.a.next (a.depth - 1) c.if3.b
 second t c = ⊎_elim (λ w. rw w.2 (as_leaf w.0.taken w.1.ensures)) (λ w. rw w.2 w.1.ensures) c.if3.branch
 
-pub +operation-spec : {M : Type 1} → statement M
-+operation-spec = close μ-operation λ t. operation-lts.spec (calls t)
+pub +operation_spec : {M : Type 1} → statement M
++operation_spec = close μ-operation λ t. operation-lts.spec (calls t)
     (operation-at t)
     operation.Post
     (λ c. search (eval_ways, rules))

@@ -4,8 +4,8 @@ use Rattle.engine.proofs.Evaluating.{eval_ways}
 use Rattle.engine.proofs.evaluate.evaluate.Statement.{statement}
 use Rattle.engine.proofs.evaluate.evaluate.Tie as tie
 
-pub evaluate-spec : {M : Type 1} → statement M
-evaluate-spec =
+pub evaluate_spec : {M : Type 1} → statement M
+evaluate_spec =
     tie.close (tie.spec
     (λ c. search (eval_ways, rules))
     (λ c κs. search (eval_ways, rules))

@@ -4,8 +4,8 @@ use Rattle.engine.proofs.Operands.{ways}
 use Rattle.engine.proofs.evaluate.lacking.Statement.{statement}
 use Rattle.engine.proofs.evaluate.lacking.Tie as tie
 
-pub lacking-spec : {M : Type 1} → statement M
-lacking-spec =
+pub lacking_spec : {M : Type 1} → statement M
+lacking_spec =
     tie.close
     (tie.spec
     (λ c. search (ways, rules))

@@ -6,8 +6,8 @@ use Rattle.engine.proofs.Evaluating.{leaf_ways}
 use Rattle.engine.proofs.evaluate.leaf.Statement.{statement}
 use Rattle.engine.proofs.evaluate.leaf.Tie as tie
 
-pub leaf-spec : {M : Type 1} → statement M
-leaf-spec =
+pub leaf_spec : {M : Type 1} → statement M
+leaf_spec =
     tie.close
     (tie.spec
     (λ c. search (leaf_ways, rules))

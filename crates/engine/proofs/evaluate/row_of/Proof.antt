@@ -6,8 +6,8 @@ use Rattle.basics.specs.Laws.Columns.{count_told, kind_told}
 use Rattle.engine.proofs.evaluate.row_of.Statement.{statement}
 use Rattle.engine.proofs.evaluate.row_of.Tie as tie
 
-pub row-of-spec : {M : Type 1} → statement M
-row-of-spec =
+pub row_of_spec : {M : Type 1} → statement M
+row_of_spec =
     tie.close
     (tie.spec
     (λ c. search rules)

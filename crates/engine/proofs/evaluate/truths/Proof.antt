@@ -4,8 +4,8 @@ use Rattle.engine.proofs.Operands.{ways}
 use Rattle.engine.proofs.evaluate.truths.Statement.{statement}
 use Rattle.engine.proofs.evaluate.truths.Tie as tie
 
-pub truths-spec : {M : Type 1} → statement M
-truths-spec =
+pub truths_spec : {M : Type 1} → statement M
+truths_spec =
     tie.close
     (tie.spec
     (λ c. search (ways, rules))

@@ -4,8 +4,8 @@ use Rattle.engine.proofs.Operands.{ways}
 use Rattle.engine.proofs.evaluate.two.Statement.{statement}
 use Rattle.engine.proofs.evaluate.two.Tie as tie
 
-pub two-spec : {M : Type 1} → statement M
-two-spec =
+pub two_spec : {M : Type 1} → statement M
+two_spec =
     tie.close (tie.spec
     (λ c. search (ways, rules))
     (λ c κs. search (ways, rules))

@@ -4,8 +4,8 @@ use Rattle.engine.proofs.Operands.{ways}
 use Rattle.engine.proofs.evaluate.wholes.Statement.{statement}
 use Rattle.engine.proofs.evaluate.wholes.Tie as tie
 
-pub wholes-spec : {M : Type 1} → statement M
-wholes-spec =
+pub wholes_spec : {M : Type 1} → statement M
+wholes_spec =
     tie.close
     (tie.spec
     (λ c. search (ways, rules))

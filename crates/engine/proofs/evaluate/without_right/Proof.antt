@@ -4,8 +4,8 @@ use Rattle.engine.proofs.Operands.{suits_any, suits_own, suits_none, ways}
 use Rattle.engine.proofs.evaluate.without_right.Statement.{statement}
 use Rattle.engine.proofs.evaluate.without_right.Tie as tie
 
-pub without-right-spec : {M : Type 1} → statement M
-without-right-spec =
+pub without_right_spec : {M : Type 1} → statement M
+without_right_spec =
     tie.close
     (tie.spec
     (λ c κs. search (ways, rules))

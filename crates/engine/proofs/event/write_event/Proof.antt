@@ -8,8 +8,8 @@ use Rattle.engine.specs.Laws.Logging.{event_stored, event_past}
 use Rattle.engine.proofs.event.write_event.Statement.{statement}
 use Rattle.engine.proofs.event.write_event.Tie as tie
 
-pub write-event-spec : {M : Type 1} → statement M
-write-event-spec =
+pub write_event_spec : {M : Type 1} → statement M
+write_event_spec =
     tie.close
     (tie.spec
     (λ c. search rules)

@@ -7,8 +7,8 @@ use Rattle.engine.specs.Laws.Logging.{two_stored}
 use Rattle.engine.proofs.event.write_two.Statement.{statement}
 use Rattle.engine.proofs.event.write_two.Tie as tie
 
-pub write-two-spec : {M : Type 1} → statement M
-write-two-spec =
+pub write_two_spec : {M : Type 1} → statement M
+write_two_spec =
     tie.close
     (tie.spec
     (λ c. search rules)

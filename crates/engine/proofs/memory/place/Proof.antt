@@ -4,8 +4,8 @@ use Rattle.engine.proofs.Placing.{high_read, pointer_none, pointer_other, index_
 use Rattle.engine.proofs.memory.place.Statement.{statement}
 use Rattle.engine.proofs.memory.place.Tie as tie
 
-pub place-spec : {M : Type 1} → statement M
-place-spec =
+pub place_spec : {M : Type 1} → statement M
+place_spec =
     tie.close
     (tie.spec
     (λ c. search (place_ways, rules))

@@ -18,8 +18,8 @@ invariant-loop2 t at count starts₀ total i₀ starts i = Starting (sizes_at t 
 abbrev decreases-loop2 : tie.decreases-loop2
 decreases-loop2 t at count starts₀ total i₀ starts i = start_words - i
 
-pub set-starts-spec : {M : Type 1} → statement M
-set-starts-spec =
+pub set_starts_spec : {M : Type 1} → statement M
+set_starts_spec =
     tie.close
     (tie.spec
     invariant-loop

@@ -11,8 +11,8 @@ invariant-loop cells count out₀ i₀ out i = Writing cells count out₀ out i
 abbrev decreases-loop : tie.decreases-loop
 decreases-loop cells count out₀ i₀ out i = count - i
 
-pub write-cells-spec : {M : Type 1} → statement M
-write-cells-spec =
+pub write_cells_spec : {M : Type 1} → statement M
+write_cells_spec =
     tie.close
     (tie.spec
     invariant-loop

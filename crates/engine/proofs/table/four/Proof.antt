@@ -6,8 +6,8 @@ use mathlib.Core.Path.{◌≡◌}
 use Rattle.engine.proofs.table.four.Statement.{statement}
 use Rattle.engine.proofs.table.four.Tie as tie
 
-pub four-spec : {M : Type 1} → statement M
-four-spec = tie.close (tie.spec
+pub four_spec : {M : Type 1} → statement M
+four_spec = tie.close (tie.spec
     (λ c κs. search rules)
     (λ c. search rules)
     (λ c κs. search rules)

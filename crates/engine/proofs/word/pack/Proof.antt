@@ -5,8 +5,8 @@ use Rattle.engine.proofs.Values.{value_held}
 use Rattle.engine.proofs.word.pack.Statement.{statement}
 use Rattle.engine.proofs.word.pack.Tie as tie
 
-pub pack-spec : {M : Type 1} → statement M
-pack-spec =
+pub pack_spec : {M : Type 1} → statement M
+pack_spec =
     tie.close
     (tie.spec
     (λ c κs. search rules)

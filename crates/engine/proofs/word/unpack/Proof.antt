@@ -8,5 +8,5 @@ returns : tie.Need-returns
 unfolding held
 returns c = c.value_of_lem.ensures
 
-pub unpack-spec : {M : Type 1} → statement M
-unpack-spec = tie.close (tie.spec (λ c. search rules) (λ c. search rules) (λ c κs. search rules) returns)
+pub unpack_spec : {M : Type 1} → statement M
+unpack_spec = tie.close (tie.spec (λ c. search rules) (λ c. search rules) (λ c κs. search rules) returns)

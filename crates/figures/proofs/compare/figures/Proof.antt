@@ -32,8 +32,8 @@ returns-2 c =
     c.before.before.before.before.before.translate.ensures
     known.shared-slice-known.given c.before.before.if1.false c.run-both.ensures
 
-pub figures-spec : {M : Type 1} → statement M
-figures-spec =
+pub figures_spec : {M : Type 1} → statement M
+figures_spec =
     tie.close
     (tie.spec
     (λ c. search rules)

@@ -14,8 +14,8 @@ returns-2 c =
     compared_both _ _ _ c.before.before.before.before.run-program.ensures c.run-copy.result c.before.before.if1.false
     c.before.read-concurrent.ensures c.run-copy.ensures
 
-pub run-both-spec : {M : Type 1} → statement M
-run-both-spec =
+pub run_both_spec : {M : Type 1} → statement M
+run_both_spec =
     tie.close
     (tie.spec
     (λ c κs. search rules)

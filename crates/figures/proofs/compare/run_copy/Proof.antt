@@ -10,5 +10,5 @@ returns c =
     copy_ran known.before.args.copy.now known.before.args.schedule.now known.shared-slice-known.given
     known.before.args.locations c.before.before.run-sequential.ensures
 
-pub run-copy-spec : {M : Type 1} → statement M
-run-copy-spec = tie.close (tie.spec (λ c. search rules) (λ c. search rules) (λ c κs. search rules) returns)
+pub run_copy_spec : {M : Type 1} → statement M
+run_copy_spec = tie.close (tie.spec (λ c. search rules) (λ c. search rules) (λ c κs. search rules) returns)

@@ -10,5 +10,5 @@ returns c =
     program_ran known.before.args.table.now known.before.args.schedule.now known.shared-slice-known.given
     c.before.before.run-concurrent.ensures
 
-pub run-program-spec : {M : Type 1} → statement M
-run-program-spec = tie.close (tie.spec (λ c. search rules) (λ c. search rules) (λ c κs. search rules) returns)
+pub run_program_spec : {M : Type 1} → statement M
+run_program_spec = tie.close (tie.spec (λ c. search rules) (λ c. search rules) (λ c κs. search rules) returns)

@@ -15,8 +15,8 @@ returns-2 c =
     input_split _ split.before.before.before.if1.false split.before.before.at_most.ensures split.before.two_bytes.ensures
     split.at-most2.ensures c.figures.ensures
 
-pub figures-of-input-spec : {M : Type 1} → statement M
-figures-of-input-spec =
+pub figures_of_input_spec : {M : Type 1} → statement M
+figures_of_input_spec =
     tie.close
     (tie.spec
     (λ c κs. search rules)

@@ -7,5 +7,5 @@ use Rattle.figures.proofs.input.print.Tie as tie
 returns : tie.Need-returns
 returns c = input_lined _ _ c.before.before.figures-of-input.ensures c.write-line.ensures
 
-pub print-spec : {M : Type 1} → statement M
-print-spec = tie.close (tie.spec (λ c κs. search rules) (λ c κs. search rules) returns)
+pub print_spec : {M : Type 1} → statement M
+print_spec = tie.close (tie.spec (λ c κs. search rules) (λ c κs. search rules) returns)

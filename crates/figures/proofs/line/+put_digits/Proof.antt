@@ -23,8 +23,8 @@ put-digits-below t = and 1 put-digits-kinds.ps (falls 1 put-digits-kinds.ps ◌<
 abbrev put-digits-calls : ℕ → put-digits-lts.Claims
 put-digits-calls t = (put_reads.Asked, put_reads.Learnt, put-digits-below t, put-digits.Post)
 
-pub +put-digits-spec : {M : Type 1} → statement M
-+put-digits-spec =
+pub +put_digits_spec : {M : Type 1} → statement M
++put_digits_spec =
     close μ-put-digits
     (λ t. put-digits-lts.spec (put-digits-calls t) (put-digits-at t) put-digits.Post
     (λ c. search line_ways)

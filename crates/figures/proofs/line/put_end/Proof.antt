@@ -4,8 +4,8 @@ use Rattle.figures.proofs.Lines.{line_ways}
 use Rattle.figures.proofs.line.put_end.Statement.{statement}
 use Rattle.figures.proofs.line.put_end.Tie as tie
 
-pub put-end-spec : {M : Type 1} → statement M
-put-end-spec =
+pub put_end_spec : {M : Type 1} → statement M
+put_end_spec =
     tie.close
     (tie.spec
     (λ c. search rules)

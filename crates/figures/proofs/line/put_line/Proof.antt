@@ -4,8 +4,8 @@ use Rattle.figures.proofs.Lines.{line_ways}
 use Rattle.figures.proofs.line.put_line.Statement.{statement}
 use Rattle.figures.proofs.line.put_line.Tie as tie
 
-pub put-line-spec : {M : Type 1} → statement M
-put-line-spec =
+pub put_line_spec : {M : Type 1} → statement M
+put_line_spec =
     tie.close
     (tie.spec
     (λ c κs. search rules)

@@ -4,8 +4,8 @@ use Rattle.figures.proofs.Lines.{line_ways}
 use Rattle.figures.proofs.line.put_number.Statement.{statement}
 use Rattle.figures.proofs.line.put_number.Tie as tie
 
-pub put-number-spec : {M : Type 1} → statement M
-put-number-spec =
+pub put_number_spec : {M : Type 1} → statement M
+put_number_spec =
     tie.close
     (tie.spec
     (λ c κs. search rules)

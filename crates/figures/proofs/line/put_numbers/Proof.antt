@@ -20,8 +20,8 @@ numbers-put c =
     fifth.put-number5.ensures
     c.before.before.put.ensures
 
-pub put-numbers-spec : {M : Type 1} → statement M
-put-numbers-spec =
+pub put_numbers_spec : {M : Type 1} → statement M
+put_numbers_spec =
     tie.close
     (tie.spec
     (λ c κs. search rules)

@@ -4,8 +4,8 @@ use Rattle.figures.proofs.Lines.{line_ways}
 use Rattle.figures.proofs.line.put_refused.Statement.{statement}
 use Rattle.figures.proofs.line.put_refused.Tie as tie
 
-pub put-refused-spec : {M : Type 1} → statement M
-put-refused-spec =
+pub put_refused_spec : {M : Type 1} → statement M
+put_refused_spec =
     tie.close
     (tie.spec
     (λ c. search rules)

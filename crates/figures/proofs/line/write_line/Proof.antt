@@ -7,5 +7,5 @@ use Rattle.figures.proofs.line.write_line.Tie as tie
 returns : tie.Need-returns
 returns c = line_whole _ (search rules) c.put-line.ensures
 
-pub write-line-spec : {M : Type 1} → statement M
-write-line-spec = tie.close (tie.spec (λ c κs. search rules) returns)
+pub write_line_spec : {M : Type 1} → statement M
+write_line_spec = tie.close (tie.spec (λ c κs. search rules) returns)

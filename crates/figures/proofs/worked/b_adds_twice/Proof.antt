@@ -4,8 +4,8 @@ use borrow.Author.Rules.{rules}
 use Rattle.figures.proofs.worked.b_adds_twice.Statement.{statement}
 use Rattle.figures.proofs.worked.b_adds_twice.Tie as tie
 
-pub b-adds-twice-spec : {M : Type 1} → statement M
-b-adds-twice-spec =
+pub b_adds_twice_spec : {M : Type 1} → statement M
+b_adds_twice_spec =
     tie.close
     (tie.spec
     (λ c. search rules)

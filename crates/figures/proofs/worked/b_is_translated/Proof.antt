@@ -4,7 +4,7 @@ use borrow.Author.Rules.{rules}
 use Rattle.figures.proofs.worked.b_is_translated.Statement.{statement}
 use Rattle.figures.proofs.worked.b_is_translated.Tie as tie
 
-pub b-is-translated-spec : {M : Type 1} → statement M
-b-is-translated-spec =
+pub b_is_translated_spec : {M : Type 1} → statement M
+b_is_translated_spec =
     tie.close
     (tie.spec (λ c. search rules) (λ c. search rules) (λ c κs. search rules) (λ c. ap (λ x. x.answer) c.before.translate.ensures))

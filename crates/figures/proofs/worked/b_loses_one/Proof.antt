@@ -4,8 +4,8 @@ use borrow.Author.Rules.{rules}
 use Rattle.figures.proofs.worked.b_loses_one.Statement.{statement}
 use Rattle.figures.proofs.worked.b_loses_one.Tie as tie
 
-pub b-loses-one-spec : {M : Type 1} → statement M
-b-loses-one-spec =
+pub b_loses_one_spec : {M : Type 1} → statement M
+b_loses_one_spec =
     tie.close
     (tie.spec
     (λ c. search rules)

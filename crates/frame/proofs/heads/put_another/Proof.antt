@@ -4,8 +4,8 @@ use Rattle.frame.proofs.Heading.{head_ways}
 use Rattle.frame.proofs.heads.put_another.Statement.{statement}
 use Rattle.frame.proofs.heads.put_another.Tie as tie
 
-pub put-another-spec : {M : Type 1} → statement M
-put-another-spec =
+pub put_another_spec : {M : Type 1} → statement M
+put_another_spec =
     tie.close
     (tie.spec
     (λ c. search rules)

@@ -4,8 +4,8 @@ use Rattle.frame.proofs.Heading.{head_ways}
 use Rattle.frame.proofs.heads.put_argument.Statement.{statement}
 use Rattle.frame.proofs.heads.put_argument.Tie as tie
 
-pub put-argument-spec : {M : Type 1} → statement M
-put-argument-spec =
+pub put_argument_spec : {M : Type 1} → statement M
+put_argument_spec =
     tie.close
     (tie.spec
     (λ c. search rules)

@@ -15,8 +15,8 @@ invariant-loop n text out₀ at j₀ p₀ out j p = Onto text out₀ at (each ar
 abbrev decreases-loop : tie.decreases-loop
 decreases-loop n text out₀ at j₀ p₀ out j p = n - j
 
-pub put-arguments-spec : {M : Type 1} → statement M
-put-arguments-spec =
+pub put_arguments_spec : {M : Type 1} → statement M
+put_arguments_spec =
     tie.close
     (tie.spec
     invariant-loop

@@ -4,8 +4,8 @@ use Rattle.frame.proofs.Heading.{head_ways}
 use Rattle.frame.proofs.heads.put_counted.Statement.{statement}
 use Rattle.frame.proofs.heads.put_counted.Tie as tie
 
-pub put-counted-spec : {M : Type 1} → statement M
-put-counted-spec =
+pub put_counted_spec : {M : Type 1} → statement M
+put_counted_spec =
     tie.close
     (tie.spec
     (λ c κs. search rules)

@@ -4,8 +4,8 @@ use Rattle.frame.proofs.Heading.{head_ways}
 use Rattle.frame.proofs.heads.put_head.Statement.{statement}
 use Rattle.frame.proofs.heads.put_head.Tie as tie
 
-pub put-head-spec : {M : Type 1} → statement M
-put-head-spec =
+pub put_head_spec : {M : Type 1} → statement M
+put_head_spec =
     tie.close
     (tie.spec
     (λ c. search rules)

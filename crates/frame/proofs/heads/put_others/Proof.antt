@@ -15,8 +15,8 @@ invariant-loop n text out₀ at j₀ p₀ out j p = Onto text out₀ at (each an
 abbrev decreases-loop : tie.decreases-loop
 decreases-loop n text out₀ at j₀ p₀ out j p = n - j
 
-pub put-others-spec : {M : Type 1} → statement M
-put-others-spec =
+pub put_others_spec : {M : Type 1} → statement M
+put_others_spec =
     tie.close
     (tie.spec
     invariant-loop

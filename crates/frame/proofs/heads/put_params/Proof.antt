@@ -4,8 +4,8 @@ use Rattle.frame.proofs.Heading.{head_ways}
 use Rattle.frame.proofs.heads.put_params.Statement.{statement}
 use Rattle.frame.proofs.heads.put_params.Tie as tie
 
-pub put-params-spec : {M : Type 1} → statement M
-put-params-spec =
+pub put_params_spec : {M : Type 1} → statement M
+put_params_spec =
     tie.close
     (tie.spec
     (λ c. search rules)

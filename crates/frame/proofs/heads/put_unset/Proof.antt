@@ -4,8 +4,8 @@ use Rattle.frame.proofs.Heading.{head_ways}
 use Rattle.frame.proofs.heads.put_unset.Statement.{statement}
 use Rattle.frame.proofs.heads.put_unset.Tie as tie
 
-pub put-unset-spec : {M : Type 1} → statement M
-put-unset-spec =
+pub put_unset_spec : {M : Type 1} → statement M
+put_unset_spec =
     tie.close
     (tie.spec
     (λ c. search rules)

@@ -15,8 +15,8 @@ invariant-loop from n text out₀ at j₀ p₀ out j p = Onto text out₀ at (ea
 abbrev decreases-loop : tie.decreases-loop
 decreases-loop from n text out₀ at j₀ p₀ out j p = n - j
 
-pub put-unsets-spec : {M : Type 1} → statement M
-put-unsets-spec =
+pub put_unsets_spec : {M : Type 1} → statement M
+put_unsets_spec =
     tie.close
     (tie.spec
     invariant-loop

@@ -4,8 +4,8 @@ use Rattle.frame.proofs.Placing.{place_ways}
 use Rattle.frame.proofs.locations.put_area.Statement.{statement}
 use Rattle.frame.proofs.locations.put_area.Tie as tie
 
-pub put-area-spec : {M : Type 1} → statement M
-put-area-spec =
+pub put_area_spec : {M : Type 1} → statement M
+put_area_spec =
     tie.close
     (tie.spec
     (λ c. search rules)

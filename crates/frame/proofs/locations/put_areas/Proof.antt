@@ -13,8 +13,8 @@ invariant-loop t from n text out₀ at k₀ p₀ out k p = SizesFrom area t text
 abbrev decreases-loop : tie.decreases-loop
 decreases-loop t from n text out₀ at k₀ p₀ out k p = n - k
 
-pub put-areas-spec : {M : Type 1} → statement M
-put-areas-spec =
+pub put_areas_spec : {M : Type 1} → statement M
+put_areas_spec =
     tie.close
     (tie.spec
     invariant-loop

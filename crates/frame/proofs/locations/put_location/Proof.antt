@@ -4,8 +4,8 @@ use Rattle.frame.proofs.Placing.{place_ways}
 use Rattle.frame.proofs.locations.put_location.Statement.{statement}
 use Rattle.frame.proofs.locations.put_location.Tie as tie
 
-pub put-location-spec : {M : Type 1} → statement M
-put-location-spec =
+pub put_location_spec : {M : Type 1} → statement M
+put_location_spec =
     tie.close
     (tie.spec
     (λ c. search rules)

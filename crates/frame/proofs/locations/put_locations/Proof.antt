@@ -13,8 +13,8 @@ invariant-loop t from n text out₀ at k₀ p₀ out k p = SizesFrom location t 
 abbrev decreases-loop : tie.decreases-loop
 decreases-loop t from n text out₀ at k₀ p₀ out k p = n - k
 
-pub put-locations-spec : {M : Type 1} → statement M
-put-locations-spec =
+pub put_locations_spec : {M : Type 1} → statement M
+put_locations_spec =
     tie.close
     (tie.spec
     invariant-loop

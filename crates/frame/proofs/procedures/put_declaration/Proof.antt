@@ -4,8 +4,8 @@ use Rattle.frame.proofs.Defining.{define_ways}
 use Rattle.frame.proofs.procedures.put_declaration.Statement.{statement}
 use Rattle.frame.proofs.procedures.put_declaration.Tie as tie
 
-pub put-declaration-spec : {M : Type 1} → statement M
-put-declaration-spec =
+pub put_declaration_spec : {M : Type 1} → statement M
+put_declaration_spec =
     tie.close
     (tie.spec
     (λ c κs. search rules)

@@ -12,8 +12,8 @@ invariant-loop t from n text out₀ at k₀ p₀ out k p = DeclarationsFrom t te
 abbrev decreases-loop : tie.decreases-loop
 decreases-loop t from n text out₀ at k₀ p₀ out k p = n - k
 
-pub put-declarations-spec : {M : Type 1} → statement M
-put-declarations-spec =
+pub put_declarations_spec : {M : Type 1} → statement M
+put_declarations_spec =
     tie.close
     (tie.spec
     invariant-loop

@@ -4,8 +4,8 @@ use Rattle.frame.proofs.Defining.{define_ways}
 use Rattle.frame.proofs.procedures.put_definition.Statement.{statement}
 use Rattle.frame.proofs.procedures.put_definition.Tie as tie
 
-pub put-definition-spec : {M : Type 1} → statement M
-put-definition-spec =
+pub put_definition_spec : {M : Type 1} → statement M
+put_definition_spec =
     tie.close
     (tie.spec
     (λ c κs. search rules)

@@ -12,8 +12,8 @@ invariant-loop t from n text out₀ at k₀ i₀ p₀ out k i p = DefinitionsFro
 abbrev decreases-loop : tie.decreases-loop
 decreases-loop t from n text out₀ at k₀ i₀ p₀ out k i p = n - k
 
-pub put-definitions-spec : {M : Type 1} → statement M
-put-definitions-spec =
+pub put_definitions_spec : {M : Type 1} → statement M
+put_definitions_spec =
     tie.close
     (tie.spec
     invariant-loop

@@ -21,8 +21,8 @@ opening-set c =
     arguments.put-arguments.ensures
     unsets.put-unsets.ensures
 
-pub put-opening-spec : {M : Type 1} → statement M
-put-opening-spec =
+pub put_opening_spec : {M : Type 1} → statement M
+put_opening_spec =
     tie.close
     (tie.spec
     (λ c κs. search rules)

@@ -19,8 +19,8 @@ places-set c =
     areas.put-areas.ensures
     zeros.put-all2.ensures
 
-pub put-places-spec : {M : Type 1} → statement M
-put-places-spec =
+pub put_places_spec : {M : Type 1} → statement M
+put_places_spec =
     tie.close
     (tie.spec
     (λ c κs. search rules)

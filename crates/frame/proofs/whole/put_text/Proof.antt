@@ -4,8 +4,8 @@ use Rattle.frame.proofs.Gathering.{text_put}
 use Rattle.frame.proofs.whole.put_text.Statement.{statement}
 use Rattle.frame.proofs.whole.put_text.Tie as tie
 
-pub put-text-spec : {M : Type 1} → statement M
-put-text-spec =
+pub put_text_spec : {M : Type 1} → statement M
+put_text_spec =
     tie.close
     (tie.spec
     (λ c. search rules)

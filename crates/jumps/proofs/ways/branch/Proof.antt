@@ -4,8 +4,8 @@ use Rattle.jumps.proofs.Jumping.{settle_ways}
 use Rattle.jumps.proofs.ways.branch.Statement.{statement}
 use Rattle.jumps.proofs.ways.branch.Tie as tie
 
-pub branch-spec : {M : Type 1} → statement M
-branch-spec =
+pub branch_spec : {M : Type 1} → statement M
+branch_spec =
     tie.close
     (tie.spec
     (λ c κs. search rules)

@@ -4,8 +4,8 @@ use Rattle.jumps.proofs.Jumping.{settle_ways}
 use Rattle.jumps.proofs.ways.settle.Statement.{statement}
 use Rattle.jumps.proofs.ways.settle.Tie as tie
 
-pub settle-spec : {M : Type 1} → statement M
-settle-spec =
+pub settle_spec : {M : Type 1} → statement M
+settle_spec =
     tie.close
     (tie.spec
     (λ c. search rules)

@@ -57,8 +57,8 @@ count-instr-calls t = (
   after-plain-reads.Learnt,
 )
 
-pub +count-block-count-instr-spec : {M : Type 1} → statement M
-+count-block-count-instr-spec = close μ-count-block μ-count-instr
+pub +count_block_count_instr_spec : {M : Type 1} → statement M
++count_block_count_instr_spec = close μ-count-block μ-count-instr
     (λ t. count-block-lts.spec (count-block-calls t) (count-block-at t) count-block.Post count-block-Inv-loop count-block-μ-loop
     (λ c. search count_ways)
     (λ c. search rules)

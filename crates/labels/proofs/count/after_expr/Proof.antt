@@ -4,8 +4,8 @@ use Rattle.labels.proofs.Counting.{expr_end_ways}
 use Rattle.labels.proofs.count.after_expr.Statement.{statement}
 use Rattle.labels.proofs.count.after_expr.Tie as tie
 
-pub after-expr-spec : {M : Type 1} → statement M
-after-expr-spec =
+pub after_expr_spec : {M : Type 1} → statement M
+after_expr_spec =
     tie.close
     (tie.spec
     (λ c κs. search rules)

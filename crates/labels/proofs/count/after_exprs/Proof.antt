@@ -10,8 +10,8 @@ invariant-loop t at n i₀ left₀ i left = Skipping t at n i left
 abbrev decreases-loop : tie.decreases-loop
 decreases-loop t at n i₀ left₀ i left = left
 
-pub after-exprs-spec : {M : Type 1} → statement M
-after-exprs-spec =
+pub after_exprs_spec : {M : Type 1} → statement M
+after_exprs_spec =
     tie.close
     (tie.spec
     invariant-loop

@@ -4,8 +4,8 @@ use Rattle.labels.proofs.Counting.{plain_ways}
 use Rattle.labels.proofs.count.after_plain.Statement.{statement}
 use Rattle.labels.proofs.count.after_plain.Tie as tie
 
-pub after-plain-spec : {M : Type 1} → statement M
-after-plain-spec =
+pub after_plain_spec : {M : Type 1} → statement M
+after_plain_spec =
     tie.close
     (tie.spec
     (λ c. search plain_ways)

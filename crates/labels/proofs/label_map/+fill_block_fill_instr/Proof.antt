@@ -64,8 +64,8 @@ fill-instr-calls t = (
   count-block-reads.Learnt,
 )
 
-pub +fill-block-fill-instr-spec : {M : Type 1} → statement M
-+fill-block-fill-instr-spec = close μ-fill-block μ-fill-instr
+pub +fill_block_fill_instr_spec : {M : Type 1} → statement M
++fill_block_fill_instr_spec = close μ-fill-block μ-fill-instr
     (λ t. fill-block-lts.spec (fill-block-calls t) (fill-block-at t) fill-block.Post fill-block-Inv-loop fill-block-μ-loop
     (λ c. search fill_ways)
     (λ c. search rules)

@@ -11,8 +11,8 @@ invariant-loop t procs map₀ bounds₀ m₀ at₀ l₀ map bounds m at l = Mapp
 abbrev decreases-loop : tie.decreases-loop
 decreases-loop t procs map₀ bounds₀ m₀ at₀ l₀ map bounds m at l = procs - m
 
-pub fill-labels-spec : {M : Type 1} → statement M
-fill-labels-spec =
+pub fill_labels_spec : {M : Type 1} → statement M
+fill_labels_spec =
     tie.close
     (tie.spec
     invariant-loop

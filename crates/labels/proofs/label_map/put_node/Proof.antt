@@ -4,8 +4,8 @@ use Rattle.labels.proofs.Filling.{put_ways}
 use Rattle.labels.proofs.label_map.put_node.Statement.{statement}
 use Rattle.labels.proofs.label_map.put_node.Tie as tie
 
-pub put-node-spec : {M : Type 1} → statement M
-put-node-spec =
+pub put_node_spec : {M : Type 1} → statement M
+put_node_spec =
     tie.close
     (tie.spec
     (λ c. search rules)

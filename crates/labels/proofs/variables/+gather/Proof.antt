@@ -31,8 +31,8 @@ gather-calls t = (
   leaf-reads.Learnt,
 )
 
-pub +gather-spec : {M : Type 1} → statement M
-+gather-spec = close μ-gather λ t. gather-lts.spec (gather-calls t) (gather-at t) gather.Post
+pub +gather_spec : {M : Type 1} → statement M
++gather_spec = close μ-gather λ t. gather-lts.spec (gather-calls t) (gather-at t) gather.Post
     (λ c. search gather_ways)
     (λ c. search gather_ways)
     (λ c. search rules)

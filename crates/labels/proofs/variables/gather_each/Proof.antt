@@ -11,8 +11,8 @@ invariant-loop code at count set₀ i₀ left₀ set i left = Gathering code at 
 abbrev decreases-loop : tie.decreases-loop
 decreases-loop code at count set₀ i₀ left₀ set i left = left
 
-pub gather-each-spec : {M : Type 1} → statement M
-gather-each-spec =
+pub gather_each_spec : {M : Type 1} → statement M
+gather_each_spec =
     tie.close
     (tie.spec
     invariant-loop

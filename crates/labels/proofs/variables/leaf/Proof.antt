@@ -4,8 +4,8 @@ use Rattle.labels.proofs.Gathering.{leaf_ways}
 use Rattle.labels.proofs.variables.leaf.Statement.{statement}
 use Rattle.labels.proofs.variables.leaf.Tie as tie
 
-pub leaf-spec : {M : Type 1} → statement M
-leaf-spec =
+pub leaf_spec : {M : Type 1} → statement M
+leaf_spec =
     tie.close
     (tie.spec
     (λ c. search rules)

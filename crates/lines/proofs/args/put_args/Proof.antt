@@ -4,8 +4,8 @@ use Rattle.lines.proofs.Plainly.{plain_ways}
 use Rattle.lines.proofs.args.put_args.Statement.{statement}
 use Rattle.lines.proofs.args.put_args.Tie as tie
 
-pub put-args-spec : {M : Type 1} → statement M
-put-args-spec =
+pub put_args_spec : {M : Type 1} → statement M
+put_args_spec =
     tie.close
     (tie.spec
     (λ c. search plain_ways)

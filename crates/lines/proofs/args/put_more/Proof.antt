@@ -11,8 +11,8 @@ invariant-loop t at n text out₀ to left₀ i₀ p₀ out left i p = Further t 
 abbrev decreases-loop : tie.decreases-loop
 decreases-loop t at n text out₀ to left₀ i₀ p₀ out left i p = left
 
-pub put-more-spec : {M : Type 1} → statement M
-put-more-spec =
+pub put_more_spec : {M : Type 1} → statement M
+put_more_spec =
     tie.close
     (tie.spec
     invariant-loop

@@ -87,8 +87,8 @@ put-instr-calls t = (
   put-plain-reads.Learnt,
 )
 
-pub +put-block-put-closed-put-instr-spec : {M : Type 1} → statement M
-+put-block-put-closed-put-instr-spec =
+pub +put_block_put_closed_put_instr_spec : {M : Type 1} → statement M
++put_block_put_closed_put_instr_spec =
     close μ-put-block μ-put-closed μ-put-instr
     (λ t. put-block-lts.spec (put-block-calls t) (put-block-at t) put-block.Post put-block-Inv-loop put-block-μ-loop
     (λ c. search nested_ways)

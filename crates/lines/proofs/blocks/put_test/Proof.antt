@@ -4,8 +4,8 @@ use Rattle.lines.proofs.Nested.{nested_ways}
 use Rattle.lines.proofs.blocks.put_test.Statement.{statement}
 use Rattle.lines.proofs.blocks.put_test.Tie as tie
 
-pub put-test-spec : {M : Type 1} → statement M
-put-test-spec =
+pub put_test_spec : {M : Type 1} → statement M
+put_test_spec =
     tie.close
     (tie.spec
     (λ c κs. search rules)

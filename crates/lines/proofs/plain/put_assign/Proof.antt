@@ -4,8 +4,8 @@ use Rattle.lines.proofs.Plainly.{plain_ways}
 use Rattle.lines.proofs.plain.put_assign.Statement.{statement}
 use Rattle.lines.proofs.plain.put_assign.Tie as tie
 
-pub put-assign-spec : {M : Type 1} → statement M
-put-assign-spec =
+pub put_assign_spec : {M : Type 1} → statement M
+put_assign_spec =
     tie.close
     (tie.spec
     (λ c. search rules)

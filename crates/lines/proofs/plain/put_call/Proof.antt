@@ -4,8 +4,8 @@ use Rattle.lines.proofs.Plainly.{plain_ways}
 use Rattle.lines.proofs.plain.put_call.Statement.{statement}
 use Rattle.lines.proofs.plain.put_call.Tie as tie
 
-pub put-call-spec : {M : Type 1} → statement M
-put-call-spec =
+pub put_call_spec : {M : Type 1} → statement M
+put_call_spec =
     tie.close
     (tie.spec
     (λ c. search rules)

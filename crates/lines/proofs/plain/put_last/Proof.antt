@@ -4,8 +4,8 @@ use Rattle.lines.proofs.Plainly.{plain_ways}
 use Rattle.lines.proofs.plain.put_last.Statement.{statement}
 use Rattle.lines.proofs.plain.put_last.Tie as tie
 
-pub put-last-spec : {M : Type 1} → statement M
-put-last-spec =
+pub put_last_spec : {M : Type 1} → statement M
+put_last_spec =
     tie.close
     (tie.spec
     (λ c κs. search rules)

@@ -4,8 +4,8 @@ use Rattle.lines.proofs.Plainly.{plain_ways}
 use Rattle.lines.proofs.plain.put_numbered.Statement.{statement}
 use Rattle.lines.proofs.plain.put_numbered.Tie as tie
 
-pub put-numbered-spec : {M : Type 1} → statement M
-put-numbered-spec =
+pub put_numbered_spec : {M : Type 1} → statement M
+put_numbered_spec =
     tie.close
     (tie.spec
     (λ c κs. search rules)

@@ -4,8 +4,8 @@ use Rattle.lines.proofs.Plainly.{plain_ways}
 use Rattle.lines.proofs.plain.put_pointer.Statement.{statement}
 use Rattle.lines.proofs.plain.put_pointer.Tie as tie
 
-pub put-pointer-spec : {M : Type 1} → statement M
-put-pointer-spec =
+pub put_pointer_spec : {M : Type 1} → statement M
+put_pointer_spec =
     tie.close
     (tie.spec
     (λ c κs. search rules)

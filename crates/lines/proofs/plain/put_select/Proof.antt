@@ -4,8 +4,8 @@ use Rattle.lines.proofs.Plainly.{plain_ways}
 use Rattle.lines.proofs.plain.put_select.Statement.{statement}
 use Rattle.lines.proofs.plain.put_select.Tie as tie
 
-pub put-select-spec : {M : Type 1} → statement M
-put-select-spec =
+pub put_select_spec : {M : Type 1} → statement M
+put_select_spec =
     tie.close
     (tie.spec
     (λ c. search rules)

@@ -4,8 +4,8 @@ use Rattle.mender.proofs.Trailing.{trailing_ways}
 use Rattle.mender.proofs.changes.put_change.Statement.{statement}
 use Rattle.mender.proofs.changes.put_change.Tie as tie
 
-pub put-change-spec : {M : Type 1} → statement M
-put-change-spec =
+pub put_change_spec : {M : Type 1} → statement M
+put_change_spec =
     tie.close
     (tie.spec
     (λ c. search trailing_ways)

@@ -12,8 +12,8 @@ invariant-loop old table list₀ end i₀ p₀ list i p = Listing old table list
 abbrev decreases-loop : tie.decreases-loop
 decreases-loop old table list₀ end i₀ p₀ list i p = trailer_size - i
 
-pub put-changes-spec : {M : Type 1} → statement M
-put-changes-spec =
+pub put_changes_spec : {M : Type 1} → statement M
+put_changes_spec =
     tie.close
     (tie.spec
     invariant-loop

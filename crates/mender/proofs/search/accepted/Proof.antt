@@ -4,8 +4,8 @@ use Rattle.mender.proofs.Searching.{counts_ways}
 use Rattle.mender.proofs.search.accepted.Statement.{statement}
 use Rattle.mender.proofs.search.accepted.Tie as tie
 
-pub accepted-spec : {M : Type 1} → statement M
-accepted-spec =
+pub accepted_spec : {M : Type 1} → statement M
+accepted_spec =
     tie.close
     (tie.spec
     (λ c. search rules)

@@ -3,8 +3,8 @@ use borrow.Author.Rules.{rules}
 use Rattle.mender.proofs.search.bounds.Statement.{statement}
 use Rattle.mender.proofs.search.bounds.Tie as tie
 
-pub bounds-spec : {M : Type 1} → statement M
-bounds-spec =
+pub bounds_spec : {M : Type 1} → statement M
+bounds_spec =
     tie.close
     (tie.spec
     (λ c. search rules)

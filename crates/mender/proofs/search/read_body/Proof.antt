@@ -5,8 +5,8 @@ use lib.ListN.{length-take}
 use Rattle.mender.proofs.search.read_body.Statement.{statement}
 use Rattle.mender.proofs.search.read_body.Tie as tie
 
-pub read-body-spec : {M : Type 1} → statement M
-read-body-spec =
+pub read_body_spec : {M : Type 1} → statement M
+read_body_spec =
     tie.close
     (tie.spec
     (λ c. search rules)

@@ -4,8 +4,8 @@ use Rattle.mender.proofs.Searching.{counts_ways}
 use Rattle.mender.proofs.search.try_counts.Statement.{statement}
 use Rattle.mender.proofs.search.try_counts.Tie as tie
 
-pub try-counts-spec : {M : Type 1} → statement M
-try-counts-spec =
+pub try_counts_spec : {M : Type 1} → statement M
+try_counts_spec =
     tie.close
     (tie.spec
     (λ c κs. search rules)

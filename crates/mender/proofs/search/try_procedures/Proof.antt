@@ -13,8 +13,8 @@ invariant-loop table₀ kind procedures at most end records rest found₀ thread
 abbrev decreases-loop : tie.decreases-loop
 decreases-loop table₀ kind procedures at most end records rest found₀ threads₀ table found threads = suc most.threads - threads
 
-pub try-procedures-spec : {M : Type 1} → statement M
-try-procedures-spec =
+pub try_procedures_spec : {M : Type 1} → statement M
+try_procedures_spec =
     tie.close
     (tie.spec
     invariant-loop

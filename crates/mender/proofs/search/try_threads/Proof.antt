@@ -4,8 +4,8 @@ use Rattle.mender.proofs.Searching.{counts_ways}
 use Rattle.mender.proofs.search.try_threads.Statement.{statement}
 use Rattle.mender.proofs.search.try_threads.Tie as tie
 
-pub try-threads-spec : {M : Type 1} → statement M
-try-threads-spec =
+pub try_threads_spec : {M : Type 1} → statement M
+try_threads_spec =
     tie.close
     (tie.spec
     (λ c. search counts_ways)

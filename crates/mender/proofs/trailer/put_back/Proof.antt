@@ -4,8 +4,8 @@ use Rattle.mender.proofs.Trailing.{trailing_ways}
 use Rattle.mender.proofs.trailer.put_back.Statement.{statement}
 use Rattle.mender.proofs.trailer.put_back.Tie as tie
 
-pub put-back-spec : {M : Type 1} → statement M
-put-back-spec =
+pub put_back_spec : {M : Type 1} → statement M
+put_back_spec =
     tie.close
     (tie.spec
     (λ c. search rules)

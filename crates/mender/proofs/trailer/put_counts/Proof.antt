@@ -4,8 +4,8 @@ use Rattle.mender.proofs.Trailing.{trailing_ways}
 use Rattle.mender.proofs.trailer.put_counts.Statement.{statement}
 use Rattle.mender.proofs.trailer.put_counts.Tie as tie
 
-pub put-counts-spec : {M : Type 1} → statement M
-put-counts-spec =
+pub put_counts_spec : {M : Type 1} → statement M
+put_counts_spec =
     tie.close
     (tie.spec
     (λ c. search rules)

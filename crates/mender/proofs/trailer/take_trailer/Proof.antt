@@ -4,8 +4,8 @@ use Rattle.mender.proofs.Trailing.{trailing_ways}
 use Rattle.mender.proofs.trailer.take_trailer.Statement.{statement}
 use Rattle.mender.proofs.trailer.take_trailer.Tie as tie
 
-pub take-trailer-spec : {M : Type 1} → statement M
-take-trailer-spec =
+pub take_trailer_spec : {M : Type 1} → statement M
+take_trailer_spec =
     tie.close
     (tie.spec
     (λ c. search rules)

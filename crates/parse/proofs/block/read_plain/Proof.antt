@@ -4,8 +4,8 @@ use Rattle.parse.proofs.Plain.{plain_ways}
 use Rattle.parse.proofs.block.read_plain.Statement.{statement}
 use Rattle.parse.proofs.block.read_plain.Tie as tie
 
-pub read-plain-spec : {M : Type 1} → statement M
-read-plain-spec = tie.close (tie.spec
+pub read_plain_spec : {M : Type 1} → statement M
+read_plain_spec = tie.close (tie.spec
     (λ c. search plain_ways)
     (λ c. search rules)
     (λ c. search rules)

@@ -3,6 +3,6 @@ use borrow.Author.Rules.{rules}
 use Rattle.parse.proofs.block.within.Statement.{statement}
 use Rattle.parse.proofs.block.within.Tie as tie
 
-pub within-spec : {M : Type 1} → statement M
-within-spec = tie.close (tie.spec
+pub within_spec : {M : Type 1} → statement M
+within_spec = tie.close (tie.spec
     (λ c. search rules))

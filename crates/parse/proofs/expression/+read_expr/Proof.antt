@@ -25,8 +25,8 @@ read-expr-below t =
 abbrev read-expr-calls : ℕ → read-expr-lts.Claims
 read-expr-calls t = (operands-reads.Asked, operands-reads.Learnt, payload-reads.Asked, payload-reads.Learnt, read-expr-below t, read-expr.Post)
 
-pub +read-expr-spec : {M : Type 1} → statement M
-+read-expr-spec = close μ-read-expr λ t. read-expr-lts.spec (read-expr-calls t) (read-expr-at t) read-expr.Post
+pub +read_expr_spec : {M : Type 1} → statement M
++read_expr_spec = close μ-read-expr λ t. read-expr-lts.spec (read-expr-calls t) (read-expr-at t) read-expr.Post
     (λ c. search expr_ways)
     (λ c. search expr_ways)
     (λ c. search rules)

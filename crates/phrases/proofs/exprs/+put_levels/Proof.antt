@@ -60,8 +60,8 @@ two-shown c =
     right.put-levels3.ensures
     close.put2.ensures
 
-pub +put-levels-spec : {M : Type 1} → statement M
-+put-levels-spec =
+pub +put_levels_spec : {M : Type 1} → statement M
++put_levels_spec =
     close μ-put-levels
     (λ t. put-levels-lts.spec (put-levels-calls t) (put-levels-at t) put-levels.Post
     (λ c. search leaf_ways)

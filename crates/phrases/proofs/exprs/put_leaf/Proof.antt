@@ -4,8 +4,8 @@ use Rattle.phrases.proofs.Leaves.{leaf_ways}
 use Rattle.phrases.proofs.exprs.put_leaf.Statement.{statement}
 use Rattle.phrases.proofs.exprs.put_leaf.Tie as tie
 
-pub put-leaf-spec : {M : Type 1} → statement M
-put-leaf-spec =
+pub put_leaf_spec : {M : Type 1} → statement M
+put_leaf_spec =
     tie.close
     (tie.spec
     (λ c. search rules)

@@ -4,8 +4,8 @@ use Rattle.phrases.proofs.Leaves.{leaf_ways}
 use Rattle.phrases.proofs.exprs.put_sep.Statement.{statement}
 use Rattle.phrases.proofs.exprs.put_sep.Tie as tie
 
-pub put-sep-spec : {M : Type 1} → statement M
-put-sep-spec =
+pub put_sep_spec : {M : Type 1} → statement M
+put_sep_spec =
     tie.close
     (tie.spec
     (λ c. search rules)

@@ -12,8 +12,8 @@ invariant-loop t at end q marks₀ i₀ marks i = From t end (marked_by q marks�
 abbrev decreases-loop : tie.decreases-loop
 decreases-loop t at end q marks₀ i₀ marks i = end - i
 
-pub mark-body-spec : {M : Type 1} → statement M
-mark-body-spec =
+pub mark_body_spec : {M : Type 1} → statement M
+mark_body_spec =
     tie.close
     (tie.spec
     invariant-loop

@@ -33,8 +33,8 @@ no_call q marks (T.Call m n) h = absurd (miss others 9 tt h)
 no_call q marks T.Atomic h = refl
 no_call q marks (T.Select a b) h = refl
 
-pub mark-call-spec : {M : Type 1} → statement M
-mark-call-spec =
+pub mark_call_spec : {M : Type 1} → statement M
+mark_call_spec =
     tie.close
     (tie.spec
     (λ c. search rules)

@@ -11,8 +11,8 @@ invariant-loop t procedures records marks₀ q₀ marks q = Marking t procedures
 abbrev decreases-loop : tie.decreases-loop
 decreases-loop t procedures records marks₀ q₀ marks q = procedures - q
 
-pub mark-calls-spec : {M : Type 1} → statement M
-mark-calls-spec =
+pub mark_calls_spec : {M : Type 1} → statement M
+mark_calls_spec =
     tie.close
     (tie.spec
     invariant-loop

@@ -67,8 +67,8 @@ inside-costs-μ-loop t at depth i₀ least₀ most₀ i least most = length t - 
 abbrev inside-costs-calls : ℕ → inside-costs-lts.Claims
 inside-costs-calls t = (inner-costs-below t, inner_costs.Post)
 
-pub +inner-costs-inside-costs-spec : {M : Type 1} → statement M
-+inner-costs-inside-costs-spec = close μ-inner-costs μ-inside-costs
+pub +inner_costs_inside_costs_spec : {M : Type 1} → statement M
++inner_costs_inside_costs_spec = close μ-inner-costs μ-inside-costs
     (λ t. inner-costs-lts.spec (inner-costs-calls t) (inner-costs-at t) inner_costs.Post
     (λ c. search rules)
     (λ c. search rules)

@@ -4,8 +4,8 @@ use Rattle.prices.proofs.Costing.{plain_ways}
 use Rattle.prices.proofs.costs.plain_costs.Statement.{statement}
 use Rattle.prices.proofs.costs.plain_costs.Tie as tie
 
-pub plain-costs-spec : {M : Type 1} → statement M
-plain-costs-spec =
+pub plain_costs_spec : {M : Type 1} → statement M
+plain_costs_spec =
     tie.close
     (tie.spec
     (λ c. search rules)

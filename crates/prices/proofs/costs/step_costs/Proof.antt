@@ -4,8 +4,8 @@ use Rattle.prices.proofs.Stepping.{step_ways}
 use Rattle.prices.proofs.costs.step_costs.Statement.{statement}
 use Rattle.prices.proofs.costs.step_costs.Tie as tie
 
-pub step-costs-spec : {M : Type 1} → statement M
-step-costs-spec =
+pub step_costs_spec : {M : Type 1} → statement M
+step_costs_spec =
     tie.close
     (tie.spec
     (λ c. search rules)

@@ -4,8 +4,8 @@ use Rattle.quick.proofs.Wording.{nested_low, nested_high, brief_ways}
 use Rattle.quick.proofs.brief.expression.Statement.{statement}
 use Rattle.quick.proofs.brief.expression.Tie as tie
 
-pub expression-spec : {M : Type 1} → statement M
-expression-spec =
+pub expression_spec : {M : Type 1} → statement M
+expression_spec =
     tie.close
     (tie.spec
     (λ c. search (brief_ways, rules))

@@ -4,8 +4,8 @@ use Rattle.quick.proofs.Wording.{brief_ways}
 use Rattle.quick.proofs.brief.local.Statement.{statement}
 use Rattle.quick.proofs.brief.local.Tie as tie
 
-pub local-spec : {M : Type 1} → statement M
-local-spec =
+pub local_spec : {M : Type 1} → statement M
+local_spec =
     tie.close
     (tie.spec
     (λ c κs. search rules)

@@ -4,8 +4,8 @@ use Rattle.quick.proofs.Wording.{sure_none, plain_inside, plain_second, plain_lo
 use Rattle.quick.proofs.brief.operation.Statement.{statement}
 use Rattle.quick.proofs.brief.operation.Tie as tie
 
-pub operation-spec : {M : Type 1} → statement M
-operation-spec =
+pub operation_spec : {M : Type 1} → statement M
+operation_spec =
     tie.close
     (tie.spec
     (λ c. search (brief_ways, rules))

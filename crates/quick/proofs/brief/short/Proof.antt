@@ -4,8 +4,8 @@ use Rattle.quick.proofs.Wording.{brief_ways}
 use Rattle.quick.proofs.brief.short.Statement.{statement}
 use Rattle.quick.proofs.brief.short.Tie as tie
 
-pub short-spec : {M : Type 1} → statement M
-short-spec =
+pub short_spec : {M : Type 1} → statement M
+short_spec =
     tie.close
     (tie.spec
     (λ c. search (brief_ways, rules))

@@ -4,8 +4,8 @@ use Rattle.quick.proofs.Wording.{brief_ways}
 use Rattle.quick.proofs.brief.shown.Statement.{statement}
 use Rattle.quick.proofs.brief.shown.Tie as tie
 
-pub shown-spec : {M : Type 1} → statement M
-shown-spec =
+pub shown_spec : {M : Type 1} → statement M
+shown_spec =
     tie.close
     (tie.spec
     (λ c. search (brief_ways, rules))

@@ -4,8 +4,8 @@ use Rattle.quick.proofs.Operating.{operate_ways}
 use Rattle.quick.proofs.operate.equal.Statement.{statement}
 use Rattle.quick.proofs.operate.equal.Tie as tie
 
-pub equal-spec : {M : Type 1} → statement M
-equal-spec =
+pub equal_spec : {M : Type 1} → statement M
+equal_spec =
     tie.close
     (tie.spec
     (λ c. search (operate_ways, rules))

@@ -4,8 +4,8 @@ use Rattle.quick.proofs.Operating.{operate_ways}
 use Rattle.quick.proofs.operate.is_truth.Statement.{statement}
 use Rattle.quick.proofs.operate.is_truth.Tie as tie
 
-pub is-truth-spec : {M : Type 1} → statement M
-is-truth-spec =
+pub is_truth_spec : {M : Type 1} → statement M
+is_truth_spec =
     tie.close
     (tie.spec
     (λ c. search (operate_ways, rules))

@@ -19,8 +19,8 @@ fits c =
 read_fits : (c : tie.Else2) → SFits w32 (to_z w64 (of_z w64 c.before.before.args.x))
 read_fits c = rw (to_z-of_z c.before.before.ranges.x) (fits c)
 
-pub narrow-spec : {M : Type 1} → statement M
-narrow-spec =
+pub narrow_spec : {M : Type 1} → statement M
+narrow_spec =
     tie.close
     (tie.spec
     (λ c. claims_none)

@@ -4,8 +4,8 @@ use Rattle.quick.proofs.Operating.{operate_ways}
 use Rattle.quick.proofs.operate.truth.Statement.{statement}
 use Rattle.quick.proofs.operate.truth.Tie as tie
 
-pub truth-spec : {M : Type 1} → statement M
-truth-spec =
+pub truth_spec : {M : Type 1} → statement M
+truth_spec =
     tie.close
     (tie.spec
     (λ c. search (operate_ways, rules))

@@ -4,8 +4,8 @@ use Rattle.quick.proofs.Operating.{operate_ways}
 use Rattle.quick.proofs.operate.wholes.Statement.{statement}
 use Rattle.quick.proofs.operate.wholes.Tie as tie
 
-pub wholes-spec : {M : Type 1} → statement M
-wholes-spec =
+pub wholes_spec : {M : Type 1} → statement M
+wholes_spec =
     tie.close
     (tie.spec
     (λ c. search (operate_ways, rules))

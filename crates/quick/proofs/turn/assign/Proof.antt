@@ -4,8 +4,8 @@ use Rattle.quick.proofs.Turning.{part_ways}
 use Rattle.quick.proofs.turn.assign.Statement.{statement}
 use Rattle.quick.proofs.turn.assign.Tie as tie
 
-pub assign-spec : {M : Type 1} → statement M
-assign-spec =
+pub assign_spec : {M : Type 1} → statement M
+assign_spec =
     tie.close
     (tie.spec
     (λ c. search (part_ways, rules))

@@ -18,8 +18,8 @@ argument : (c : tie.Joined1 invariant-loop decreases-loop) → let start = c.bef
     Sure a.t.now start.loop.words a.base start.loop.next c.if1.e
 argument c = ⊎_elim (λ w. rw w.3 w.2.ensures) (λ w. rw w.3 w.2.ensures) c.if1.branch
 
-pub call-spec : {M : Type 1} → statement M
-call-spec =
+pub call_spec : {M : Type 1} → statement M
+call_spec =
     tie.close
     (tie.spec
     invariant-loop

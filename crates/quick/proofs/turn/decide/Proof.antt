@@ -4,8 +4,8 @@ use Rattle.quick.proofs.Deciding.{turning_ways}
 use Rattle.quick.proofs.turn.decide.Statement.{statement}
 use Rattle.quick.proofs.turn.decide.Tie as tie
 
-pub decide-spec : {M : Type 1} → statement M
-decide-spec =
+pub decide_spec : {M : Type 1} → statement M
+decide_spec =
     tie.close
     (tie.spec
     (λ c. search (turning_ways, rules))

@@ -4,8 +4,8 @@ use Rattle.quick.proofs.Choosing.{choice_ways}
 use Rattle.quick.proofs.turn.is_another.Statement.{statement}
 use Rattle.quick.proofs.turn.is_another.Tie as tie
 
-pub is-another-spec : {M : Type 1} → statement M
-is-another-spec =
+pub is_another_spec : {M : Type 1} → statement M
+is_another_spec =
     tie.close
     (tie.spec
     (λ c. search (choice_ways, rules))

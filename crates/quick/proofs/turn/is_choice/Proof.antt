@@ -4,8 +4,8 @@ use Rattle.quick.proofs.Choosing.{choice_second, choice_fourth, says_none, says_
 use Rattle.quick.proofs.turn.is_choice.Statement.{statement}
 use Rattle.quick.proofs.turn.is_choice.Tie as tie
 
-pub is-choice-spec : {M : Type 1} → statement M
-is-choice-spec =
+pub is_choice_spec : {M : Type 1} → statement M
+is_choice_spec =
     tie.close
     (tie.spec
     (λ c. search rules)

@@ -6,8 +6,8 @@ use Rattle.quick.proofs.Turning.{part_ways}
 use Rattle.quick.proofs.turn.place.Statement.{statement}
 use Rattle.quick.proofs.turn.place.Tie as tie
 
-pub place-spec : {M : Type 1} → statement M
-place-spec =
+pub place_spec : {M : Type 1} → statement M
+place_spec =
     tie.close
     (tie.spec
     (λ c κs. search (part_ways, rules))

@@ -4,8 +4,8 @@ use Rattle.quick.proofs.Choosing.{probe_ways}
 use Rattle.quick.proofs.turn.probe.Statement.{statement}
 use Rattle.quick.proofs.turn.probe.Tie as tie
 
-pub probe-spec : {M : Type 1} → statement M
-probe-spec =
+pub probe_spec : {M : Type 1} → statement M
+probe_spec =
     tie.close
     (tie.spec
     (λ c κs. search (probe_ways, rules))

@@ -4,8 +4,8 @@ use Rattle.quick.proofs.Turning.{part_ways}
 use Rattle.quick.proofs.turn.test.Statement.{statement}
 use Rattle.quick.proofs.turn.test.Tie as tie
 
-pub test-spec : {M : Type 1} → statement M
-test-spec =
+pub test_spec : {M : Type 1} → statement M
+test_spec =
     tie.close
     (tie.spec
     (λ c. search (part_ways, rules))

@@ -49,8 +49,8 @@ abbrev set-instr-calls : ℕ → set-instr-lts.Claims
 set-instr-calls t =
     (known-exprs-reads.Asked, known-exprs-reads.Learnt, set-block-below t, set-block.Post, set-plain-reads.Asked, set-plain-reads.Learnt)
 
-pub +set-block-set-instr-spec : {M : Type 1} → statement M
-+set-block-set-instr-spec = close μ-set-block μ-set-instr
+pub +set_block_set_instr_spec : {M : Type 1} → statement M
++set_block_set_instr_spec = close μ-set-block μ-set-instr
     (λ t. set-block-lts.spec (set-block-calls t) (set-block-at t) set-block.Post set-block-Inv-loop set-block-μ-loop
     (λ c. search ways)
     (λ c. search ways)

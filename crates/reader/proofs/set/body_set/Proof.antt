@@ -4,8 +4,8 @@ use Rattle.reader.specs.Laws.SetScans.{proc_ways}
 use Rattle.reader.proofs.set.body_set.Statement.{statement}
 use Rattle.reader.proofs.set.body_set.Tie as tie
 
-pub body-set-spec : {M : Type 1} → statement M
-body-set-spec = tie.close (tie.spec
+pub body_set_spec : {M : Type 1} → statement M
+body_set_spec = tie.close (tie.spec
     (λ c. search rules)
     (λ c. search rules)
     (λ c κs. search rules)

@@ -4,8 +4,8 @@ use Rattle.reader.specs.Laws.KnownScans.{known_ways}
 use Rattle.reader.proofs.set.has.Statement.{statement}
 use Rattle.reader.proofs.set.has.Tie as tie
 
-pub has-spec : {M : Type 1} → statement M
-has-spec = tie.close (tie.spec
+pub has_spec : {M : Type 1} → statement M
+has_spec = tie.close (tie.spec
     (λ c. search rules)
     (λ c. search known_ways)
     (λ c. search known_ways))

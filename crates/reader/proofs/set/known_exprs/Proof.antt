@@ -12,8 +12,8 @@ invariant-loop t at count set i₀ left₀ i left = KnowsFrom t at count set i l
 abbrev decreases-loop : tie.decreases-loop
 decreases-loop t at count set i₀ left₀ i left = length t - i
 
-pub known-exprs-spec : {M : Type 1} → statement M
-known-exprs-spec = tie.close (tie.spec
+pub known_exprs_spec : {M : Type 1} → statement M
+known_exprs_spec = tie.close (tie.spec
     invariant-loop
     decreases-loop
     (λ c. search known_ways)

@@ -4,8 +4,8 @@ use Rattle.reader.specs.Laws.KnownScans.{known_ways}
 use Rattle.reader.proofs.set.leaf_known.Statement.{statement}
 use Rattle.reader.proofs.set.leaf_known.Tie as tie
 
-pub leaf-known-spec : {M : Type 1} → statement M
-leaf-known-spec = tie.close (tie.spec
+pub leaf_known_spec : {M : Type 1} → statement M
+leaf_known_spec = tie.close (tie.spec
     (λ c. search rules)
     (λ c κs. search rules)
     (λ c κs. search rules)

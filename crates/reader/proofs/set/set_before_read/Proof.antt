@@ -11,8 +11,8 @@ invariant-loop t procedures records m₀ m = Before t procedures records m
 abbrev decreases-loop : tie.decreases-loop
 decreases-loop t procedures records m₀ m = procedures - m
 
-pub set-before-read-spec : {M : Type 1} → statement M
-set-before-read-spec = tie.close (tie.spec
+pub set_before_read_spec : {M : Type 1} → statement M
+set_before_read_spec = tie.close (tie.spec
     invariant-loop
     decreases-loop
     (λ c. search proc_ways)

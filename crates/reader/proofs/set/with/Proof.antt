@@ -4,8 +4,8 @@ use Rattle.reader.specs.Laws.SetScans.{ways}
 use Rattle.reader.proofs.set.with.Statement.{statement}
 use Rattle.reader.proofs.set.with.Tie as tie
 
-pub with-spec : {M : Type 1} → statement M
-with-spec = tie.close (tie.spec
+pub with_spec : {M : Type 1} → statement M
+with_spec = tie.close (tie.spec
     (λ c. search rules)
     (λ c. search ways)
     (λ c. search ways))

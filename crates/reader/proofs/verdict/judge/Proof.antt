@@ -4,8 +4,8 @@ use Rattle.reader.proofs.Verdicts.{verdict_ways}
 use Rattle.reader.proofs.verdict.judge.Statement.{statement}
 use Rattle.reader.proofs.verdict.judge.Tie as tie
 
-pub judge-spec : {M : Type 1} → statement M
-judge-spec =
+pub judge_spec : {M : Type 1} → statement M
+judge_spec =
     tie.close
     (tie.spec
     (λ c κs. search verdict_ways)

@@ -12,8 +12,8 @@ invariant-loop t at records threads depths₀ heights₀ rows₀ i₀ depths hei
 abbrev decreases-loop : tie.decreases-loop
 decreases-loop t at records threads depths₀ heights₀ rows₀ i₀ depths heights rows i = threads - i
 
-pub begin-spec : {M : Type 1} → statement M
-begin-spec =
+pub begin_spec : {M : Type 1} → statement M
+begin_spec =
     tie.close
     (tie.spec
     invariant-loop

@@ -78,8 +78,8 @@ loop-again c =
     going_on start.loop.invariant asked.finished.ensures first.if1.false second.if2.false stepped.step.ensures
     c.before.after.given.1
 
-pub go-spec : {M : Type 1} → statement M
-go-spec =
+pub go_spec : {M : Type 1} → statement M
+go_spec =
     tie.close
     (tie.spec
     invariant-loop

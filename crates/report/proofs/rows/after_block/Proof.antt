@@ -4,8 +4,8 @@ use Rattle.report.proofs.Rowing.{pass_ways}
 use Rattle.report.proofs.rows.after_block.Statement.{statement}
 use Rattle.report.proofs.rows.after_block.Tie as tie
 
-pub after-block-spec : {M : Type 1} → statement M
-after-block-spec =
+pub after_block_spec : {M : Type 1} → statement M
+after_block_spec =
     tie.close
     (tie.spec
     (λ c. search rules)

@@ -10,8 +10,8 @@ invariant-loop t rows low height n₀ n = Leaving t rows low height n
 abbrev decreases-loop : tie.decreases-loop
 decreases-loop t rows low height n₀ n = n
 
-pub left-spec : {M : Type 1} → statement M
-left-spec =
+pub left_spec : {M : Type 1} → statement M
+left_spec =
     tie.close
     (tie.spec
     invariant-loop

@@ -245,8 +245,8 @@ returns-8 c = search (rule_ways, rules)
 returns-9 : tie.Need-returns-9
 returns-9 c = search (rule_ways, rules)
 
-pub rule-spec : {M : Type 1} → statement M
-rule-spec =
+pub rule_spec : {M : Type 1} → statement M
+rule_spec =
     tie.close
     (tie.spec
     mul-row

@@ -108,8 +108,8 @@ parse-instr-calls t = (
   parse-select-reads.Learnt,
 )
 
-pub +parse-block-parse-if-parse-instr-spec : {M : Type 1} → statement M
-+parse-block-parse-if-parse-instr-spec =
+pub +parse_block_parse_if_parse_instr_spec : {M : Type 1} → statement M
++parse_block_parse_if_parse_instr_spec =
     close μ-parse-block μ-parse-if μ-parse-instr (λ t. parse-block-lts.spec (parse-block-calls t)
     (parse-block-at t)
     parse-block.Post

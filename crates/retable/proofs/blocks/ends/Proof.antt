@@ -5,8 +5,8 @@ use Rattle.retable.proofs.blocks.ends.Statement.{statement}
 use Rattle.retable.proofs.blocks.ends.Tie as tie
 use Rattle.retable.proofs.pieces.peek.Reads as peek-reads
 
-pub ends-spec : {M : Type 1} → statement M
-ends-spec =
+pub ends_spec : {M : Type 1} → statement M
+ends_spec =
     tie.close
     (tie.spec
     (λ c. search rules)

@@ -7,8 +7,8 @@ use Rattle.retable.proofs.exprs.parse_expr.Reads as parse-expr-reads
 use Rattle.retable.proofs.pieces.skip.Reads as skip-reads
 use Rattle.writer.proofs.bytes.put.Reads as put_reads
 
-pub parse-test-spec : {M : Type 1} → statement M
-parse-test-spec =
+pub parse_test_spec : {M : Type 1} → statement M
+parse_test_spec =
     tie.close (tie.spec
     (λ c κs. search rules)
     (λ c κs. search rules)

@@ -45,8 +45,8 @@ parse-expr-calls t = (
   parse-expr.Post,
 )
 
-pub +parse-expr-spec : {M : Type 1} → statement M
-+parse-expr-spec = close μ-parse-expr λ t. parse-expr-lts.spec (parse-expr-calls t)
+pub +parse_expr_spec : {M : Type 1} → statement M
++parse_expr_spec = close μ-parse-expr λ t. parse-expr-lts.spec (parse-expr-calls t)
     (parse-expr-at t)
     parse-expr.Post
     (λ c. search expr_ways)

@@ -6,8 +6,8 @@ use Rattle.retable.proofs.exprs.key_at.Tie as tie
 use Rattle.retable.proofs.exprs.name_key.Reads as name-key-reads
 use Rattle.retable.proofs.pieces.peek.Reads as peek-reads
 
-pub key-at-spec : {M : Type 1} → statement M
-key-at-spec =
+pub key_at_spec : {M : Type 1} → statement M
+key_at_spec =
     tie.close
     (tie.spec
     (λ c κs. search rules)

@@ -6,8 +6,8 @@ use Rattle.retable.proofs.exprs.parse_byte.Tie as tie
 use Rattle.retable.proofs.pieces.number.Reads as number-reads
 use Rattle.writer.proofs.bytes.put.Reads as put_reads
 
-pub parse-byte-spec : {M : Type 1} → statement M
-parse-byte-spec = tie.close (tie.spec
+pub parse_byte_spec : {M : Type 1} → statement M
+parse_byte_spec = tie.close (tie.spec
     (λ c κs. search rules)
     (λ c. search rules)
     (λ c κs. search rules)

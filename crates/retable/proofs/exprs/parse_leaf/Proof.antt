@@ -9,8 +9,8 @@ use Rattle.retable.proofs.exprs.parse_whole.Reads as parse-whole-reads
 use Rattle.retable.proofs.pieces.skip.Reads as skip-reads
 use Rattle.writer.proofs.bytes.put.Reads as put_reads
 
-pub parse-leaf-spec : {M : Type 1} → statement M
-parse-leaf-spec =
+pub parse_leaf_spec : {M : Type 1} → statement M
+parse_leaf_spec =
     tie.close
     (tie.spec
     (λ c κs. search rules)

@@ -6,8 +6,8 @@ use Rattle.retable.proofs.exprs.parse_two.Tie as tie
 use Rattle.retable.proofs.pieces.number.Reads as number-reads
 use Rattle.writer.proofs.bytes.put_two.Reads as put-two-reads
 
-pub parse-two-spec : {M : Type 1} → statement M
-parse-two-spec = tie.close (tie.spec
+pub parse_two_spec : {M : Type 1} → statement M
+parse_two_spec = tie.close (tie.spec
     (λ c κs. search rules)
     (λ c κs. search rules)
     (λ c. search rules)

@@ -8,8 +8,8 @@ use Rattle.retable.proofs.pieces.peek.Reads as peek-reads
 use Rattle.retable.proofs.pieces.skip.Reads as skip-reads
 use Rattle.writer.proofs.bytes.put_four.Reads as put-four-reads
 
-pub parse-whole-spec : {M : Type 1} → statement M
-parse-whole-spec =
+pub parse_whole_spec : {M : Type 1} → statement M
+parse_whole_spec =
     tie.close
     (tie.spec
     (λ c κs. search rules)

@@ -5,8 +5,8 @@ use Rattle.retable.proofs.frames.body_begins.Statement.{statement}
 use Rattle.retable.proofs.frames.body_begins.Tie as tie
 use Rattle.retable.proofs.pieces.peek.Reads as peek-reads
 
-pub body-begins-spec : {M : Type 1} → statement M
-body-begins-spec = tie.close (tie.spec
+pub body_begins_spec : {M : Type 1} → statement M
+body_begins_spec = tie.close (tie.spec
     (λ c κs. search rules)
     (λ c κs. search rules)
     (λ c. search unsets_ways)

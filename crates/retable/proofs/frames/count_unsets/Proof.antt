@@ -13,8 +13,8 @@ invariant-loop x at params i₀ count₀ i count = UnsetsFrom x at params i coun
 abbrev decreases-loop : tie.decreases-loop
 decreases-loop x at params i₀ count₀ i count = 255 - count
 
-pub count-unsets-spec : {M : Type 1} → statement M
-count-unsets-spec =
+pub count_unsets_spec : {M : Type 1} → statement M
+count_unsets_spec =
     tie.close
     (tie.spec
     invariant-loop

@@ -14,8 +14,8 @@ invariant-loop x at i₀ count₀ i count = ParamsFrom x at 1 i count
 abbrev decreases-loop : tie.decreases-loop
 decreases-loop x at i₀ count₀ i count = 255 - count
 
-pub more-params-spec : {M : Type 1} → statement M
-more-params-spec =
+pub more_params_spec : {M : Type 1} → statement M
+more_params_spec =
     tie.close
     (tie.spec
     invariant-loop

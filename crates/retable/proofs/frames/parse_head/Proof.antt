@@ -7,8 +7,8 @@ use Rattle.retable.proofs.frames.parse_params.Reads as parse-params-reads
 use Rattle.retable.proofs.pieces.number.Reads as number-reads
 use Rattle.retable.proofs.pieces.skip.Reads as skip-reads
 
-pub parse-head-spec : {M : Type 1} → statement M
-parse-head-spec =
+pub parse_head_spec : {M : Type 1} → statement M
+parse_head_spec =
     tie.close
     (tie.spec
     (λ c κs. search rules)

@@ -9,8 +9,8 @@ use Rattle.retable.proofs.frames.skip_args.Reads as skip-args-reads
 use Rattle.retable.proofs.pieces.number.Reads as number-reads
 use Rattle.retable.proofs.pieces.skip.Reads as skip-reads
 
-pub parse-locals-spec : {M : Type 1} → statement M
-parse-locals-spec =
+pub parse_locals_spec : {M : Type 1} → statement M
+parse_locals_spec =
     tie.close
     (tie.spec
     (λ c κs. search rules)

@@ -7,8 +7,8 @@ use Rattle.retable.proofs.exprs.parse_two.Reads as parse-two-reads
 use Rattle.retable.proofs.pieces.number.Reads as number-reads
 use Rattle.retable.proofs.pieces.skip.Reads as skip-reads
 
-pub parse-location-spec : {M : Type 1} → statement M
-parse-location-spec =
+pub parse_location_spec : {M : Type 1} → statement M
+parse_location_spec =
     tie.close
     (tie.spec
     (λ c κs. search rules)

@@ -7,8 +7,8 @@ use Rattle.retable.proofs.frames.more_params.Reads as more-params-reads
 use Rattle.retable.proofs.pieces.peek.Reads as peek-reads
 use Rattle.retable.proofs.pieces.skip.Reads as skip-reads
 
-pub parse-params-spec : {M : Type 1} → statement M
-parse-params-spec =
+pub parse_params_spec : {M : Type 1} → statement M
+parse_params_spec =
     tie.close
     (tie.spec
     (λ c κs. search rules)

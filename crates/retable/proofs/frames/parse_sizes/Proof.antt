@@ -15,8 +15,8 @@ invariant-loop x at out₀ to i₀ p₀ count₀ out i p count = SizesFrom x at 
 abbrev decreases-loop : tie.decreases-loop
 decreases-loop x at out₀ to i₀ p₀ count₀ out i p count = (limits sequential).places - count
 
-pub parse-sizes-spec : {M : Type 1} → statement M
-parse-sizes-spec =
+pub parse_sizes_spec : {M : Type 1} → statement M
+parse_sizes_spec =
     tie.close
     (tie.spec
     invariant-loop

@@ -11,8 +11,8 @@ invariant-loop x at count i₀ left₀ i left = AreasFrom x at count i left
 abbrev decreases-loop : tie.decreases-loop
 decreases-loop x at count i₀ left₀ i left = left
 
-pub skip-areas-spec : {M : Type 1} → statement M
-skip-areas-spec =
+pub skip_areas_spec : {M : Type 1} → statement M
+skip_areas_spec =
     tie.close
     (tie.spec invariant-loop decreases-loop
     (λ c. search areas_ways)

@@ -11,8 +11,8 @@ invariant-loop x at count i₀ left₀ i left = ArgsFrom x at count i left
 abbrev decreases-loop : tie.decreases-loop
 decreases-loop x at count i₀ left₀ i left = left
 
-pub skip-args-spec : {M : Type 1} → statement M
-skip-args-spec =
+pub skip_args_spec : {M : Type 1} → statement M
+skip_args_spec =
     tie.close
     (tie.spec invariant-loop decreases-loop
     (λ c. search lines_ways)

@@ -16,8 +16,8 @@ invariant-loop x at i₀ count₀ i count = DeclaredFrom x at 0 i count
 abbrev decreases-loop : tie.decreases-loop
 decreases-loop x at i₀ count₀ i count = (limits sequential).procs - count
 
-pub skip-declarations-spec : {M : Type 1} → statement M
-skip-declarations-spec =
+pub skip_declarations_spec : {M : Type 1} → statement M
+skip_declarations_spec =
     tie.close
     (tie.spec
     invariant-loop

@@ -6,8 +6,8 @@ use Rattle.retable.proofs.frames.skip_two.Tie as tie
 use Rattle.retable.proofs.pieces.number.Reads as number-reads
 use Rattle.retable.proofs.pieces.skip.Reads as skip-reads
 
-pub skip-two-spec : {M : Type 1} → statement M
-skip-two-spec =
+pub skip_two_spec : {M : Type 1} → statement M
+skip_two_spec =
     tie.close
     (tie.spec
     (λ c κs. search rules)

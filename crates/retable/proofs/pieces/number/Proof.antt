@@ -12,8 +12,8 @@ invariant-loop x at n₀ i₀ n i = DigitsFrom x at i n
 abbrev decreases-loop : tie.decreases-loop
 decreases-loop x at n₀ i₀ n i = length x - i
 
-pub number-spec : {M : Type 1} → statement M
-number-spec =
+pub number_spec : {M : Type 1} → statement M
+number_spec =
     tie.close
     (tie.spec
     invariant-loop

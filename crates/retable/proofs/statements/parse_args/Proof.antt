@@ -7,8 +7,8 @@ use Rattle.retable.proofs.exprs.parse_expr.Reads as parse-expr-reads
 use Rattle.retable.proofs.statements.parse_more.Reads as parse-more-reads
 use Rattle.retable.proofs.pieces.peek.Reads as peek-reads
 
-pub parse-args-spec : {M : Type 1} → statement M
-parse-args-spec =
+pub parse_args_spec : {M : Type 1} → statement M
+parse_args_spec =
     tie.close
     (tie.spec
     (λ c κs. search rules)

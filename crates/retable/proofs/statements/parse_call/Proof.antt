@@ -8,8 +8,8 @@ use Rattle.retable.proofs.statements.parse_counted.Reads as parse-counted-reads
 use Rattle.retable.proofs.pieces.skip.Reads as skip-reads
 use Rattle.writer.proofs.bytes.put.Reads as put_reads
 
-pub parse-call-spec : {M : Type 1} → statement M
-parse-call-spec =
+pub parse_call_spec : {M : Type 1} → statement M
+parse_call_spec =
     tie.close
     (tie.spec
     (λ c κs. search rules)

@@ -6,8 +6,8 @@ use Rattle.retable.proofs.statements.parse_counted.Tie as tie
 use Rattle.retable.proofs.statements.parse_args.Reads as parse-args-reads
 use Rattle.writer.proofs.bytes.put.Reads as put_reads
 
-pub parse-counted-spec : {M : Type 1} → statement M
-parse-counted-spec =
+pub parse_counted_spec : {M : Type 1} → statement M
+parse_counted_spec =
     tie.close (tie.spec
     (λ c κs. search rules)
     (λ c κs. search rules)

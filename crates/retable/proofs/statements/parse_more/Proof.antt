@@ -14,8 +14,8 @@ invariant-loop x at out₀ to i₀ p₀ count₀ out i p count = MoreFrom x at 1
 abbrev decreases-loop : tie.decreases-loop
 decreases-loop x at out₀ to i₀ p₀ count₀ out i p count = 255 - count
 
-pub parse-more-spec : {M : Type 1} → statement M
-parse-more-spec =
+pub parse_more_spec : {M : Type 1} → statement M
+parse_more_spec =
     tie.close
     (tie.spec
     invariant-loop

@@ -7,8 +7,8 @@ use Rattle.retable.proofs.exprs.parse_byte.Reads as parse-byte-reads
 use Rattle.retable.proofs.exprs.parse_expr.Reads as parse-expr-reads
 use Rattle.retable.proofs.pieces.skip.Reads as skip-reads
 
-pub parse-pointed-spec : {M : Type 1} → statement M
-parse-pointed-spec =
+pub parse_pointed_spec : {M : Type 1} → statement M
+parse_pointed_spec =
     tie.close (tie.spec
     (λ c κs. search rules)
     (λ c κs. search rules)

@@ -7,8 +7,8 @@ use Rattle.retable.proofs.exprs.parse_two.Reads as parse-two-reads
 use Rattle.retable.proofs.pieces.skip.Reads as skip-reads
 use Rattle.writer.proofs.bytes.put.Reads as put_reads
 
-pub parse-select-spec : {M : Type 1} → statement M
-parse-select-spec =
+pub parse_select_spec : {M : Type 1} → statement M
+parse_select_spec =
     tie.close
     (tie.spec
     (λ c κs. search rules)

@@ -10,8 +10,8 @@ use Rattle.retable.proofs.pieces.peek.Reads as peek-reads
 use Rattle.retable.proofs.pieces.skip.Reads as skip-reads
 use Rattle.writer.proofs.bytes.put.Reads as put_reads
 
-pub parse-target-spec : {M : Type 1} → statement M
-parse-target-spec =
+pub parse_target_spec : {M : Type 1} → statement M
+parse_target_spec =
     tie.close
     (tie.spec
     (λ c κs. search rules)

@@ -8,8 +8,8 @@ use Rattle.retable.proofs.statements.parse_pointed.Reads as parse-pointed-reads
 use Rattle.retable.proofs.pieces.skip.Reads as skip-reads
 use Rattle.writer.proofs.bytes.put.Reads as put_reads
 
-pub parse-write-spec : {M : Type 1} → statement M
-parse-write-spec =
+pub parse_write_spec : {M : Type 1} → statement M
+parse_write_spec =
     tie.close
     (tie.spec
     (λ c κs. search rules)

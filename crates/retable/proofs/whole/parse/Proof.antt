@@ -8,8 +8,8 @@ use Rattle.retable.proofs.whole.parse_definitions.Reads as parse-definitions-rea
 use Rattle.retable.proofs.whole.put_middle.Reads as put-middle-reads
 use Rattle.retable.proofs.whole.put_trailer.Reads as put-trailer-reads
 
-pub parse-spec : {M : Type 1} → statement M
-parse-spec =
+pub parse_spec : {M : Type 1} → statement M
+parse_spec =
     tie.close
     (tie.spec
     (λ c κs. search rules)

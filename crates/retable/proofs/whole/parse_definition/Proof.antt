@@ -8,8 +8,8 @@ use Rattle.retable.proofs.frames.parse_locals.Reads as parse-locals-reads
 use Rattle.retable.proofs.pieces.skip.Reads as skip-reads
 use Rattle.retable.proofs.whole.put_record.Reads as put-record-reads
 
-pub parse-definition-spec : {M : Type 1} → statement M
-parse-definition-spec =
+pub parse_definition_spec : {M : Type 1} → statement M
+parse_definition_spec =
     tie.close
     (tie.spec
     (λ c κs. search rules)

@@ -11,8 +11,8 @@ invariant-loop x at count out₀ records₀ i₀ p₀ q₀ left₀ out records i
 abbrev decreases-loop : tie.decreases-loop
 decreases-loop x at count out₀ records₀ i₀ p₀ q₀ left₀ out records i p q left = left
 
-pub parse-definitions-spec : {M : Type 1} → statement M
-parse-definitions-spec =
+pub parse_definitions_spec : {M : Type 1} → statement M
+parse_definitions_spec =
     tie.close
     (tie.spec
     invariant-loop

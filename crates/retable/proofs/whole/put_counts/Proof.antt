@@ -5,8 +5,8 @@ use Rattle.retable.proofs.whole.put_counts.Statement.{statement}
 use Rattle.retable.proofs.whole.put_counts.Tie as tie
 use Rattle.writer.proofs.bytes.put_two.Reads as put-two-reads
 
-pub put-counts-spec : {M : Type 1} → statement M
-put-counts-spec =
+pub put_counts_spec : {M : Type 1} → statement M
+put_counts_spec =
     tie.close (tie.spec
     (λ c κs. search rules)
     (λ c κs. search rules)

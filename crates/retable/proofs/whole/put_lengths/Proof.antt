@@ -5,8 +5,8 @@ use Rattle.retable.proofs.whole.put_lengths.Statement.{statement}
 use Rattle.retable.proofs.whole.put_lengths.Tie as tie
 use Rattle.writer.proofs.bytes.put_four.Reads as put-four-reads
 
-pub put-lengths-spec : {M : Type 1} → statement M
-put-lengths-spec = tie.close (tie.spec
+pub put_lengths_spec : {M : Type 1} → statement M
+put_lengths_spec = tie.close (tie.spec
     (λ c κs. search rules)
     (λ c κs. search rules)
     (λ c. search rules)

@@ -6,8 +6,8 @@ use Rattle.retable.proofs.whole.put_record.Tie as tie
 use Rattle.writer.proofs.bytes.put.Reads as put_reads
 use Rattle.writer.proofs.bytes.put_four.Reads as put-four-reads
 
-pub put-record-spec : {M : Type 1} → statement M
-put-record-spec =
+pub put_record_spec : {M : Type 1} → statement M
+put_record_spec =
     tie.close (tie.spec
     (λ c κs. search rules)
     (λ c κs. search rules)

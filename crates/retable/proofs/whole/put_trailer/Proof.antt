@@ -7,8 +7,8 @@ use Rattle.retable.proofs.whole.put_counts.Reads as put-counts-reads
 use Rattle.retable.proofs.whole.put_lengths.Reads as put-lengths-reads
 use Rattle.writer.proofs.bytes.put.Reads as put_reads
 
-pub put-trailer-spec : {M : Type 1} → statement M
-put-trailer-spec =
+pub put_trailer_spec : {M : Type 1} → statement M
+put_trailer_spec =
     tie.close
     (tie.spec
     (λ c. search rules)

@@ -33,8 +33,8 @@ no_call marks (T.Call m n) h = absurd (miss others 9 tt h)
 no_call marks T.Atomic h = refl
 no_call marks (T.Select a b) h = refl
 
-pub calls-on-spec : {M : Type 1} → statement M
-calls-on-spec = tie.close (tie.spec
+pub calls_on_spec : {M : Type 1} → statement M
+calls_on_spec = tie.close (tie.spec
     (λ c. search rules)
     (λ c. no_call c.before.args.marks.now c.before.args.k c.match.keys2)
     (λ c. search rules)

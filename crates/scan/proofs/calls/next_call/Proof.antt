@@ -11,8 +11,8 @@ invariant-loop t at end marks i₀ i = Passing t end marks at i
 abbrev decreases-loop : tie.decreases-loop
 decreases-loop t at end marks i₀ i = end - i
 
-pub next-call-spec : {M : Type 1} → statement M
-next-call-spec = tie.close (tie.spec
+pub next_call_spec : {M : Type 1} → statement M
+next_call_spec = tie.close (tie.spec
     invariant-loop
     decreases-loop
     (λ c. search pass_ways)

@@ -39,8 +39,8 @@ invariant-loop t procedures records marks₀ way₀ places₀ depth₀ first₀ 
 abbrev decreases-loop : tie.decreases-loop
 decreases-loop t procedures records marks₀ way₀ places₀ depth₀ first₀ marks way places depth first = to_do procedures marks depth first
 
-pub no-cycle-spec : {M : Type 1} → statement M
-no-cycle-spec =
+pub no_cycle_spec : {M : Type 1} → statement M
+no_cycle_spec =
     tie.close
     (tie.spec
     invariant-loop

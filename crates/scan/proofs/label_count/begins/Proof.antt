@@ -31,8 +31,8 @@ other (T.Call m n) h = refl
 other T.Atomic h = refl
 other (T.Select a b) h = refl
 
-pub begins-spec : {M : Type 1} → statement M
-begins-spec = tie.close (tie.spec
+pub begins_spec : {M : Type 1} → statement M
+begins_spec = tie.close (tie.spec
     (λ c. search rules)
     (λ c. search rules)
     (λ c. search rules)

@@ -12,8 +12,8 @@ invariant-loop t procedures records labels₀ within₀ i₀ labels within i = C
 abbrev decreases-loop : tie.decreases-loop
 decreases-loop t procedures records labels₀ within₀ i₀ labels within i = records - i
 
-pub count-labels-spec : {M : Type 1} → statement M
-count-labels-spec = tie.close (tie.spec
+pub count_labels_spec : {M : Type 1} → statement M
+count_labels_spec = tie.close (tie.spec
     invariant-loop
     decreases-loop
     (λ c. search ways)

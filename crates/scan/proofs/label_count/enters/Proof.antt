@@ -31,8 +31,8 @@ other (T.Call m n) h = refl
 other T.Atomic h = absurd (miss others 10 tt h)
 other (T.Select a b) h = refl
 
-pub enters-spec : {M : Type 1} → statement M
-enters-spec = tie.close (tie.spec
+pub enters_spec : {M : Type 1} → statement M
+enters_spec = tie.close (tie.spec
     (λ c. search rules)
     (λ c. search ways)
     (λ c. other c.before.args.k c.match.keys2))

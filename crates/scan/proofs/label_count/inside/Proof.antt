@@ -32,8 +32,8 @@ other n l (T.Call m a) h = omega arith
 other n l T.Atomic h = absurd (miss others 10 tt h)
 other n l (T.Select a b) h = omega arith
 
-pub inside-spec : {M : Type 1} → statement M
-inside-spec = tie.close (tie.spec
+pub inside_spec : {M : Type 1} → statement M
+inside_spec = tie.close (tie.spec
     (λ c. search rules)
     (λ c. search rules)
     (λ c. search rules)

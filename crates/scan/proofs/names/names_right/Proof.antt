@@ -11,8 +11,8 @@ invariant-loop t locations procedures records m₀ m = Before t procedures locat
 abbrev decreases-loop : tie.decreases-loop
 decreases-loop t locations procedures records m₀ m = procedures - m
 
-pub names-right-spec : {M : Type 1} → statement M
-names-right-spec = tie.close (tie.spec
+pub names_right_spec : {M : Type 1} → statement M
+names_right_spec = tie.close (tie.spec
     invariant-loop
     decreases-loop
     (λ c. search ways)

@@ -4,8 +4,8 @@ use Rattle.scan.specs.Laws.NameScans.{ways}
 use Rattle.scan.proofs.names.takes.Statement.{statement}
 use Rattle.scan.proofs.names.takes.Tie as tie
 
-pub takes-spec : {M : Type 1} → statement M
-takes-spec = tie.close (tie.spec
+pub takes_spec : {M : Type 1} → statement M
+takes_spec = tie.close (tie.spec
     (λ c. search rules)
     (λ c. search rules)
     (λ c κs. search rules)

@@ -4,8 +4,8 @@ use Rattle.scan.specs.Laws.NameScans.{ways}
 use Rattle.scan.proofs.names.token_named.Statement.{statement}
 use Rattle.scan.proofs.names.token_named.Tie as tie
 
-pub token-named-spec : {M : Type 1} → statement M
-token-named-spec = tie.close (tie.spec
+pub token_named_spec : {M : Type 1} → statement M
+token_named_spec = tie.close (tie.spec
     (λ c. search rules)
     (λ c. search rules)
     (λ c. search rules)

@@ -11,8 +11,8 @@ invariant-loop t at end locals locations procedures records i₀ i = To t proced
 abbrev decreases-loop : tie.decreases-loop
 decreases-loop t at end locals locations procedures records i₀ i = end - i
 
-pub tokens-named-spec : {M : Type 1} → statement M
-tokens-named-spec = tie.close (tie.spec
+pub tokens_named_spec : {M : Type 1} → statement M
+tokens_named_spec = tie.close (tie.spec
     invariant-loop
     decreases-loop
     (λ c. search ways)

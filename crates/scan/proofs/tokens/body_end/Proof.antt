@@ -4,8 +4,8 @@ use Rattle.scan.specs.Laws.Laid.{end_ways}
 use Rattle.scan.proofs.tokens.body_end.Statement.{statement}
 use Rattle.scan.proofs.tokens.body_end.Tie as tie
 
-pub body-end-spec : {M : Type 1} → statement M
-body-end-spec =
+pub body_end_spec : {M : Type 1} → statement M
+body_end_spec =
     tie.close (tie.spec
     (λ c. search rules)
     (λ c. search rules)

@@ -6,8 +6,8 @@ use lib.ListN.{get_or-eq_default}
 use Rattle.scan.proofs.tokens.byte_at.Statement.{statement}
 use Rattle.scan.proofs.tokens.byte_at.Tie as tie
 
-pub byte-at-spec : {M : Type 1} → statement M
-byte-at-spec = tie.close (tie.spec
+pub byte_at_spec : {M : Type 1} → statement M
+byte_at_spec = tie.close (tie.spec
     (λ c. search rules)
     (λ c. omega (arith, c.shared-slice-known.given c.before.before.args.i))
     (λ c. (refl, omega (arith, c.shared-slice-known.given c.before.before.args.i)))

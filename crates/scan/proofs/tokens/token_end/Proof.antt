@@ -6,8 +6,8 @@ use Rattle.scan.specs.Laws.Tokens.{size_small, size_listed, size_other}
 use Rattle.scan.proofs.tokens.token_end.Statement.{statement}
 use Rattle.scan.proofs.tokens.token_end.Tie as tie
 
-pub token-end-spec : {M : Type 1} → statement M
-token-end-spec = tie.close (tie.spec
+pub token_end_spec : {M : Type 1} → statement M
+token_end_spec = tie.close (tie.spec
     (λ c. search rules)
     (λ c. search rules)
     (λ c. search rules)

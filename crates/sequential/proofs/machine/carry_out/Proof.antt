@@ -4,8 +4,8 @@ use Rattle.sequential.proofs.CarryingOut.{carry_ways}
 use Rattle.sequential.proofs.machine.carry_out.Statement.{statement}
 use Rattle.sequential.proofs.machine.carry_out.Tie as tie
 
-pub carry-out-spec : {M : Type 1} → statement M
-carry-out-spec =
+pub carry_out_spec : {M : Type 1} → statement M
+carry_out_spec =
     tie.close
     (tie.spec
     (λ c. search rules)

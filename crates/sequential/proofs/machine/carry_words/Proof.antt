@@ -4,8 +4,8 @@ use Rattle.sequential.proofs.Wording.{words_ways}
 use Rattle.sequential.proofs.machine.carry_words.Statement.{statement}
 use Rattle.sequential.proofs.machine.carry_words.Tie as tie
 
-pub carry-words-spec : {M : Type 1} → statement M
-carry-words-spec =
+pub carry_words_spec : {M : Type 1} → statement M
+carry_words_spec =
     tie.close
     (tie.spec
     (λ c. search rules)

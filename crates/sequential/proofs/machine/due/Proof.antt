@@ -5,8 +5,8 @@ use Rattle.decide.proofs.Deciding.{source_ready, decide_ways}
 use Rattle.sequential.proofs.machine.due.Statement.{statement}
 use Rattle.sequential.proofs.machine.due.Tie as tie
 
-pub due-spec : {M : Type 1} → statement M
-due-spec =
+pub due_spec : {M : Type 1} → statement M
+due_spec =
     tie.close
     (tie.spec
     (λ c. search rules)

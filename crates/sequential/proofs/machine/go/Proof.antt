@@ -14,8 +14,8 @@ invariant-loop t records schedule jumps starts words₀ cells₀ back₀ events�
 abbrev decreases-loop : tie.decreases-loop
 decreases-loop t records schedule jumps starts words₀ cells₀ back₀ events₀ h budget state₀ steps₀ words cells back events state steps = budget - steps
 
-pub go-spec : {M : Type 1} → statement M
-go-spec =
+pub go_spec : {M : Type 1} → statement M
+go_spec =
     tie.close
     (tie.spec
     invariant-loop

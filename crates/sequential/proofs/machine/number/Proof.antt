@@ -8,5 +8,5 @@ use Rattle.value.specs.declared.Value.TheVariants.{Whole}
 use Rattle.sequential.proofs.machine.number.Statement.{statement}
 use Rattle.sequential.proofs.machine.number.Tie as tie
 
-pub number-spec : {M : Type 1} → statement M
-number-spec = tie.close (tie.spec (λ c. search rules) (λ c. ap Whole (to_z_pos w32 (omega arith))))
+pub number_spec : {M : Type 1} → statement M
+number_spec = tie.close (tie.spec (λ c. search rules) (λ c. ap Whole (to_z_pos w32 (omega arith))))

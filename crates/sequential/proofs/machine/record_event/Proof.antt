@@ -4,8 +4,8 @@ use Rattle.sequential.proofs.CarryingOut.{event_ways}
 use Rattle.sequential.proofs.machine.record_event.Statement.{statement}
 use Rattle.sequential.proofs.machine.record_event.Tie as tie
 
-pub record-event-spec : {M : Type 1} → statement M
-record-event-spec =
+pub record_event_spec : {M : Type 1} → statement M
+record_event_spec =
     tie.close
     (tie.spec
     (λ c. search rules)

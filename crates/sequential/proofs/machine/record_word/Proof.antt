@@ -5,8 +5,8 @@ use Rattle.sequential.proofs.Wording.{word_ways, word_none, word_counted}
 use Rattle.sequential.proofs.machine.record_word.Statement.{statement}
 use Rattle.sequential.proofs.machine.record_word.Tie as tie
 
-pub record-word-spec : {M : Type 1} → statement M
-record-word-spec =
+pub record_word_spec : {M : Type 1} → statement M
+record_word_spec =
     tie.close
     (tie.spec
     (λ c. search word_ways)

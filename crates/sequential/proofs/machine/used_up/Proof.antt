@@ -4,5 +4,5 @@ use Rattle.sequential.proofs.Facing.{used_ways}
 use Rattle.sequential.proofs.machine.used_up.Statement.{statement}
 use Rattle.sequential.proofs.machine.used_up.Tie as tie
 
-pub used-up-spec : {M : Type 1} → statement M
-used-up-spec = tie.close (tie.spec (λ c. search rules) (λ c. search used_ways) (λ c. search used_ways))
+pub used_up_spec : {M : Type 1} → statement M
+used_up_spec = tie.close (tie.spec (λ c. search rules) (λ c. search used_ways) (λ c. search used_ways))

@@ -12,8 +12,8 @@ invariant-loop code body records count kind position₀ at₀ procedure₀ left�
 abbrev decreases-loop : tie.decreases-loop
 decreases-loop code body records count kind position₀ at₀ procedure₀ left₀ position at procedure left = left
 
-pub right-bodies-spec : {M : Type 1} → statement M
-right-bodies-spec = tie.close (tie.spec invariant-loop decreases-loop
+pub right_bodies_spec : {M : Type 1} → statement M
+right_bodies_spec = tie.close (tie.spec invariant-loop decreases-loop
     (λ c. search bodies_ways)
     (λ c. search rules)
     (λ c κs. search rules)

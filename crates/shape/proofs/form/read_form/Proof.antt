@@ -4,8 +4,8 @@ use Rattle.shape.proofs.Shaping.{form_ways}
 use Rattle.shape.proofs.form.read_form.Statement.{statement}
 use Rattle.shape.proofs.form.read_form.Tie as tie
 
-pub read-form-spec : {M : Type 1} → statement M
-read-form-spec =
+pub read_form_spec : {M : Type 1} → statement M
+read_form_spec =
     tie.close
     (tie.spec
     (λ c κs. search rules)

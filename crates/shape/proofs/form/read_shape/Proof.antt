@@ -4,8 +4,8 @@ use Rattle.shape.proofs.Shaping.{shape_ways}
 use Rattle.shape.proofs.form.read_shape.Statement.{statement}
 use Rattle.shape.proofs.form.read_shape.Tie as tie
 
-pub read-shape-spec : {M : Type 1} → statement M
-read-shape-spec =
+pub read_shape_spec : {M : Type 1} → statement M
+read_shape_spec =
     tie.close
     (tie.spec
     (λ c. search rules)

@@ -4,8 +4,8 @@ use Rattle.shape.proofs.Trailers.{header_ways}
 use Rattle.shape.proofs.header.read_header.Statement.{statement}
 use Rattle.shape.proofs.header.read_header.Tie as tie
 
-pub read-header-spec : {M : Type 1} → statement M
-read-header-spec = tie.close (tie.spec
+pub read_header_spec : {M : Type 1} → statement M
+read_header_spec = tie.close (tie.spec
     (λ c. search header_ways)
     (λ c κs. search rules)
     (λ c κs. search rules)

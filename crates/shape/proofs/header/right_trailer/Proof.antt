@@ -4,8 +4,8 @@ use Rattle.shape.proofs.Trailers.{trailer_ways}
 use Rattle.shape.proofs.header.right_trailer.Statement.{statement}
 use Rattle.shape.proofs.header.right_trailer.Tie as tie
 
-pub right-trailer-spec : {M : Type 1} → statement M
-right-trailer-spec = tie.close (tie.spec
+pub right_trailer_spec : {M : Type 1} → statement M
+right_trailer_spec = tie.close (tie.spec
     (λ c κs. search rules)
     (λ c. search trailer_ways)
     (λ c. search trailer_ways)

@@ -3,5 +3,5 @@ use borrow.Author.Tests.{le-leb, lt-leb}
 use Rattle.shape.proofs.header.within.Statement.{statement}
 use Rattle.shape.proofs.header.within.Tie as tie
 
-pub within-spec : {M : Type 1} → statement M
-within-spec = tie.close (tie.spec (λ c. rw (lt-leb _ _ c.if1.true)) (λ c. rw (le-leb _ _ c.if1.false)))
+pub within_spec : {M : Type 1} → statement M
+within_spec = tie.close (tie.spec (λ c. rw (lt-leb _ _ c.if1.true)) (λ c. rw (le-leb _ _ c.if1.false)))

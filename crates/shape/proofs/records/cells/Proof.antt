@@ -10,8 +10,8 @@ invariant-loop body at count total₀ position₀ left₀ total position left = 
 abbrev decreases-loop : tie.decreases-loop
 decreases-loop body at count total₀ position₀ left₀ total position left = left
 
-pub cells-spec : {M : Type 1} → statement M
-cells-spec = tie.close (tie.spec invariant-loop decreases-loop
+pub cells_spec : {M : Type 1} → statement M
+cells_spec = tie.close (tie.spec invariant-loop decreases-loop
     (λ c. search cells_ways)
     (λ c κs. search rules)
     (λ c. search rules)

@@ -10,8 +10,8 @@ invariant-loop body at count most position₀ left₀ position left = LocalsFrom
 abbrev decreases-loop : tie.decreases-loop
 decreases-loop body at count most position₀ left₀ position left = left
 
-pub right-locals-spec : {M : Type 1} → statement M
-right-locals-spec = tie.close (tie.spec invariant-loop decreases-loop
+pub right_locals_spec : {M : Type 1} → statement M
+right_locals_spec = tie.close (tie.spec invariant-loop decreases-loop
     (λ c. search locals_ways)
     (λ c. search rules)
     (λ c. search rules)

@@ -10,8 +10,8 @@ invariant-loop body at count records procedures position₀ left₀ position lef
 abbrev decreases-loop : tie.decreases-loop
 decreases-loop body at count records procedures position₀ left₀ position left = left
 
-pub right-mains-spec : {M : Type 1} → statement M
-right-mains-spec = tie.close (tie.spec invariant-loop decreases-loop
+pub right_mains_spec : {M : Type 1} → statement M
+right_mains_spec = tie.close (tie.spec invariant-loop decreases-loop
     (λ c. search mains_ways)
     (λ c κs. search rules)
     (λ c κs. search rules)

@@ -4,8 +4,8 @@ use Rattle.shape.proofs.Rule3.{records_ways}
 use Rattle.shape.proofs.records.right_records.Statement.{statement}
 use Rattle.shape.proofs.records.right_records.Tie as tie
 
-pub right-records-spec : {M : Type 1} → statement M
-right-records-spec = tie.close (tie.spec
+pub right_records_spec : {M : Type 1} → statement M
+right_records_spec = tie.close (tie.spec
     (λ c κs. search rules)
     (λ c. search rules)
     (λ c. search rules)

@@ -10,8 +10,8 @@ invariant-loop body at count position₀ left₀ position left = SizesFrom body 
 abbrev decreases-loop : tie.decreases-loop
 decreases-loop body at count position₀ left₀ position left = left
 
-pub right-sizes-spec : {M : Type 1} → statement M
-right-sizes-spec = tie.close (tie.spec invariant-loop decreases-loop
+pub right_sizes_spec : {M : Type 1} → statement M
+right_sizes_spec = tie.close (tie.spec invariant-loop decreases-loop
     (λ c. search sizes_ways)
     (λ c κs. search rules)
     (λ c. search sizes_ways)

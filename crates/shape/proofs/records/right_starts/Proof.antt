@@ -4,8 +4,8 @@ use Rattle.shape.proofs.Rule3.{starts_ways}
 use Rattle.shape.proofs.records.right_starts.Statement.{statement}
 use Rattle.shape.proofs.records.right_starts.Tie as tie
 
-pub right-starts-spec : {M : Type 1} → statement M
-right-starts-spec = tie.close (tie.spec
+pub right_starts_spec : {M : Type 1} → statement M
+right_starts_spec = tie.close (tie.spec
     (λ c. search rules)
     (λ c κs. search rules)
     (λ c κs. search rules)

@@ -4,8 +4,8 @@ use Rattle.simulation.proofs.Labels.{label_ways}
 use Rattle.simulation.proofs.codes.put_from.Statement.{statement}
 use Rattle.simulation.proofs.codes.put_from.Tie as tie
 
-pub put-from-spec : {M : Type 1} → statement M
-put-from-spec =
+pub put_from_spec : {M : Type 1} → statement M
+put_from_spec =
     tie.close
     (tie.spec
     (λ c. search rules)

@@ -4,8 +4,8 @@ use Rattle.simulation.proofs.Labels.{label_ways}
 use Rattle.simulation.proofs.codes.put_loads_each.Statement.{statement}
 use Rattle.simulation.proofs.codes.put_loads_each.Tie as tie
 
-pub put-loads-each-spec : {M : Type 1} → statement M
-put-loads-each-spec =
+pub put_loads_each_spec : {M : Type 1} → statement M
+put_loads_each_spec =
     tie.close
     (tie.spec
     (λ c κs. search rules)

@@ -12,8 +12,8 @@ invariant-loop t at count callee out₀ to i₀ x₀ p₀ out i x p = Passing t 
 abbrev decreases-loop : tie.decreases-loop
 decreases-loop t at count callee out₀ to i₀ x₀ p₀ out i x p = count - x
 
-pub put-passes-spec : {M : Type 1} → statement M
-put-passes-spec =
+pub put_passes_spec : {M : Type 1} → statement M
+put_passes_spec =
     tie.close
     (tie.spec
     invariant-loop

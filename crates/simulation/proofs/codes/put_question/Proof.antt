@@ -4,8 +4,8 @@ use Rattle.simulation.proofs.Labels.{label_ways}
 use Rattle.simulation.proofs.codes.put_question.Statement.{statement}
 use Rattle.simulation.proofs.codes.put_question.Tie as tie
 
-pub put-question-spec : {M : Type 1} → statement M
-put-question-spec =
+pub put_question_spec : {M : Type 1} → statement M
+put_question_spec =
     tie.close
     (tie.spec
     (λ c κs. search rules)

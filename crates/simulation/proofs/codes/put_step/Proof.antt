@@ -4,8 +4,8 @@ use Rattle.simulation.proofs.Labels.{label_ways}
 use Rattle.simulation.proofs.codes.put_step.Statement.{statement}
 use Rattle.simulation.proofs.codes.put_step.Tie as tie
 
-pub put-step-spec : {M : Type 1} → statement M
-put-step-spec =
+pub put_step_spec : {M : Type 1} → statement M
+put_step_spec =
     tie.close
     (tie.spec
     (λ c. search rules)

@@ -4,8 +4,8 @@ use Rattle.simulation.proofs.Labels.{label_ways}
 use Rattle.simulation.proofs.codes.put_way.Statement.{statement}
 use Rattle.simulation.proofs.codes.put_way.Tie as tie
 
-pub put-way-spec : {M : Type 1} → statement M
-put-way-spec =
+pub put_way_spec : {M : Type 1} → statement M
+put_way_spec =
     tie.close
     (tie.spec
     (λ c κs. search rules)

@@ -78,8 +78,8 @@ put-instr-calls t = (
   put-plain-reads.Learnt,
 )
 
-pub +put-branch-put-inside-put-instr-spec : {M : Type 1} → statement M
-+put-branch-put-inside-put-instr-spec =
+pub +put_branch_put_inside_put_instr_spec : {M : Type 1} → statement M
++put_branch_put_inside_put_instr_spec =
     close μ-put-branch μ-put-inside μ-put-instr
     (λ t. put-branch-lts.spec (put-branch-calls t) (put-branch-at t) put-branch.Post
     (λ c κs. search rules)

@@ -4,8 +4,8 @@ use Rattle.simulation.proofs.Blocks.{block_ways}
 use Rattle.simulation.proofs.inside.put_ask.Statement.{statement}
 use Rattle.simulation.proofs.inside.put_ask.Tie as tie
 
-pub put-ask-spec : {M : Type 1} → statement M
-put-ask-spec =
+pub put_ask_spec : {M : Type 1} → statement M
+put_ask_spec =
     tie.close
     (tie.spec
     (λ c κs. search rules)

@@ -4,8 +4,8 @@ use Rattle.simulation.proofs.Simulating.{simulate_ways}
 use Rattle.simulation.proofs.simulate.begin_of.Statement.{statement}
 use Rattle.simulation.proofs.simulate.begin_of.Tie as tie
 
-pub begin-of-spec : {M : Type 1} → statement M
-begin-of-spec =
+pub begin_of_spec : {M : Type 1} → statement M
+begin_of_spec =
     tie.close
     (tie.spec
     (λ c. search rules)

@@ -12,8 +12,8 @@ invariant-loop t shape map bounds offsets₀ out₀ to labels done₀ p₀ offse
 abbrev decreases-loop : tie.decreases-loop
 decreases-loop t shape map bounds offsets₀ out₀ to labels done₀ p₀ offsets out done p = labels - done
 
-pub put-bodies-spec : {M : Type 1} → statement M
-put-bodies-spec =
+pub put_bodies_spec : {M : Type 1} → statement M
+put_bodies_spec =
     tie.close
     (tie.spec
     invariant-loop

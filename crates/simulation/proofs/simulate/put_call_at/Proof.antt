@@ -4,8 +4,8 @@ use Rattle.simulation.proofs.Simulating.{simulate_ways}
 use Rattle.simulation.proofs.simulate.put_call_at.Statement.{statement}
 use Rattle.simulation.proofs.simulate.put_call_at.Tie as tie
 
-pub put-call-at-spec : {M : Type 1} → statement M
-put-call-at-spec =
+pub put_call_at_spec : {M : Type 1} → statement M
+put_call_at_spec =
     tie.close
     (tie.spec
     (λ c. search rules)

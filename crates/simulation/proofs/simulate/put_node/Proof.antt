@@ -4,8 +4,8 @@ use Rattle.simulation.proofs.Simulating.{simulate_ways}
 use Rattle.simulation.proofs.simulate.put_node.Statement.{statement}
 use Rattle.simulation.proofs.simulate.put_node.Tie as tie
 
-pub put-node-spec : {M : Type 1} → statement M
-put-node-spec =
+pub put_node_spec : {M : Type 1} → statement M
+put_node_spec =
     tie.close
     (tie.spec
     (λ c. search simulate_ways)

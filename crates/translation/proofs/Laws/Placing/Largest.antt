@@ -1,5 +1,5 @@
 -- The largest of some numbers; who calls whom.
-use Rattle.std.specs.Prelude.{ℕ, zero, suc, ◌+◌, max, ◌≤◌, ◌<◌, ◌≡◌, refl, ◌≢◌, List, [], ◌∷◌, Bool, true, false, length, leb, eqb}
+use Rattle.std.specs.Prelude.{ℕ, zero, suc, ◌+◌, ◌≤◌, ◌<◌, ◌≡◌, refl, ◌≢◌, List, [], ◌∷◌, Bool, true, false, length, leb, eqb}
 use Rattle.std.proofs.Common.{arith, leb-true, leb-false, eqb-true, eq-eqb}
 use Rattle.std.proofs.lemmas.Bool.{eqb-false}
 use Rattle.value.specs.Lists.{upto}
@@ -17,6 +17,7 @@ pub largest_above : (f : ℕ → ℕ) (xs : List ℕ) {x : ℕ} → In x xs → 
 unfolding largest
 largest_above f (x ∷ xs) here = omega arith
 largest_above f (y ∷ xs) (there i) = omega (arith, largest_above f xs i)
+largest_above f [] x3 = elim x3 [ ]
 
 -- and it is 0, or that of one of them
 pub largest_is : {G : Type 0} (f : ℕ → ℕ) (xs : List ℕ) → (largest f xs ≡ 0 → G) → ((x : ℕ) → In x xs → largest f xs ≡ f x → G) → G
@@ -35,6 +36,7 @@ largest_is f (x ∷ xs) none one =
 pub in_those : (f : ℕ → Bool) (xs : List ℕ) {x : ℕ} → In x xs → f x ≡ true → In x (those f xs)
 in_those f (x ∷ xs) here e = rw e here
 in_those f (y ∷ xs) {x} (there i) e = by_test (f y) (λ p. rw p (there (in_those f xs i e))) (λ p. rw p (in_those f xs i e))
+in_those f [] {x = x} x4 e = elim x4 [ ]
 
 -- the first of a list, or another
 pub in_cons : {G : Type 0} {x y : ℕ} {xs : List ℕ} → In x (y ∷ xs) → (x ≡ y → G) → (In x xs → G) → G
@@ -47,6 +49,7 @@ those_pass f (y ∷ xs) {x} i =
     by_test (f y)
     (λ p. in_cons (rw p at i) (λ e. rw e p) (λ j. those_pass f xs j))
     (λ p. those_pass f xs (rw p at i))
+those_pass f [] {x = x} i = elim i [ ]
 
 -- the numbers from i on
 pub in_upto : (i n m : ℕ) → i ≤ m → m < i + n → In m (upto i n)
@@ -60,6 +63,7 @@ in_upto i (suc n) m low high =
 pub upto_in : (i n : ℕ) {m : ℕ} → In m (upto i n) → m < i + n
 upto_in i (suc n) here = omega arith
 upto_in i (suc n) {m} (there h) = omega (arith, upto_in (suc i) n h)
+upto_in i zero {m = m} x' = elim x' [ ]
 
 -- ---- members
 

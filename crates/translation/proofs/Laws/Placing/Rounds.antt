@@ -62,6 +62,7 @@ module _ {A : Type 0} (ps : List (Proc A)) where
   pub path_reaches : (m : ℕ) (qs : List ℕ) → Path m qs → {q : ℕ} → In q qs → Reaches ps q m
   path_reaches m (q ∷ qs) w here = direct w.0
   path_reaches m (c ∷ qs) w (there i) = reach_on (path_reaches c qs w.1 i) w.0
+  path_reaches m [] w {q = q} x'' = elim x'' [ ]
 
   -- all are procedures
   pub path_below : (m : ℕ) (qs : List ℕ) → Path m qs → Each (λ q. q < length ps) qs

@@ -49,6 +49,7 @@ in_places home x (suc n) i =
     in_cons i
     (λ e. record { at = x; low = omega arith; high = omega arith; is = e })
     (λ j. let p = in_places home (suc x) n j in record { at = p.at; low = omega (arith, p.low); high = omega (arith, p.high); is = p.is })
+in_places home x zero {z = z} i = elim i [ ]
 
 -- where no two locals have one place
 distinct_places : (home : ℕ → ℕ) (x n : ℕ) → ((a b : ℕ) → a < x + n → b < x + n → home a ≡ home b → a ≡ b) → Distinct (places home x n)
@@ -107,6 +108,7 @@ module _ {A : Type 0} (ps : List (Proc A)) where
         let p = in_places (home q) 0 (locals_at ps q) j in
         record { proc = q; one = here; local = p.at; low = omega (arith, p.high); is = p.is })
         (λ j. let p = in_all qs j in record { proc = p.proc; one = there p.one; local = p.local; low = p.low; is = p.is })
+    in_all [] {z = z} i = elim i [ ]
 
     module _ (rule : (m : ℕ) → Reaches ps m m → ⊥) (apart : Apart ps home) where
       -- the places of a procedure and of those that reach it

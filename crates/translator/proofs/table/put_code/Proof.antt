@@ -4,8 +4,8 @@ use Rattle.translator.proofs.Tabling.{table_ways}
 use Rattle.translator.proofs.table.put_code.Statement.{statement}
 use Rattle.translator.proofs.table.put_code.Tie as tie
 
-pub put-code-spec : {M : Type 1} → statement M
-put-code-spec =
+pub put_code_spec : {M : Type 1} → statement M
+put_code_spec =
     tie.close
     (tie.spec
     (λ c κs. search rules)

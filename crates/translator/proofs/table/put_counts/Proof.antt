@@ -4,8 +4,8 @@ use Rattle.translator.proofs.Tabling.{table_ways}
 use Rattle.translator.proofs.table.put_counts.Statement.{statement}
 use Rattle.translator.proofs.table.put_counts.Tie as tie
 
-pub put-counts-spec : {M : Type 1} → statement M
-put-counts-spec =
+pub put_counts_spec : {M : Type 1} → statement M
+put_counts_spec =
     tie.close
     (tie.spec
     (λ c κs. search rules)

@@ -4,8 +4,8 @@ use Rattle.translator.proofs.Tabling.{table_ways}
 use Rattle.translator.proofs.table.put_head.Statement.{statement}
 use Rattle.translator.proofs.table.put_head.Tie as tie
 
-pub put-head-spec : {M : Type 1} → statement M
-put-head-spec =
+pub put_head_spec : {M : Type 1} → statement M
+put_head_spec =
     tie.close
     (tie.spec
     (λ c κs. search rules)

@@ -12,8 +12,8 @@ invariant-loop t shape map offsets out₀ at labels k₀ p₀ out k p = Heading 
 abbrev decreases-loop : tie.decreases-loop
 decreases-loop t shape map offsets out₀ at labels k₀ p₀ out k p = labels - k
 
-pub put-heads-spec : {M : Type 1} → statement M
-put-heads-spec =
+pub put_heads_spec : {M : Type 1} → statement M
+put_heads_spec =
     tie.close
     (tie.spec
     invariant-loop

@@ -4,8 +4,8 @@ use Rattle.translator.proofs.Tabling.{table_ways}
 use Rattle.translator.proofs.table.put_label_head.Statement.{statement}
 use Rattle.translator.proofs.table.put_label_head.Tie as tie
 
-pub put-label-head-spec : {M : Type 1} → statement M
-put-label-head-spec =
+pub put_label_head_spec : {M : Type 1} → statement M
+put_label_head_spec =
     tie.close
     (tie.spec
     (λ c. search rules)

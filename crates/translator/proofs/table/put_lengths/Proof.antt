@@ -4,8 +4,8 @@ use Rattle.translator.proofs.Tabling.{table_ways}
 use Rattle.translator.proofs.table.put_lengths.Statement.{statement}
 use Rattle.translator.proofs.table.put_lengths.Tie as tie
 
-pub put-lengths-spec : {M : Type 1} → statement M
-put-lengths-spec =
+pub put_lengths_spec : {M : Type 1} → statement M
+put_lengths_spec =
     tie.close
     (tie.spec
     (λ c κs. search rules)

@@ -4,8 +4,8 @@ use Rattle.translator.proofs.Tabling.{table_ways}
 use Rattle.translator.proofs.table.put_middle.Statement.{statement}
 use Rattle.translator.proofs.table.put_middle.Tie as tie
 
-pub put-middle-spec : {M : Type 1} → statement M
-put-middle-spec =
+pub put_middle_spec : {M : Type 1} → statement M
+put_middle_spec =
     tie.close
     (tie.spec
     (λ c κs. search rules)

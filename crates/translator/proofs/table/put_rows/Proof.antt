@@ -14,8 +14,8 @@ invariant-loop n size out₀ at k₀ p₀ out k p = Onto out₀ at (each (bytes 
 abbrev decreases-loop : tie.decreases-loop
 decreases-loop n size out₀ at k₀ p₀ out k p = k
 
-pub put-rows-spec : {M : Type 1} → statement M
-put-rows-spec =
+pub put_rows_spec : {M : Type 1} → statement M
+put_rows_spec =
     tie.close
     (tie.spec
     invariant-loop

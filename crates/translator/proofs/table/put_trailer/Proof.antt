@@ -4,8 +4,8 @@ use Rattle.translator.proofs.Tabling.{table_ways}
 use Rattle.translator.proofs.table.put_trailer.Statement.{statement}
 use Rattle.translator.proofs.table.put_trailer.Tie as tie
 
-pub put-trailer-spec : {M : Type 1} → statement M
-put-trailer-spec =
+pub put_trailer_spec : {M : Type 1} → statement M
+put_trailer_spec =
     tie.close
     (tie.spec
     (λ c κs. search rules)

@@ -30,8 +30,8 @@ put-digits-calls t = (
   put-digits.Post,
 )
 
-pub +put-digits-spec : {M : Type 1} → statement M
-+put-digits-spec =
+pub +put_digits_spec : {M : Type 1} → statement M
++put_digits_spec =
     close μ-put-digits
     (λ t. put-digits-lts.spec (put-digits-calls t) (put-digits-at t) put-digits.Post
     (λ c. search set_ways)

@@ -4,8 +4,8 @@ use Rattle.typeset.proofs.Setting.{set_ways}
 use Rattle.typeset.proofs.pieces.differs.Statement.{statement}
 use Rattle.typeset.proofs.pieces.differs.Tie as tie
 
-pub differs-spec : {M : Type 1} → statement M
-differs-spec =
+pub differs_spec : {M : Type 1} → statement M
+differs_spec =
     tie.close
     (tie.spec
     (λ c. search rules)

@@ -13,8 +13,8 @@ invariant-loop piece text out₀ at n i₀ p₀ out i p = Onto text out₀ at pi
 abbrev decreases-loop : tie.decreases-loop
 decreases-loop piece text out₀ at n i₀ p₀ out i p = n - i
 
-pub put-all-spec : {M : Type 1} → statement M
-put-all-spec =
+pub put_all_spec : {M : Type 1} → statement M
+put_all_spec =
     tie.close
     (tie.spec
     invariant-loop

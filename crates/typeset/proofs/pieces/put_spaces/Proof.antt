@@ -12,8 +12,8 @@ invariant-loop n text out₀ at left₀ p₀ out left p = Onto text out₀ at (r
 abbrev decreases-loop : tie.decreases-loop
 decreases-loop n text out₀ at left₀ p₀ out left p = left
 
-pub put-spaces-spec : {M : Type 1} → statement M
-put-spaces-spec =
+pub put_spaces_spec : {M : Type 1} → statement M
+put_spaces_spec =
     tie.close
     (tie.spec
     invariant-loop

@@ -4,8 +4,8 @@ use Rattle.typeset.proofs.Setting.{set_ways}
 use Rattle.typeset.proofs.pieces.put_whole.Statement.{statement}
 use Rattle.typeset.proofs.pieces.put_whole.Tie as tie
 
-pub put-whole-spec : {M : Type 1} → statement M
-put-whole-spec =
+pub put_whole_spec : {M : Type 1} → statement M
+put_whole_spec =
     tie.close
     (tie.spec
     (λ c κs. search rules)

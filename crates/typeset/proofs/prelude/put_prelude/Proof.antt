@@ -10,8 +10,8 @@ prelude-set : tie.Need-returns
 unfolding prelude say
 prelude-set c = c.before.before.put_all_lem.ensures
 
-pub put-prelude-spec : {M : Type 1} → statement M
-put-prelude-spec =
+pub put_prelude_spec : {M : Type 1} → statement M
+put_prelude_spec =
     tie.close
     (tie.spec
     (λ c. search rules)

@@ -13,8 +13,8 @@ invariant-loop t from until out₀ at i₀ p₀ out i p = Onto out₀ at (slice 
 abbrev decreases-loop : tie.decreases-loop
 decreases-loop t from until out₀ at i₀ p₀ out i p = until - i
 
-pub put-part-spec : {M : Type 1} → statement M
-put-part-spec =
+pub put_part_spec : {M : Type 1} → statement M
+put_part_spec =
     tie.close
     (tie.spec
     invariant-loop

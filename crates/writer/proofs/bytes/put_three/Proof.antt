@@ -4,8 +4,8 @@ use Rattle.writer.proofs.Puts.{put_ways}
 use Rattle.writer.proofs.bytes.put_three.Statement.{statement}
 use Rattle.writer.proofs.bytes.put_three.Tie as tie
 
-pub put-three-spec : {M : Type 1} → statement M
-put-three-spec =
+pub put_three_spec : {M : Type 1} → statement M
+put_three_spec =
     tie.close
     (tie.spec
     (λ c κs. search rules)

@@ -4,8 +4,8 @@ use Rattle.zeroth.proofs.Rounding.{round_ways}
 use Rattle.zeroth.proofs.procedure.put_case.Statement.{statement}
 use Rattle.zeroth.proofs.procedure.put_case.Tie as tie
 
-pub put-case-spec : {M : Type 1} → statement M
-put-case-spec =
+pub put_case_spec : {M : Type 1} → statement M
+put_case_spec =
     tie.close
     (tie.spec
     (λ c κs. search rules)

@@ -4,8 +4,8 @@ use Rattle.zeroth.proofs.Rounding.{round_ways}
 use Rattle.zeroth.proofs.procedure.put_choice.Statement.{statement}
 use Rattle.zeroth.proofs.procedure.put_choice.Tie as tie
 
-pub put-choice-spec : {M : Type 1} → statement M
-put-choice-spec =
+pub put_choice_spec : {M : Type 1} → statement M
+put_choice_spec =
     tie.close
     (tie.spec
     (λ c κs. search rules)

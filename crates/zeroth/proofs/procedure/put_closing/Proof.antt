@@ -4,8 +4,8 @@ use Rattle.zeroth.proofs.Rounding.{round_ways}
 use Rattle.zeroth.proofs.procedure.put_closing.Statement.{statement}
 use Rattle.zeroth.proofs.procedure.put_closing.Tie as tie
 
-pub put-closing-spec : {M : Type 1} → statement M
-put-closing-spec =
+pub put_closing_spec : {M : Type 1} → statement M
+put_closing_spec =
     tie.close
     (tie.spec
     (λ c κs. search rules)

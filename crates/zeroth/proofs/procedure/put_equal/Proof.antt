@@ -4,8 +4,8 @@ use Rattle.zeroth.proofs.Rounding.{round_ways}
 use Rattle.zeroth.proofs.procedure.put_equal.Statement.{statement}
 use Rattle.zeroth.proofs.procedure.put_equal.Tie as tie
 
-pub put-equal-spec : {M : Type 1} → statement M
-put-equal-spec =
+pub put_equal_spec : {M : Type 1} → statement M
+put_equal_spec =
     tie.close
     (tie.spec
     (λ c κs. search rules)

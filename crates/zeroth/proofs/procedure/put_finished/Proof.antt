@@ -4,8 +4,8 @@ use Rattle.zeroth.proofs.Rounding.{round_ways}
 use Rattle.zeroth.proofs.procedure.put_finished.Statement.{statement}
 use Rattle.zeroth.proofs.procedure.put_finished.Tie as tie
 
-pub put-finished-spec : {M : Type 1} → statement M
-put-finished-spec =
+pub put_finished_spec : {M : Type 1} → statement M
+put_finished_spec =
     tie.close
     (tie.spec
     (λ c κs. search rules)

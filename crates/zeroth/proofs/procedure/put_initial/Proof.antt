@@ -4,8 +4,8 @@ use Rattle.zeroth.proofs.Rounding.{round_ways}
 use Rattle.zeroth.proofs.procedure.put_initial.Statement.{statement}
 use Rattle.zeroth.proofs.procedure.put_initial.Tie as tie
 
-pub put-initial-spec : {M : Type 1} → statement M
-put-initial-spec =
+pub put_initial_spec : {M : Type 1} → statement M
+put_initial_spec =
     tie.close
     (tie.spec
     (λ c κs. search rules)

@@ -4,8 +4,8 @@ use Rattle.zeroth.proofs.Rounding.{round_ways}
 use Rattle.zeroth.proofs.procedure.put_invoke.Statement.{statement}
 use Rattle.zeroth.proofs.procedure.put_invoke.Tie as tie
 
-pub put-invoke-spec : {M : Type 1} → statement M
-put-invoke-spec =
+pub put_invoke_spec : {M : Type 1} → statement M
+put_invoke_spec =
     tie.close
     (tie.spec
     (λ c κs. search rules)

@@ -4,8 +4,8 @@ use Rattle.zeroth.proofs.Rounding.{round_ways}
 use Rattle.zeroth.proofs.procedure.put_judge.Statement.{statement}
 use Rattle.zeroth.proofs.procedure.put_judge.Tie as tie
 
-pub put-judge-spec : {M : Type 1} → statement M
-put-judge-spec =
+pub put_judge_spec : {M : Type 1} → statement M
+put_judge_spec =
     tie.close
     (tie.spec
     (λ c κs. search rules)

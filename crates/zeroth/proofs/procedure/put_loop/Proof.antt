@@ -4,8 +4,8 @@ use Rattle.zeroth.proofs.Rounding.{round_ways}
 use Rattle.zeroth.proofs.procedure.put_loop.Statement.{statement}
 use Rattle.zeroth.proofs.procedure.put_loop.Tie as tie
 
-pub put-loop-spec : {M : Type 1} → statement M
-put-loop-spec =
+pub put_loop_spec : {M : Type 1} → statement M
+put_loop_spec =
     tie.close
     (tie.spec
     (λ c κs. search rules)

@@ -4,8 +4,8 @@ use Rattle.zeroth.proofs.Rounding.{round_ways}
 use Rattle.zeroth.proofs.procedure.put_round.Statement.{statement}
 use Rattle.zeroth.proofs.procedure.put_round.Tie as tie
 
-pub put-round-spec : {M : Type 1} → statement M
-put-round-spec =
+pub put_round_spec : {M : Type 1} → statement M
+put_round_spec =
     tie.close
     (tie.spec
     (λ c κs. search rules)

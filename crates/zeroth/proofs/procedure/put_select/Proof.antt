@@ -4,8 +4,8 @@ use Rattle.zeroth.proofs.Rounding.{round_ways}
 use Rattle.zeroth.proofs.procedure.put_select.Statement.{statement}
 use Rattle.zeroth.proofs.procedure.put_select.Tie as tie
 
-pub put-select-spec : {M : Type 1} → statement M
-put-select-spec =
+pub put_select_spec : {M : Type 1} → statement M
+put_select_spec =
     tie.close
     (tie.spec
     (λ c κs. search rules)

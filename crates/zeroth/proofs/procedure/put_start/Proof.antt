@@ -4,8 +4,8 @@ use Rattle.zeroth.proofs.Rounding.{round_ways}
 use Rattle.zeroth.proofs.procedure.put_start.Statement.{statement}
 use Rattle.zeroth.proofs.procedure.put_start.Tie as tie
 
-pub put-start-spec : {M : Type 1} → statement M
-put-start-spec =
+pub put_start_spec : {M : Type 1} → statement M
+put_start_spec =
     tie.close
     (tie.spec
     (λ c κs. search rules)

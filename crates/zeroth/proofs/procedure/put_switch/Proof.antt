@@ -12,8 +12,8 @@ invariant-loop labels out₀ at k₀ p₀ out k p = SwitchLeft labels k out₀ a
 abbrev decreases-loop : tie.decreases-loop
 decreases-loop labels out₀ at k₀ p₀ out k p = labels - k
 
-pub put-switch-spec : {M : Type 1} → statement M
-put-switch-spec =
+pub put_switch_spec : {M : Type 1} → statement M
+put_switch_spec =
     tie.close
     (tie.spec
     invariant-loop

@@ -4,8 +4,8 @@ use Rattle.zeroth.proofs.Rounding.{round_ways}
 use Rattle.zeroth.proofs.procedure.put_thread.Statement.{statement}
 use Rattle.zeroth.proofs.procedure.put_thread.Tie as tie
 
-pub put-thread-spec : {M : Type 1} → statement M
-put-thread-spec =
+pub put_thread_spec : {M : Type 1} → statement M
+put_thread_spec =
     tie.close
     (tie.spec
     (λ c. search rules)

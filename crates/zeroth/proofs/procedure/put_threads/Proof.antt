@@ -12,8 +12,8 @@ invariant-loop part t shape bounds out₀ at threads k₀ p₀ out k p = Threads
 abbrev decreases-loop : tie.decreases-loop
 decreases-loop part t shape bounds out₀ at threads k₀ p₀ out k p = threads - k
 
-pub put-threads-spec : {M : Type 1} → statement M
-put-threads-spec =
+pub put_threads_spec : {M : Type 1} → statement M
+put_threads_spec =
     tie.close
     (tie.spec
     invariant-loop

@@ -4,8 +4,8 @@ use Rattle.zeroth.proofs.Rounding.{round_ways}
 use Rattle.zeroth.proofs.procedure.put_zeroth.Statement.{statement}
 use Rattle.zeroth.proofs.procedure.put_zeroth.Tie as tie
 
-pub put-zeroth-spec : {M : Type 1} → statement M
-put-zeroth-spec =
+pub put_zeroth_spec : {M : Type 1} → statement M
+put_zeroth_spec =
     tie.close
     (tie.spec
     (λ c κs. search rules)
