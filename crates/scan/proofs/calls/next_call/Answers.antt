@@ -1,5 +1,4 @@
 -- `scan::calls::next_call` meets its contract.
-use Rattle.std.proofs.Common.{◌-◌, ◌/◌}
 use Rattle.scan.specs.Laws.CallScans.{pass_ways}
 use Rattle.scan.proofs.calls.next_call.Goals as goal
 

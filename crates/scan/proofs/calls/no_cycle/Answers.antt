@@ -1,5 +1,4 @@
 -- `scan::calls::no_cycle` meets its contract.
-use Rattle.std.proofs.Common.{◌-◌, ◌/◌}
 use Rattle.scan.specs.Laws.CallSearch.{search_ways}
 use Rattle.scan.proofs.calls.no_cycle.Goals as goal
 

@@ -1,5 +1,4 @@
 -- `scan::calls::no_cycle` meets its contract.
-use Rattle.std.proofs.Common.{◌-◌}
 use Rattle.scan.specs.Laws.CallSearch.{Search, to_do}
 use Rattle.scan.proofs.calls.no_cycle.Given as goal
 

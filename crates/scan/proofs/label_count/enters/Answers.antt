@@ -1,5 +1,5 @@
 -- `scan::label_count::enters` meets its contract.
-use Rattle.std.proofs.Common.{ℕ, ◌≡◌, refl}
+use Rattle.std.proofs.Common.{◌≡◌, refl}
 use Rattle.scan.specs.declared.tokens.Token.{Token}
 use Rattle.scan.specs.declared.tokens.Token.TheVariants as T
 use Rattle.scan.specs.Laws.LabelScans.{entered, ways}

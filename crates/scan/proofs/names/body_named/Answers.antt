@@ -1,5 +1,4 @@
 -- `scan::names::body_named` meets its contract.
-use Rattle.std.proofs.Common.{◌-◌, ◌/◌}
 use Rattle.scan.specs.Laws.NameScans.{ways}
 use Rattle.scan.proofs.names.body_named.Goals as goal
 

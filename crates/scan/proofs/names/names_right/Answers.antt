@@ -1,5 +1,4 @@
 -- `scan::names::names_right` meets its contract.
-use Rattle.std.proofs.Common.{◌-◌, ◌/◌}
 use Rattle.scan.specs.Laws.NameScans.{ways}
 use Rattle.scan.proofs.names.names_right.Goals as goal
 
