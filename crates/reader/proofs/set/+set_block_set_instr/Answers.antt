@@ -1,5 +1,4 @@
 -- `reader::set::set_block` and `set_instr`, which call each other, meet their contracts.
-use Rattle.std.proofs.Common.{◌-◌, ◌/◌}
 use Rattle.reader.specs.Laws.SetScans.{ways}
 use Rattle.reader.proofs.set.+set_block_set_instr.Goals as goal
 

@@ -1,5 +1,4 @@
 -- `reader::set::body_set` meets its contract.
-use Rattle.std.proofs.Common.{◌-◌, ◌/◌}
 use Rattle.reader.specs.Laws.SetScans.{proc_ways}
 use Rattle.reader.proofs.set.body_set.Goals as goal
 

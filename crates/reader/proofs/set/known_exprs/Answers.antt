@@ -1,5 +1,4 @@
 -- `reader::set::known_exprs` meets its contract.
-use Rattle.std.proofs.Common.{◌-◌, ◌/◌}
 use Rattle.reader.specs.Laws.KnownScans.{known_ways}
 use Rattle.reader.proofs.set.known_exprs.Goals as goal
 

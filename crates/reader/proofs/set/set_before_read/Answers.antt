@@ -1,5 +1,4 @@
 -- `reader::set::set_before_read` meets its contract.
-use Rattle.std.proofs.Common.{◌-◌, ◌/◌}
 use Rattle.reader.specs.Laws.SetScans.{proc_ways}
 use Rattle.reader.proofs.set.set_before_read.Goals as goal
 

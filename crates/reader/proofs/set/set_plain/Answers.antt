@@ -1,5 +1,4 @@
 -- `reader::set::set_plain` meets its contract.
-use Rattle.std.proofs.Common.{◌-◌, ◌/◌}
 use Rattle.reader.specs.Laws.SetScans.{ways}
 use Rattle.reader.proofs.set.set_plain.Goals as goal
 

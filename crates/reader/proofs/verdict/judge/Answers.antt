@@ -1,5 +1,4 @@
 -- `reader::verdict::judge` meets its contract.
-use Rattle.std.proofs.Common.{◌-◌, ◌/◌}
 use Rattle.reader.proofs.Verdicts.{verdict_ways}
 use Rattle.reader.proofs.verdict.judge.Goals as goal
 
