@@ -1,6 +1,5 @@
 -- The two walks that count labels meet their contracts.
 use Rattle.std.proofs.Common.{rules}
-use Rattle.std.proofs.Common.{◌-◌, ◌/◌}
 use Rattle.labels.proofs.Counting.{count_ways}
 use Rattle.labels.proofs.count.+count_block_count_instr.Goals as goal
 

@@ -1,5 +1,4 @@
 -- `labels::after_exprs` meets its contract.
-use Rattle.std.proofs.Common.{◌-◌, ◌/◌}
 use Rattle.labels.proofs.Counting.{skip_ways}
 use Rattle.labels.proofs.count.after_exprs.Goals as goal
 

@@ -1,5 +1,4 @@
 -- `labels::after_exprs` meets its contract.
-use Rattle.std.proofs.Common.{◌-◌}
 use Rattle.labels.proofs.Counting.{Skipping}
 use Rattle.labels.proofs.count.after_exprs.Given as goal
 

@@ -1,5 +1,4 @@
 -- `labels::after_plain` meets its contract.
-use Rattle.std.proofs.Common.{◌-◌, ◌/◌}
 use Rattle.labels.proofs.Counting.{plain_ways}
 use Rattle.labels.proofs.count.after_plain.Goals as goal
 

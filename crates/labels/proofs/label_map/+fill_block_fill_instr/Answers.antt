@@ -1,5 +1,5 @@
 -- The two walks that fill the label map meet their contracts.
-use Rattle.std.proofs.Common.{◌-◌, ◌/◌, rules}
+use Rattle.std.proofs.Common.{rules}
 use Rattle.labels.proofs.Filling.{fill_ways}
 use Rattle.labels.proofs.label_map.+fill_block_fill_instr.Goals as goal
 

@@ -1,5 +1,4 @@
 -- `label_map::fill_labels` meets its contract.
-use Rattle.std.proofs.Common.{◌-◌, ◌/◌}
 use Rattle.labels.proofs.Mapping.{map_ways}
 use Rattle.labels.proofs.label_map.fill_labels.Goals as goal
 

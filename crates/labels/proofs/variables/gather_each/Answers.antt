@@ -1,5 +1,4 @@
 -- `variables::gather_each` meets its contract.
-use Rattle.std.proofs.Common.{◌-◌, ◌/◌}
 use Rattle.labels.proofs.Gathering.{each_ways}
 use Rattle.labels.proofs.variables.gather_each.Goals as goal
 

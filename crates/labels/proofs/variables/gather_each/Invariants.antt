@@ -1,5 +1,4 @@
 -- `variables::gather_each` meets its contract.
-use Rattle.std.proofs.Common.{◌-◌}
 use Rattle.labels.specs.Walks.{Gathering}
 use Rattle.labels.proofs.variables.gather_each.Given as goal
 
