@@ -1,9 +1,9 @@
 -- What the text reader finds: the table whose text it is given, and no other.
-use Rattle.std.specs.Prelude.{ℕ, zero, suc, ◌+◌, ◌≤◌, ◌<◌, ◌≡◌, refl, ◌↔◌, List, [], ◌∷◌, ◌++◌, map, Bool, true, false, length, take, drop, eqb, ltb}
-use Rattle.std.proofs.Common.{arith, sym, ap, ap₂, subst, ◌∙◌, eqb-true, eq-eqb, le-ltb, ltb-false}
+use Rattle.std.specs.Prelude.{ℕ, zero, suc, ◌+◌, ◌≤◌, ◌<◌, ◌≡◌, refl, ◌↔◌, List, [], ◌∷◌, map, Bool, true, length, take, drop, eqb}
+use Rattle.std.proofs.Common.{arith, sym, ap, ap₂, subst, ◌∙◌, eqb-true, eq-eqb, le-ltb}
 use Rattle.std.proofs.Math.Seq.{take-append_seam}
 use Rattle.std.proofs.lemmas.Bool.{eqb-false}
-use Rattle.value.specs.Maybe.{Maybe, is, nothing, both}
+use Rattle.value.specs.Maybe.{Maybe, is, nothing}
 use Rattle.value.specs.Lists.{upto, over}
 use Rattle.value.proofs.Laws.Maybes.{missing, is_inj}
 use Rattle.value.proofs.Laws.Tests.{by_test, never, both_passed, pass_both}
@@ -12,9 +12,8 @@ use Rattle.value.proofs.Laws.Bytes.{Bytes}
 use Rattle.format.specs.Syntax.{Program, Plain, sequential}
 use Rattle.format.specs.Encode.{table}
 use Rattle.format.specs.Rules.{Verdict, refused, accepted, verdict, limits}
-use Rattle.format.proofs.Laws.Sound.{Sound}
 use Rattle.format.proofs.Laws.Accepted.{accepted_exactly}
-use Rattle.translation.specs.Calls.{Written, refusal, written, writes}
+use Rattle.translation.specs.Calls.{refusal, written, writes}
 use Rattle.ctext.specs.Text.{text}
 use Rattle.ctext.specs.Calls.{print_as, print_call, same_bytes, text_as, find, longer, all_bytes, untext, read_as, read_text_call}
 use Rattle.ctext.proofs.Laws.OneToOne.{text_unique}
