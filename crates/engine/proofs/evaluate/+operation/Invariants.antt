@@ -1,5 +1,4 @@
 -- `engine::evaluate::operation` meets its contract; the allowed depth falls.
-use Rattle.std.proofs.Common.{◌-◌}
 use Rattle.engine.proofs.evaluate.+operation.Given as goal
 
 -- proposed from what the function passes where it calls itself

@@ -1,5 +1,4 @@
 -- `engine::evaluate::evaluate` meets its contract.
-use Rattle.std.proofs.Common.{◌-◌, ◌/◌}
 use Rattle.engine.proofs.Evaluating.{eval_ways}
 use Rattle.engine.proofs.evaluate.evaluate.Goals as goal
 

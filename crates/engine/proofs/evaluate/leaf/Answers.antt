@@ -32,4 +32,3 @@ returns-in-4 c = search (leaf_ways, rules)
 
 pub returns-in_default : goal.returns-in_default
 returns-in_default c = search (leaf_ways, rules)
-

@@ -1,5 +1,4 @@
 -- `engine::memory::write_cells` meets its contract.
-use Rattle.std.proofs.Common.{◌-◌, ◌/◌}
 use Rattle.engine.specs.Laws.Writing.{writing_ways}
 use Rattle.engine.proofs.memory.write_cells.Goals as goal
 
