@@ -36,11 +36,13 @@ unfolding find
 passes f (a ∷ l) here p e = missing (sym (rw (p, find) at e))
 passes f (b ∷ l) (there i) p e =
     by_test (f b) (λ t. missing (sym (rw (t, find) at e))) (λ t. passes f l i p (rw (t, find) at e))
+passes {A = A} f [] {a = a} x3 p e = elim x3 [ ]
 
 -- one byte more
 in_map : (b : ℕ) {t : List ℕ} (ls : List (List ℕ)) → In t ls → In (b ∷ t) (map (λ l. b ∷ l) ls)
 in_map b (t ∷ ls) here = here
 in_map b (l ∷ ls) (there i) = there (in_map b ls i)
+in_map b {t = t} [] x' = elim x' [ ]
 
 -- any byte
 in_longer : (a n b : ℕ) {t : List ℕ} (ls : List (List ℕ)) → a ≤ b → b < a + n → In t ls → In (b ∷ t) (longer (upto a n) ls)
