@@ -1,8 +1,8 @@
 -- docs/C-TEXT.md's example, and forms that are not in it: a negative number, deep expressions, arguments, an empty program.
-use Rattle.std.specs.Prelude.{ℕ, ◌≡◌, refl, List, [], ◌∷◌, ◌++◌, true, pos, negsuc, length}
+use Rattle.std.specs.Prelude.{◌≡◌, refl, [], ◌∷◌, ◌++◌, pos, negsuc, length}
 use Rattle.value.specs.Values.{not, neg, add, sub, mul, less, and}
-use Rattle.value.specs.declared.Value.TheVariants.{Whole, Truth}
-use Rattle.format.specs.Syntax.{Expr, constant, local, one, two, assign, call, Block, end, step, Program, Plain}
+use Rattle.value.specs.declared.Value.TheVariants.{Whole}
+use Rattle.format.specs.Syntax.{constant, local, one, two, call, end, step, Program, Plain}
 use Rattle.translation.specs.Translate.{translate}
 use Rattle.ctext.specs.Pieces.{say, digits}
 use Rattle.ctext.specs.Prelude.{prelude, lines}

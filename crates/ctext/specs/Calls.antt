@@ -3,7 +3,7 @@
 use Rattle.std.specs.Prelude.{ℕ, zero, suc, List, [], ◌∷◌, ◌++◌, map, Bool, true, false, eqb}
 use Rattle.value.specs.Maybe.{Maybe, is, nothing, both}
 use Rattle.value.specs.Lists.{upto}
-use Rattle.format.specs.Syntax.{Plain, Program, sequential}
+use Rattle.format.specs.Syntax.{sequential}
 use Rattle.format.specs.Rules.{Verdict, refused, accepted, verdict, limits}
 use Rattle.translation.specs.Calls.{Written, refusal, writes}
 use Rattle.ctext.specs.Text.{text}

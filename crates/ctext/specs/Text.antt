@@ -1,10 +1,10 @@
 -- A sequential program as C11 text: docs/C-TEXT.md, "The rules". Every template there is one line here.
-use Rattle.std.specs.Prelude.{ℕ, zero, suc, ◌+◌, ◌*◌, ◌-◌, List, [], ◌∷◌, ◌++◌, true, false, replicate}
+use Rattle.std.specs.Prelude.{ℕ, zero, suc, ◌*◌, ◌-◌, List, [], ◌∷◌, ◌++◌, true, false, replicate}
 use Rattle.value.specs.Lists.{upto}
 use Rattle.value.specs.Values.{One, not, neg, Two, add, sub, mul, less, equal, and}
 use Rattle.value.specs.declared.Value.TheVariants.{Whole, Location, Truth}
 use Rattle.format.specs.Syntax.{Expr, constant, local, one, two}
-use Rattle.format.specs.Syntax.{Instr, assign, write, read, while, if, call, atomic, select, Block, end, step, Proc, Program, Plain}
+use Rattle.format.specs.Syntax.{Instr, assign, write, read, while, if, call, atomic, select, Block, end, step, Proc, Program}
 use Rattle.format.specs.Encode.{each}
 use Rattle.ctext.specs.Pieces.{say, joined, decimal, whole}
 use Rattle.ctext.specs.Prelude.{prelude}

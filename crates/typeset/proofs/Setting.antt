@@ -2,15 +2,13 @@
 use Prim.Native.Nat.{ℕ, zero, suc, ◌+◌, ◌-◌, ◌/◌, ◌%◌, ◌^◌, ◌≤◌, ◌<◌}
 use native.Mathlib.Omega.{arith}
 use native.Mathlib.Numerals.{add-one}
-use mathlib.Core.Path.{◌≡◌, refl, sym, ap, subst, ◌∙◌}
+use mathlib.Core.Path.{◌≡◌, refl, sym, ap, ◌∙◌}
 use mathlib.Core.List.{List, [], ◌∷◌, ◌++◌}
 use mathlib.Core.Bool.{Bool, true, false, not}
-use lib.ListN.{length, get_or, set, take, drop, replicate, length-append, length-set, drop_of_length-le}
-use lib.Seq.{drop-cons, set_out, drop-length}
-use lib.Dec.{eqb, ltb, leb}
-use lib.IntN.{negsuc}
+use lib.ListN.{length, get_or, set, drop, replicate, length-set, drop_of_length-le}
+use lib.Seq.{drop-cons, set_out}
+use lib.Dec.{eqb}
 use borrow.Author.Tests.{lt-ltb, le-ltb, le-leb, lt-leb}
-use Rattle.value.specs.Maybe.{both, pick}
 use Rattle.value.specs.Values.{unword}
 use Rattle.ctext.specs.Pieces.{digits, decimal, whole}
 use Rattle.typeset.specs.Page.{Page, nowhere, otherwise, set_one, set_all, Put, Onto}
@@ -86,7 +84,7 @@ counted_one x o p b l m h =
 counted_all : {x o : List ℕ} {p : ℕ} (bs : List ℕ) → length x ≤ p → length o ≤ p → p + length bs ≤ nowhere → Put x o p bs o (p + length bs)
 counted_all {x} {o} {p} [] l m h = record { puts = ap (λ n. record { out = o; at = n }) (omega arith); kept = refl }
 counted_all {x} {o} {p} (b ∷ bs) l m h =
-    let rest : Put x o (p + 1) bs o (p + 1 + length bs) = counted_all bs (omega arith) (omega arith) (omega arith) in
+    let rest : Put x o (p + 1) bs o (p + 1 + length bs) = counted_all {p = p + 1} bs (omega arith) (omega arith) (omega arith) in
     let place : p + 1 + length bs ≡ p + suc (length bs) = omega arith in
     record {
       puts = rw place at rest.puts ∙ ap (λ s. set_all x s bs) (sym (counted_one x o p b l m (omega arith)));

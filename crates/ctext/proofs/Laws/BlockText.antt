@@ -1,19 +1,19 @@
 -- Blocks and instructions in the text: one law for each way to read them, and one thing stands at a position.
-use Rattle.std.specs.Prelude.{ℕ, zero, suc, ◌+◌, ◌*◌, ◌-◌, ◌^◌, ◌≤◌, ◌<◌, ◌≡◌, refl, List, [], ◌∷◌, ◌++◌, Bool, true, false, length, get_or, replicate, eqb}
-use Rattle.std.proofs.Common.{arith, sym, ap, ap₂, subst, ◌∙◌, length-append, eq-eqb, ne_eqb}
+use Rattle.std.specs.Prelude.{ℕ, zero, suc, ◌+◌, ◌*◌, ◌-◌, ◌≤◌, ◌≡◌, refl, List, [], ◌∷◌, ◌++◌, Bool, true, false, length, get_or, eqb}
+use Rattle.std.proofs.Common.{arith, sym, ap, ap₂, subst, ◌∙◌, length-append, ne_eqb}
 use Rattle.std.proofs.lemmas.List.{length-replicate, get_or-replicate}
 use Rattle.std.proofs.Math.ListN.{get_or-append}
-use Rattle.value.specs.Maybe.{both, either}
+use Rattle.value.specs.Maybe.{both}
 use Rattle.value.proofs.Laws.Tests.{never}
 use Rattle.format.specs.Syntax.{Expr, Instr, assign, write, read, while, if, call, atomic, select, Block, end, step, Plain}
 use Rattle.format.proofs.Laws.Blocks.{nesting_pos}
-use Rattle.format.proofs.Laws.Stands.{Stands, first, others, front, back}
-use Rattle.ctext.specs.Pieces.{say, decimal}
-use Rattle.ctext.specs.Text.{ind, instr, block}
+use Rattle.format.proofs.Laws.Stands.{Stands, first, front, back}
+use Rattle.ctext.specs.Pieces.{say}
+use Rattle.ctext.specs.Text.{expr, ind, instr, block}
 use Rattle.ctext.proofs.Laws.Numbers.{number_same}
-use Rattle.ctext.proofs.Laws.ExprText.{behind, byte_in, shift, ExprText, moved, expr_same_lem}
-use Rattle.ctext.proofs.Laws.ArgText.{NumberText, ArgsText, MoreText, SomeIn, args_parts, more_parts, expr_letter}
-use Rattle.ctext.proofs.Laws.LineText.{FlatI, Flat, ended, BlockText, InstrText, Line, target_line, write_line, while_line, if_line, call_line, select_line}
+use Rattle.ctext.proofs.Laws.ExprText.{behind, byte_in, moved, expr_same_lem}
+use Rattle.ctext.proofs.Laws.ArgText.{NumberText, ArgsText, MoreText, args_parts, more_parts, expr_letter}
+use Rattle.ctext.proofs.Laws.LineText.{FlatI, ended, BlockText, InstrText, Line, target_line, write_line, while_line, if_line, call_line, select_line}
 use Rattle.ctext.proofs.Laws.LineText.{line_of, ByLine, ByTarget, TargetIn, AssignIn, ReadIn, WriteIn, WhileIn, IfIn, CallIn, SelectIn, by_line}
 
 -- ---- instructions
@@ -155,11 +155,11 @@ more_same : {x : List ℕ} {i : ℕ} (es fs : List Expr) {j k : ℕ} → MoreTex
 more_same [] [] p q = (refl, omega (arith, p.stands.ends, q.stands.ends))
 more_same [] (f ∷ fs) p q = absurd (no_end p q)
 more_same (e ∷ es) [] p q = absurd (no_end q p)
-more_same {x} (e ∷ es) (f ∷ fs) {j} {k} p q =
+more_same {x} {i} (e ∷ es) (f ∷ fs) {j} {k} p q =
     let a = more_parts p in
     let b = more_parts q in
     let one = expr_same_lem a.0 b.0 in
-    let others = more_same es fs a.1 (subst (λ i. MoreText x i fs k) (sym one.1) b.1) in
+    let others = more_same {i = i + 2 + length (expr e)} es fs a.1 (subst (λ i. MoreText x i fs k) (sym one.1) b.1) in
     (ap₂ (◌∷◌) one.0 others.0, others.1)
 
 -- arguments
@@ -246,7 +246,7 @@ module _ {x : List ℕ} {f : ℕ} (less : OneBlock x f) where
       by_lines less (i + 2 * d) (c - 1) (e - 1) d s u _ _ (omega arith) (line_of (get_or x (i + 2 * d) 0) (get_or x (i + 2 * d + 2) 0))
       (by_line s p.0) (by_line u q.0)
       in
-      let others = row_same a b l p.1 (block_moved q.1 (sym one.1)) in
+      let others = row_same {i = i + 2 * d + length (instr d s)} a b l p.1 (block_moved q.1 (sym one.1)) in
       (ap₂ (λ s b. step t s b) one.0 others.0, others.1)
 
 -- by fewer levels

@@ -1,5 +1,5 @@
 -- Definitions of procedures in the text, by the bytes there.
-use Rattle.std.specs.Prelude.{ℕ, zero, suc, ◌+◌, ◌*◌, ◌-◌, ◌^◌, ◌≤◌, ◌<◌, ◌≡◌, refl, List, [], ◌∷◌, ◌++◌, Bool, true, false, length, get_or, eqb}
+use Rattle.std.specs.Prelude.{ℕ, zero, suc, ◌+◌, ◌-◌, ◌^◌, ◌≤◌, ◌<◌, ◌≡◌, refl, List, [], ◌∷◌, ◌++◌, Bool, true, false, length, get_or, eqb}
 use Rattle.std.proofs.Common.{arith, sym, ap, ap₂, subst, ◌∙◌, append_assoc}
 use Rattle.value.specs.Maybe.{both}
 use Rattle.value.specs.Lists.{upto}
@@ -10,8 +10,8 @@ use Rattle.format.specs.Encode.{each}
 use Rattle.format.specs.Decode.{max_nesting}
 use Rattle.format.proofs.Laws.Fits.{BlockFits}
 use Rattle.format.proofs.Laws.Stands.{Stands, first, others, front, back}
-use Rattle.ctext.specs.Pieces.{say, joined, decimal}
-use Rattle.ctext.specs.Text.{ind, instr, block, numbered, params, head, argument, unset, definition}
+use Rattle.ctext.specs.Pieces.{say, decimal}
+use Rattle.ctext.specs.Text.{ind, instr, block, numbered, argument, unset, definition}
 use Rattle.ctext.proofs.Laws.Numbers.{Digit}
 use Rattle.ctext.proofs.Laws.ExprText.{shift, behind, byte_in}
 use Rattle.ctext.proofs.Laws.ArgText.{NumberText, take_number}
@@ -57,8 +57,8 @@ pub unsets_same : {x : List ℕ} {i a : ℕ} (n m : ℕ) {j k : ℕ} → UnsetsT
 unsets_same zero zero h g = (refl, omega (arith, h.stands.ends, g.stands.ends))
 unsets_same zero (suc m) h g = absurd (omega (arith, (unsets_next h (unset_here g)).1))
 unsets_same (suc n) zero h g = absurd (omega (arith, (unsets_next g (unset_here h)).1))
-unsets_same (suc n) (suc m) h g =
-    let same = unsets_same n m (unset_after h) (unset_after g) in
+unsets_same {i = i} {a = a} (suc n) (suc m) h g =
+    let same = unsets_same {i = i + length (unset a)} {a = suc a} n m (unset_after h) (unset_after g) in
     (ap suc same.0, same.1)
 
 -- ---- a body
@@ -193,5 +193,5 @@ definitions_same {x} {i} {k} (p ∷ ps) (q ∷ qs) {j} h g =
     let unsets = unsets_same (p.locals - p.params) (q.locals - q.params) a.unsets moved in
     let body = block_same a.body (subst (λ u. BlockText x u max_nesting 1 q.body b.e) (sym unsets.1) b.body) in
     let locals : p.locals ≡ q.locals = omega (arith, n.0, unsets.0, h.fits.0.params, g.fits.0.params) in
-    let others = definitions_same ps qs a.after (subst (λ e. DefinitionsText x (e + 16) (suc k) qs j) (sym body.1) b.after) in
+    let others = definitions_same {i = a.e + 16} ps qs a.after (subst (λ e. DefinitionsText x (e + 16) (suc k) qs j) (sym body.1) b.after) in
     ap₂ (◌∷◌) (proc_same n.0 locals body.0) others

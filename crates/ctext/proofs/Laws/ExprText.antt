@@ -9,12 +9,11 @@ use Rattle.value.specs.Marks.{Mark, whole_mark, location_mark, no_mark, yes_mark
 use Rattle.value.proofs.Laws.Marks.{mark₁_marks, mark₂_marks}
 use Rattle.value.specs.declared.Value.TheVariants.{Whole, Location, Truth}
 use Rattle.format.specs.Syntax.{Expr, constant, local, one, two}
-use Rattle.format.proofs.Laws.Depths.{depth}
 use Rattle.format.proofs.Laws.Fits.{ExprFits}
 use Rattle.format.proofs.Laws.Exprs.{depth_pos}
 use Rattle.format.proofs.Laws.Stands.{Stands, first, others, front, back}
-use Rattle.ctext.specs.Pieces.{say, joined, decimal, whole}
-use Rattle.ctext.specs.Text.{var, name₁, name₂, sep, expr_in}
+use Rattle.ctext.specs.Pieces.{say, decimal, whole}
+use Rattle.ctext.specs.Text.{name₁, name₂, sep, expr_in}
 use Rattle.ctext.proofs.Laws.Numbers.{Stops, stops_at, number_same, whole_same}
 
 -- ---- pieces

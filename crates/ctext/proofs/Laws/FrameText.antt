@@ -1,24 +1,19 @@
 -- Around the blocks: locations, parameters, declarations and definitions in the text, by the bytes there.
-use Prim.Native.Nat.{ℕ, zero, suc, ◌+◌, ◌*◌, ◌-◌, ◌^◌, ◌≤◌, ◌<◌}
+use Prim.Native.Nat.{ℕ, zero, suc, ◌+◌, ◌^◌, ◌≤◌, ◌<◌}
 use Rattle.std.proofs.Common.{arith, sym, ap, ap₂, subst, ◌∙◌}
-use Rattle.std.specs.Prelude.{◌≡◌, List, [], ◌∷◌, ◌++◌, Bool, true, false, length, get_or, eqb}
+use Rattle.std.specs.Prelude.{◌≡◌, List, [], ◌∷◌, ◌++◌, length, get_or}
 use Rattle.std.proofs.Math.Path.{refl}
-use Rattle.value.specs.Maybe.{both}
 use Rattle.value.specs.Lists.{upto}
 use Rattle.value.proofs.Laws.Lists.{Each}
-use Rattle.value.proofs.Laws.Tests.{never}
-use Rattle.format.specs.Syntax.{Block, end, step, Proc, Plain}
+use Rattle.format.specs.Syntax.{Proc, Plain}
 use Rattle.format.specs.Encode.{each}
-use Rattle.format.specs.Decode.{max_nesting}
-use Rattle.format.proofs.Laws.Fits.{BlockFits}
-use Rattle.format.proofs.Laws.Stands.{Stands, first, others, front, back}
-use Rattle.ctext.specs.Pieces.{say, joined, digits, decimal}
-use Rattle.ctext.specs.Text.{var, ind, instr, block, numbered, location, area, params, head, declaration, argument, unset, definition}
+use Rattle.format.proofs.Laws.Stands.{Stands, first, front, back}
+use Rattle.ctext.specs.Pieces.{say, digits, decimal}
+use Rattle.ctext.specs.Text.{var, numbered, location, params, head, declaration}
 use Rattle.ctext.proofs.Laws.Numbers.{Digit, Stops, stops_at}
-use Rattle.ctext.proofs.Laws.ExprText.{shift, behind, byte_in}
+use Rattle.ctext.proofs.Laws.ExprText.{shift, behind}
 use Rattle.ctext.proofs.Laws.ArgText.{NumberText, take_number}
-use Rattle.ctext.proofs.Laws.LineText.{Flat, ended, BlockText}
-use Rattle.ctext.proofs.Laws.BlockText.{begins, number_text_same, block_same}
+use Rattle.ctext.proofs.Laws.BlockText.{number_text_same}
 
 -- ---- locations
 
@@ -97,7 +92,7 @@ locations_same {x} {i} {k} (n ∷ ss) (m ∷ us) {j} {l} h g =
     let q = location_parts g in
     let index = number_text_same p.2 q.2 in
     let size = number_text_same p.3 (subst (λ l. NumberText x (l + 1) m q.1) (sym index.1) q.3) in
-    let others = locations_same ss us p.4 (subst (λ m. LocationsText x (m + 3) (suc k) us l) (sym size.1) q.4) in
+    let others = locations_same {i = p.1 + 3} ss us p.4 (subst (λ m. LocationsText x (m + 3) (suc k) us l) (sym size.1) q.4) in
     (ap₂ (◌∷◌) size.0 others.0, others.1)
 
 -- ---- parameters
@@ -178,8 +173,8 @@ more_params_same zero m h g =
     let none = more_params_none g (λ q. omega (arith, (more_params_some h q).1)) in
     (sym none.0, omega (arith, h.stands.ends, none.1))
 more_params_same (suc n) zero h g = absurd (omega (arith, (more_params_some g (first h.stands)).1))
-more_params_same (suc n) (suc m) h g =
-    let same = more_params_same n m (more_next h).1 (more_next g).1 in
+more_params_same {i = i} {a = a} (suc n) (suc m) h g =
+    let same = more_params_same {i = i + 11 + length (decimal a)} {a = suc a} n m (more_next h).1 (more_next g).1 in
     (ap suc same.0, same.1)
 
 -- one number of parameters stands there
@@ -248,4 +243,4 @@ declarations_same {x} {i} {k} (p ∷ ps) (q ∷ qs) {j} {l} h g =
     let a = declaration_parts h in
     let b = declaration_parts g in
     let same = params_same p.params q.params a.1 b.1 in
-    declarations_same ps qs a.2 (subst (λ m. DeclarationsText x (m + 3) (suc k) qs l) (sym same.1) b.2)
+    declarations_same {i = a.0 + 3} ps qs a.2 (subst (λ m. DeclarationsText x (m + 3) (suc k) qs l) (sym same.1) b.2)

@@ -1,16 +1,16 @@
 -- What instruction's and what block's text stands at a position, by the bytes there.
-use Rattle.std.specs.Prelude.{ℕ, zero, suc, ◌+◌, ◌*◌, ◌-◌, ◌^◌, ◌≤◌, ◌<◌, ◌≡◌, refl, List, [], ◌∷◌, ◌++◌, Bool, true, false, length, get_or, replicate, eqb}
-use Rattle.std.proofs.Common.{arith, sym, ap, subst, ◌∙◌}
+use Rattle.std.specs.Prelude.{ℕ, suc, ◌+◌, ◌*◌, ◌-◌, ◌^◌, ◌≤◌, ◌<◌, ◌≡◌, refl, List, ◌∷◌, ◌++◌, Bool, true, false, length, get_or, eqb}
+use Rattle.std.proofs.Common.{arith}
 use Rattle.std.proofs.lemmas.List.{length-replicate}
 use Rattle.value.specs.Maybe.{pick, both, either}
 use Rattle.format.specs.Syntax.{Expr, Instr, assign, write, read, while, if, call, atomic, select, Block, end, step}
 use Rattle.format.specs.Decode.{max_depth}
 use Rattle.format.proofs.Laws.Fits.{InstrFits, BlockFits}
 use Rattle.format.proofs.Laws.Stands.{Stands, first, others, front, back}
-use Rattle.ctext.specs.Pieces.{say, joined, decimal}
+use Rattle.ctext.specs.Pieces.{say, decimal}
 use Rattle.ctext.specs.Text.{expr, listed, ind, instr, block}
 use Rattle.ctext.proofs.Laws.Numbers.{Digit}
-use Rattle.ctext.proofs.Laws.ExprText.{shift, behind, byte_in, ExprText}
+use Rattle.ctext.proofs.Laws.ExprText.{behind, byte_in, ExprText}
 use Rattle.ctext.proofs.Laws.ArgText.{NumberText, take_number, take_expr, ArgsText}
 
 -- no atomic block: a sequential program has none

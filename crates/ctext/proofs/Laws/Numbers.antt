@@ -1,6 +1,6 @@
 -- Numbers in decimal: the digits that stand somewhere, up to a byte that is none, are those of one number.
-use Rattle.std.specs.Prelude.{ℕ, zero, suc, ◌+◌, ◌*◌, ◌-◌, ◌/◌, ◌%◌, ◌^◌, ◌≤◌, ◌<◌, ◌≡◌, refl, List, [], ◌∷◌, ◌++◌, true, false, length, get_or, ℤ, pos, negsuc, ltb}
-use Rattle.std.proofs.Common.{arith, sym, ap, subst, ◌∙◌, length-append, ltb-true, ltb-false}
+use Rattle.std.specs.Prelude.{ℕ, zero, suc, ◌+◌, ◌*◌, ◌-◌, ◌/◌, ◌%◌, ◌^◌, ◌≤◌, ◌<◌, ◌≡◌, refl, List, [], ◌∷◌, ◌++◌, length, get_or, ℤ, pos, negsuc, ltb}
+use Rattle.std.proofs.Common.{arith, sym, ap, subst, ◌∙◌, length-append, ltb-true}
 use Rattle.std.specs.Int.Signed.{mag}
 use Rattle.value.proofs.Laws.Tests.{by_test}
 use Rattle.value.proofs.Laws.Lists.{Each, each_append}
@@ -31,7 +31,7 @@ value a (c ∷ cs) = value (a * 10 + (c - 48)) cs
 -- one part after the other
 pub value_append : (a : ℕ) (xs ys : List ℕ) → value a (xs ++ ys) ≡ value (value a xs) ys
 value_append a [] ys = refl
-value_append a (x ∷ xs) ys = value_append _ xs ys
+value_append a (x ∷ xs) ys = value_append (a * 10 + (x - 48)) xs ys
 
 -- the digits of a number come to it
 pub value_digits : (k n : ℕ) → n < 10 ^ k → value 0 (digits k n) ≡ n
@@ -77,8 +77,8 @@ run_same {x} {i} [] (b ∷ es) {j} s u d e p q =
 run_same {x} {i} (c ∷ ds) [] {j} {k} s u d e p q =
     let here : i ≡ k = omega (arith, u.ends) in
     absurd (q.none (subst (λ n. Digit (get_or x n 0)) here (subst Digit (sym (first s)) d.0)))
-run_same (c ∷ ds) (b ∷ es) s u d e p q =
-    let same : (ds ≡ es) × (_ ≡ _) = run_same ds es (others s) (others u) d.1 e.1 p q in
+run_same {i = i} (c ∷ ds) (b ∷ es) s u d e p q =
+    let same : (ds ≡ es) × (_ ≡ _) = run_same {i = i + 1} ds es (others s) (others u) d.1 e.1 p q in
     let byte : c ≡ b = sym (first s) ∙ first u in
     (rw (byte, same.0), same.1)
 

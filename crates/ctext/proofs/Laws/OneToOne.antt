@@ -1,17 +1,17 @@
 -- A text has one program: docs/C-TEXT.md, "Text and table are one to one".
-use Rattle.std.specs.Prelude.{ℕ, zero, suc, ◌+◌, ◌^◌, ◌≤◌, ◌<◌, ◌≡◌, refl, List, [], ◌∷◌, ◌++◌, false, length, get_or}
+use Rattle.std.specs.Prelude.{ℕ, suc, ◌+◌, ◌≤◌, ◌≡◌, refl, List, [], ◌∷◌, ◌++◌, length, get_or}
 use Rattle.std.proofs.Common.{arith, sym, ap, subst, ◌∙◌}
 use Rattle.value.proofs.Laws.Lists.{Each, each_so}
 use Rattle.format.specs.Syntax.{Instr, assign, write, read, while, if, call, atomic, select, Block, end, step}
-use Rattle.format.specs.Syntax.{Proc, Program, Plain, Kind, concurrent, sequential}
+use Rattle.format.specs.Syntax.{Proc, Program, Plain, concurrent, sequential}
 use Rattle.format.specs.Encode.{bodies_of}
-use Rattle.format.specs.Rules.{Here, limits, max_size}
+use Rattle.format.specs.Rules.{Here, limits}
 use Rattle.format.specs.Decode.{max_nesting}
 use Rattle.format.proofs.Laws.Fits.{BlockFits}
 use Rattle.format.proofs.Laws.Permits.{PermittedI, Permitted, AllPermitted}
-use Rattle.format.proofs.Laws.Sound.{Within, LocalsRight, Sound}
+use Rattle.format.proofs.Laws.Sound.{LocalsRight, Sound}
 use Rattle.format.proofs.Laws.Accepted.{bodies_fit}
-use Rattle.format.proofs.Laws.Stands.{Stands, first, others, front, back, whole}
+use Rattle.format.proofs.Laws.Stands.{Stands, first, front, back, whole}
 use Rattle.ctext.specs.Pieces.{say}
 use Rattle.ctext.specs.Prelude.{prelude}
 use Rattle.ctext.specs.Text.{numbered, location, area, declaration, definition, text}

@@ -1,9 +1,9 @@
 -- What the text reader finds: the table whose text it is given, and no other.
-use Rattle.std.specs.Prelude.{ℕ, zero, suc, ◌+◌, ◌≤◌, ◌<◌, ◌≡◌, refl, ◌↔◌, List, [], ◌∷◌, ◌++◌, map, Bool, true, false, length, take, drop, eqb, ltb}
-use Rattle.std.proofs.Common.{arith, sym, ap, ap₂, subst, ◌∙◌, eqb-true, eq-eqb, le-ltb, ltb-false}
+use Rattle.std.specs.Prelude.{ℕ, zero, suc, ◌+◌, ◌≤◌, ◌<◌, ◌≡◌, refl, ◌↔◌, List, [], ◌∷◌, map, Bool, true, length, take, drop, eqb}
+use Rattle.std.proofs.Common.{arith, sym, ap, ap₂, subst, ◌∙◌, eqb-true, eq-eqb, le-ltb}
 use Rattle.std.proofs.Math.Seq.{take-append_seam}
 use Rattle.std.proofs.lemmas.Bool.{eqb-false}
-use Rattle.value.specs.Maybe.{Maybe, is, nothing, both}
+use Rattle.value.specs.Maybe.{Maybe, is, nothing}
 use Rattle.value.specs.Lists.{upto, over}
 use Rattle.value.proofs.Laws.Maybes.{missing, is_inj}
 use Rattle.value.proofs.Laws.Tests.{by_test, never, both_passed, pass_both}
@@ -12,9 +12,8 @@ use Rattle.value.proofs.Laws.Bytes.{Bytes}
 use Rattle.format.specs.Syntax.{Program, Plain, sequential}
 use Rattle.format.specs.Encode.{table}
 use Rattle.format.specs.Rules.{Verdict, refused, accepted, verdict, limits}
-use Rattle.format.proofs.Laws.Sound.{Sound}
 use Rattle.format.proofs.Laws.Accepted.{accepted_exactly}
-use Rattle.translation.specs.Calls.{Written, refusal, written, writes}
+use Rattle.translation.specs.Calls.{refusal, written, writes}
 use Rattle.ctext.specs.Text.{text}
 use Rattle.ctext.specs.Calls.{print_as, print_call, same_bytes, text_as, find, longer, all_bytes, untext, read_as, read_text_call}
 use Rattle.ctext.proofs.Laws.OneToOne.{text_unique}
@@ -36,11 +35,13 @@ unfolding find
 passes f (a ∷ l) here p e = missing (sym (rw (p, find) at e))
 passes f (b ∷ l) (there i) p e =
     by_test (f b) (λ t. missing (sym (rw (t, find) at e))) (λ t. passes f l i p (rw (t, find) at e))
+passes {A = A} f [] {a = a} x3 p e = elim x3 [ ]
 
 -- one byte more
 in_map : (b : ℕ) {t : List ℕ} (ls : List (List ℕ)) → In t ls → In (b ∷ t) (map (λ l. b ∷ l) ls)
 in_map b (t ∷ ls) here = here
 in_map b (l ∷ ls) (there i) = there (in_map b ls i)
+in_map b {t = t} [] x' = elim x' [ ]
 
 -- any byte
 in_longer : (a n b : ℕ) {t : List ℕ} (ls : List (List ℕ)) → a ≤ b → b < a + n → In t ls → In (b ∷ t) (longer (upto a n) ls)

@@ -1,0 +1,8 @@
+-- `zeroth::procedure::put_round` meets its contract.
+use Rattle.std.proofs.Common.{◌-◌, ◌/◌}
+use Rattle.zeroth.proofs.Rounding.{round_ways}
+use Rattle.zeroth.proofs.procedure.put_round.Goals as goal
+
+-- src/procedure.rt:192:1
+pub returns : goal.returns
+returns c = search round_ways

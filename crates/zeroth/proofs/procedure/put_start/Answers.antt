@@ -1,0 +1,8 @@
+-- `zeroth::procedure::put_start` meets its contract.
+use Rattle.std.proofs.Common.{◌-◌, ◌/◌}
+use Rattle.zeroth.proofs.Rounding.{round_ways}
+use Rattle.zeroth.proofs.procedure.put_start.Goals as goal
+
+-- src/procedure.rt:226:1
+pub returns : goal.returns
+returns c = search round_ways
