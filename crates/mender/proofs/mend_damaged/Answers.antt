@@ -1,5 +1,4 @@
 -- `mender::mend_damaged` meets its contract.
-use Rattle.std.proofs.Common.{◌-◌, ◌/◌}
 use Rattle.mender.proofs.Answering.{answer_ways}
 use Rattle.mender.proofs.mend_damaged.Goals as goal
 

@@ -1,5 +1,4 @@
 -- `mender::changes::put_changes` meets its contract.
-use Rattle.std.proofs.Common.{◌-◌, ◌/◌}
 use Rattle.mender.proofs.Trailing.{trailing_ways}
 use Rattle.mender.proofs.changes.put_changes.Goals as goal
 

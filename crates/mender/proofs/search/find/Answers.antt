@@ -1,5 +1,4 @@
 -- `mender::search::find` meets its contract.
-use Rattle.std.proofs.Common.{◌-◌, ◌/◌}
 use Rattle.mender.proofs.Searching.{find_ways}
 use Rattle.mender.proofs.search.find.Goals as goal
 

@@ -1,5 +1,4 @@
 -- `mender::search::try_procedures` meets its contract.
-use Rattle.std.proofs.Common.{◌-◌, ◌/◌}
 use Rattle.mender.proofs.Searching.{procedures_ways}
 use Rattle.mender.proofs.search.try_procedures.Goals as goal
 
