@@ -1,5 +1,4 @@
 -- `translator::table::put_heads` meets its contract.
-use Rattle.std.proofs.Common.{◌-◌, ◌/◌}
 use Rattle.translator.proofs.Tabling.{table_ways}
 use Rattle.translator.proofs.table.put_heads.Goals as goal
 

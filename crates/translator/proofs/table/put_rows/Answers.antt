@@ -1,5 +1,4 @@
 -- `translator::table::put_rows` meets its contract.
-use Rattle.std.proofs.Common.{◌-◌, ◌/◌}
 use Rattle.translator.proofs.Tabling.{table_ways}
 use Rattle.translator.proofs.table.put_rows.Goals as goal
 

@@ -1,5 +1,5 @@
 -- `translator::table::put_rows` meets its contract.
-use Rattle.std.proofs.Common.{replicate, ◌-◌}
+use Rattle.std.proofs.Common.{replicate}
 use Rattle.value.specs.Values.{bytes}
 use Rattle.format.specs.Encode.{each}
 use Rattle.writer.specs.Laws.Put.{Onto}

@@ -1,5 +1,4 @@
 -- `translator::table::put_sizes` meets its contract.
-use Rattle.std.proofs.Common.{◌-◌, ◌/◌}
 use Rattle.translator.proofs.Tabling.{table_ways}
 use Rattle.translator.proofs.table.put_sizes.Goals as goal
 
