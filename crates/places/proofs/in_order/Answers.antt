@@ -1,5 +1,4 @@
 -- `places::in_order` meets its contract.
-use Rattle.std.proofs.Common.{◌-◌, ◌/◌}
 use Rattle.places.specs.Laws.Raising.{raise_ways}
 use Rattle.places.proofs.in_order.Goals as goal
 

@@ -1,5 +1,4 @@
 -- `places::longest` meets its contract.
-use Rattle.std.proofs.Common.{◌-◌, ◌/◌}
 use Rattle.places.specs.Laws.Raising.{raise_ways}
 use Rattle.places.proofs.longest.Goals as goal
 

@@ -1,5 +1,4 @@
 -- `places::raise_all` meets its contract.
-use Rattle.std.proofs.Common.{◌-◌, ◌/◌}
 use Rattle.places.specs.Laws.Raising.{raise_ways}
 use Rattle.places.proofs.raise_all.Goals as goal
 

@@ -1,5 +1,4 @@
 -- `emit::pieces::put_loads` meets its contract.
-use Rattle.std.proofs.Common.{◌-◌, ◌/◌}
 use Rattle.emit.proofs.Coding.{code_ways}
 use Rattle.emit.proofs.pieces.put_loads.Goals as goal
 

@@ -1,5 +1,4 @@
 -- `emit::pieces::put_loads` meets its contract.
-use Rattle.std.proofs.Common.{◌-◌}
 use Rattle.emit.specs.Laws.Sources.{Loading}
 use Rattle.emit.proofs.pieces.put_loads.Given as goal
 

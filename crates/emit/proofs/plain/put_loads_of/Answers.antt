@@ -1,5 +1,4 @@
 -- `emit::plain::put_loads_of` meets its contract.
-use Rattle.std.proofs.Common.{◌-◌, ◌/◌}
 use Rattle.emit.proofs.Plainly.{plain_ways}
 use Rattle.emit.proofs.plain.put_loads_of.Goals as goal
 

@@ -1,5 +1,4 @@
 -- `places::marks::mark_calls` meets its contract.
-use Rattle.std.proofs.Common.{◌-◌, ◌/◌}
 use Rattle.places.specs.Laws.Marking.{mark_ways}
 use Rattle.places.proofs.marks.mark_calls.Goals as goal
 

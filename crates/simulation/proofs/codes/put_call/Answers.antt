@@ -1,5 +1,4 @@
 -- `simulation::codes::put_call` meets its contract.
-use Rattle.std.proofs.Common.{◌-◌, ◌/◌}
 use Rattle.simulation.proofs.Labels.{label_ways}
 use Rattle.simulation.proofs.codes.put_call.Goals as goal
 

@@ -1,5 +1,4 @@
 -- The cycle `+put_branch_put_inside_put_instr` meets its contracts.
-use Rattle.std.proofs.Common.{◌-◌, ◌/◌}
 use Rattle.simulation.proofs.Blocks.{block_ways}
 use Rattle.simulation.proofs.inside.+put_branch_put_inside_put_instr.Goals as goal
 

@@ -1,5 +1,4 @@
 -- `simulation::simulate::put_bodies` meets its contract.
-use Rattle.std.proofs.Common.{◌-◌, ◌/◌}
 use Rattle.simulation.proofs.Simulating.{simulate_ways}
 use Rattle.simulation.proofs.simulate.put_bodies.Goals as goal
 

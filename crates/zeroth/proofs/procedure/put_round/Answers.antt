@@ -1,5 +1,4 @@
 -- `zeroth::procedure::put_round` meets its contract.
-use Rattle.std.proofs.Common.{◌-◌, ◌/◌}
 use Rattle.zeroth.proofs.Rounding.{round_ways}
 use Rattle.zeroth.proofs.procedure.put_round.Goals as goal
 

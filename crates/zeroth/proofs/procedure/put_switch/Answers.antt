@@ -1,5 +1,4 @@
 -- `zeroth::procedure::put_switch` meets its contract.
-use Rattle.std.proofs.Common.{◌-◌, ◌/◌}
 use Rattle.zeroth.proofs.Rounding.{round_ways}
 use Rattle.zeroth.proofs.procedure.put_switch.Goals as goal
 
