@@ -1,10 +1,10 @@
 -- One law for each way to show instructions that hold blocks, and blocks.
-use Prim.Native.Nat.{ℕ, zero, suc, ◌+◌, ◌*◌, ◌-◌, ◌≤◌, ◌<◌}
+use Prim.Native.Nat.{ℕ, suc, ◌+◌, ◌-◌, ◌≤◌}
 use native.Mathlib.Omega.{arith}
-use mathlib.Core.Path.{◌≡◌, refl, sym, ap, subst, ◌∙◌}
-use mathlib.Core.List.{List, [], ◌∷◌, ◌++◌}
+use mathlib.Core.Path.{◌≡◌, refl, sym, subst, ◌∙◌}
+use mathlib.Core.List.{List, ◌++◌}
 use lib.ListN.{length, get_or, replicate}
-use Rattle.format.specs.Syntax.{Expr, Instr, while, if, Block, end, step, Plain}
+use Rattle.format.specs.Syntax.{Instr, Block, Plain}
 use Rattle.format.specs.Decode.{max_depth}
 use Rattle.format.proofs.Laws.Grammar.{ExprAt, InstrAt, BlockAt, WhileAt, IfAt, StepAt, while_here, if_here, end_here, step_here, block_inside}
 use Rattle.format.proofs.Laws.Grammar as G

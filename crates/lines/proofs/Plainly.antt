@@ -1,28 +1,26 @@
 -- One law for each way to show arguments and instructions that hold no block.
-use Prim.Native.Nat.{ℕ, zero, suc, ◌+◌, ◌*◌, ◌-◌, ◌≤◌, ◌<◌}
+use Prim.Native.Nat.{ℕ, ◌+◌, ◌-◌, ◌≤◌, ◌<◌}
 use Prim.Native.Char.{code}
 use Prim.Native.String.{String}
 use Prim.Native.String.{[] as empty, ◌∷◌ as ◌before◌}
 use native.Mathlib.Omega.{arith}
 use mathlib.Core.Path.{◌≡◌, refl, sym, ap, subst, ◌∙◌}
 use mathlib.Core.List.{List, [], ◌∷◌, ◌++◌, append_assoc}
-use lib.ListN.{length, get_or, take, drop}
-use Rattle.value.specs.Values.{unbytes}
-use Rattle.format.specs.Syntax.{Expr, Instr, assign, write, read, while, if, call, atomic, select, Block, Plain}
-use Rattle.format.specs.Encode.{each}
+use lib.ListN.{get_or}
+use Rattle.format.specs.Syntax.{Expr, Instr, assign, write, read, while, if, call, atomic, select, Plain}
 use Rattle.format.specs.Decode.{max_depth}
-use Rattle.format.proofs.Laws.Stands.{Stands, first}
+use Rattle.format.proofs.Laws.Stands.{first}
 use Rattle.format.proofs.Laws.Grammar.{ExprAt, ExprsAt, MoreAt, InstrAt, WriteAt, exprs_none_lem, exprs_more, assign_here, write_here, read_here, call_here, select_here}
 use Rattle.basics.specs.Places.{number_at}
 use Rattle.basics.specs.Laws.Places.{number_at_lem}
 use Rattle.ctext.specs.Pieces.{say, decimal}
-use Rattle.ctext.specs.Text.{var, expr, listed, instr}
+use Rattle.ctext.specs.Text.{var, expr, listed}
 use Rattle.ctext.proofs.Laws.LineText.{FlatI}
 use Rattle.typeset.specs.Page.{Put}
 use Rattle.typeset.proofs.Setting.{put_none, put_then, put_same}
 use Rattle.phrases.specs.declared.exprs.Shown.{Shown}
 use Rattle.phrases.specs.Shows.{Shows}
-use Rattle.lines.specs.Lines.{ShowsNext, ShowsMore, Further, ShowsArgs, ShowsInstr, ShowsLast, ShowsAs, ShowsPlain}
+use Rattle.lines.specs.Lines.{ShowsNext, ShowsMore, Further, ShowsArgs, ShowsLast, ShowsAs, ShowsPlain}
 
 -- the bytes of a quoted text, as they stand in the code
 abbrev pub lit : String → List ℕ

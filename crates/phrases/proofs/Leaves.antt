@@ -2,16 +2,16 @@
 use Prim.Native.Nat.{ℕ, zero, suc, ◌+◌, ◌-◌, ◌≤◌, ◌<◌}
 use native.Mathlib.Omega.{arith}
 use mathlib.Core.Path.{◌≡◌, refl, sym, ap, subst, ◌∙◌}
-use mathlib.Core.List.{List, [], ◌∷◌, ◌++◌}
+use mathlib.Core.List.{List, [], ◌∷◌}
 use mathlib.Core.Bool.{true, false}
-use lib.ListN.{length, get_or, take, drop}
+use lib.ListN.{length, get_or}
 use borrow.Author.Tests.{eq-eqb, ne_eqb}
 use Rattle.value.specs.Values.{One, not, neg, Two, add, sub, mul, less, equal, and, unword}
 use Rattle.value.specs.Marks.{mark₁, mark₂}
 use Rattle.value.specs.declared.Value.TheVariants.{Whole, Location, Truth}
 use Rattle.format.specs.Syntax.{Expr, constant, local, one, two}
 use Rattle.format.specs.Encode as E
-use Rattle.format.proofs.Laws.Stands.{Stands, first, others, front, back}
+use Rattle.format.proofs.Laws.Stands.{first, others, front, back}
 use Rattle.format.proofs.Laws.ExprGrammar.{ExprAt, expr_inside, expr_deep, whole_here, location_here, no_here, yes_here, local_here}
 use Rattle.basics.specs.Places.{number_at}
 use Rattle.basics.specs.Laws.Places.{number_at_lem}

@@ -1,5 +1,5 @@
 -- What is promised of expressions, instructions and blocks in a table: whatever stands there, its text is set.
-use Rattle.std.specs.Prelude.{ℕ, ◌+◌, ◌≤◌, ◌<◌, ◌≡◌, List, length, get_or, eqb}
+use Rattle.std.specs.Prelude.{ℕ, ◌≤◌, ◌<◌, ◌≡◌, List, length, get_or, eqb}
 use Rattle.value.specs.Maybe.{pick}
 use Rattle.format.specs.Syntax.{Expr}
 use Rattle.format.proofs.Laws.ExprGrammar.{ExprAt}

@@ -1,0 +1,7 @@
+-- `lines::blocks::put_test` meets its contract.
+use Rattle.lines.proofs.Nested.{nested_ways}
+use Rattle.lines.proofs.blocks.put_test.Goals as goal
+
+-- src/blocks.rt:11:1
+pub returns : goal.returns
+returns c = search nested_ways

@@ -1,0 +1,7 @@
+-- `lines::plain::put_assign` meets its contract.
+use Rattle.lines.proofs.Plainly.{plain_ways}
+use Rattle.lines.proofs.plain.put_assign.Goals as goal
+
+-- src/plain.rt:43:1
+pub returns : goal.returns
+returns c = search plain_ways

@@ -1,0 +1,7 @@
+-- `lines::plain::put_call` meets its contract.
+use Rattle.lines.proofs.Plainly.{plain_ways}
+use Rattle.lines.proofs.plain.put_call.Goals as goal
+
+-- src/plain.rt:74:1
+pub returns : goal.returns
+returns c = search plain_ways

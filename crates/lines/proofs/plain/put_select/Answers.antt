@@ -1,0 +1,7 @@
+-- `lines::plain::put_select` meets its contract.
+use Rattle.lines.proofs.Plainly.{plain_ways}
+use Rattle.lines.proofs.plain.put_select.Goals as goal
+
+-- src/plain.rt:88:1
+pub returns : goal.returns
+returns c = search plain_ways
