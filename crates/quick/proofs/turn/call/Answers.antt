@@ -1,5 +1,5 @@
 -- `quick::turn::call` meets its contract.
-use Rattle.std.proofs.Common.{rules, ◌-◌, ◌/◌}
+use Rattle.std.proofs.Common.{rules}
 use Rattle.quick.specs.Brief.{Sure}
 use Rattle.quick.proofs.Deciding.{calling_more, calling_ways}
 use Rattle.quick.proofs.turn.call.Goals.{then-t-next-lt-LEAVES, else-t-next-lt-LEAVES}
@@ -27,8 +27,9 @@ loop-i-preserved c =
     -- an argument, by either way
     let argument : Sure c.args.t.now c.loop-i.words c.args.base c.loop-i.next c.if-t-next-lt-LEAVES.e =
     elim c.if-t-next-lt-LEAVES.branch [
-        then-t-next-lt-LEAVES w ↦ rw w.e-is w.leaf-e.ensures
-      | else-t-next-lt-LEAVES w ↦ rw w.e-is w.operation-e.ensures ]
+      | then-t-next-lt-LEAVES w ↦ rw w.e-is w.leaf-e.ensures
+      | else-t-next-lt-LEAVES w ↦ rw w.e-is w.operation-e.ensures
+    ]
     in
     calling_more c.loop-i.invariant c.loop-i-test.true argument c.if-e-eq-NOTHING.false
 

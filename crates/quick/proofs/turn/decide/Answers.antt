@@ -1,5 +1,5 @@
 -- `quick::turn::decide` meets its contract.
-use Rattle.std.proofs.Common.{rules, ◌-◌, ◌/◌}
+use Rattle.std.proofs.Common.{rules}
 use Rattle.quick.proofs.Deciding.{turning_ways}
 use Rattle.quick.proofs.turn.decide.Goals as goal
 

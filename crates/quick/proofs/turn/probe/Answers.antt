@@ -1,5 +1,5 @@
 -- `quick::turn::probe` meets its contract.
-use Rattle.std.proofs.Common.{rules, ◌-◌, ◌/◌}
+use Rattle.std.proofs.Common.{rules}
 use Rattle.quick.proofs.Choosing.{probe_ways}
 use Rattle.quick.proofs.turn.probe.Goals as goal
 
