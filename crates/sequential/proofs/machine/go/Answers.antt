@@ -33,9 +33,12 @@ pub returns-then-used_up : goal.returns-then-used_up
 returns-then-used_up c = first_of (search (going_ways, rules), search (turning_ways, rules))
 
 pub due-step-requires : goal.due-step-requires
-due-step-requires c =
-    (left_facing c.loop-state.invariant c.if-state-eq0.false c.decide-fast.ensures c.if-steps-budget.false c.used_up.ensures c.if-used_up.false,
-     going_inside c.loop-state.invariant c.if-state-eq0.false, search rules, going_few c.loop-state.invariant c.if-state-eq0.false)
+due-step-requires c = (
+  left_facing c.loop-state.invariant c.if-state-eq0.false c.decide-fast.ensures c.if-steps-budget.false c.used_up.ensures c.if-used_up.false,
+  going_inside c.loop-state.invariant c.if-state-eq0.false,
+  search rules,
+  going_few c.loop-state.invariant c.if-state-eq0.false,
+)
 
 pub returns-in-Blocked : goal.returns-in-Blocked
 returns-in-Blocked c =
