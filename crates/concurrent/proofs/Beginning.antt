@@ -15,7 +15,7 @@ use Rattle.value.proofs.Laws.Maybes.{is_inj, missing}
 use Rattle.value.proofs.Laws.Tests.{by_test, never}
 use Rattle.value.proofs.Laws.Lists.{at_below, at_get_d}
 use Rattle.format.specs.Syntax.{Proc, Program, Plain, concurrent}
-use Rattle.format.specs.Labels.{count, labels, labelled, first, ends_of, body_of, begins}
+use Rattle.format.specs.Labels.{count, labels, labelled, first, ends_of, body_of}
 use Rattle.labels.specs.LabelMap.{Mapped}
 use Rattle.format.proofs.Laws.Procs.{main_at}
 use Rattle.format.proofs.Laws.Sound.{Sound}

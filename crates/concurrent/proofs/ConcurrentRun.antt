@@ -6,7 +6,6 @@ use mathlib.Core.List.{List, [], ◌∷◌, ◌++◌}
 use mathlib.Core.Bool.{Bool, true, false}
 use lib.ListN.{length, get_or, drop, length-drop}
 use lib.Seq.{drop-length, drop-cons}
-use Rattle.value.specs.Maybe.{is}
 use Rattle.value.specs.Try.{reason_number}
 use Rattle.value.specs.declared.Reason.{Reason}
 use Rattle.format.specs.Syntax.{Program, Plain, concurrent}

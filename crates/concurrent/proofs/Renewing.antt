@@ -1,7 +1,7 @@
 -- A program prepared once, and the state that a run of it begins with.
 use Prim.Native.Nat.{ℕ, ◌+◌, ◌*◌, ◌-◌, ◌^◌, ◌≤◌, ◌<◌}
 use native.Mathlib.Omega.{arith}
-use mathlib.Core.Path.{◌≡◌, refl, sym, ap, subst, ◌∙◌}
+use mathlib.Core.Path.{◌≡◌, sym, ap, subst, ◌∙◌}
 use mathlib.Core.List.{List, []}
 use lib.ListN.{length, get_or, set, length-set, get_or-replicate}
 use lib.Seq.{get_or-set_same, get_or-set_other}

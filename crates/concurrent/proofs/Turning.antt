@@ -5,18 +5,15 @@ use mathlib.Core.Path.{◌≡◌, refl, sym, ap, subst, ◌∙◌}
 use mathlib.Core.List.{List, [], ◌∷◌, ◌++◌, append-nil, append_assoc, map}
 use mathlib.Core.Bool.{Bool}
 use lib.ListN.{length, get_or, replicate, length-append, replicate-append-replicate, get_or-append}
-use types.Run.{OneOf, miss}
-use denote.Enum.Declared.{tag_of}
 use Rattle.value.specs.Maybe.{is, nothing}
 use Rattle.value.specs.Try.{Try, has, lacks}
 use Rattle.value.specs.declared.Reason.{Reason}
 use Rattle.value.specs.declared.Value.{Value}
-use Rattle.value.proofs.Laws.Maybes.{is_inj, missing}
+use Rattle.value.proofs.Laws.Maybes.{missing}
 use Rattle.value.proofs.Laws.Tries.{has_inj, lacks_inj, lacking}
 use Rattle.format.specs.Syntax.{Instr, Block, step}
 use Rattle.format.specs.Labels.{labelled, first, ends_of}
 use Rattle.labels.specs.LabelMap as Map
-use Rattle.decide.specs.contracts.step.Step.{the_type}
 use Rattle.decide.specs.declared.step.Step.{Step}
 use Rattle.decide.specs.declared.step.Step.TheVariants as S
 use Rattle.atomic.specs.declared.block.Done.{Done}
@@ -97,8 +94,10 @@ call_count t i n (tests v) j h e = missing e
 call_count t i n returns j h e = missing e
 
 -- all steps but a return, a test and a call
-abbrev pub Plainly : Step → Type 0
-Plainly u = OneOf (1 ∷ 2 ∷ 3 ∷ 6 ∷ 7 ∷ []) (tag_of the_type u)
+pub record Plainly (u : Step) : Type 0 where
+  pub no_return : u ≡ S.Return → ⊥
+  pub no_test : (q : Bool) (j : ℕ) → u ≡ S.Test q j → ⊥
+  pub no_call : (q j : ℕ) → u ≡ S.Call q j → ⊥
 
 module _ {t : List ℕ} {thread label fb : ℕ} {bs : List ℕ} {i : ℕ} {ls cs o : List ℕ} {n : ℕ} where
   -- such a step that was carried out
@@ -146,9 +145,9 @@ module _ {t : List ℕ} {thread label fb : ℕ} {bs : List ℕ} {i : ℕ} {ls cs
   carried_none h tag instr rest (S.Assign x v j) k e s = lacking (sym e)
   carried_none h tag instr rest (S.Read x l z v j) k e s = lacking (sym e)
   carried_none h tag instr rest (S.Write l z d v j) k e s = lacking (sym e)
-  carried_none h tag instr rest (S.Test q j) k e s = absurd (miss (1 ∷ 2 ∷ 3 ∷ 6 ∷ 7 ∷ []) 4 tt k)
-  carried_none h tag instr rest (S.Call q j) k e s = absurd (miss (1 ∷ 2 ∷ 3 ∷ 6 ∷ 7 ∷ []) 5 tt k)
-  carried_none h tag instr rest S.Return k e s = absurd (miss (1 ∷ 2 ∷ 3 ∷ 6 ∷ 7 ∷ []) 0 tt k)
+  carried_none h tag instr rest (S.Test q j) k e s = absurd (k.no_test q j refl)
+  carried_none h tag instr rest (S.Call q j) k e s = absurd (k.no_call q j refl)
+  carried_none h tag instr rest S.Return k e s = absurd (k.no_return refl)
   carried_none h tag instr rest (S.Select z d j) k e s = ap lacks (lacks_inj e)
   carried_none h tag instr rest (S.Blocked q) k e s = ap lacks (lacks_inj e)
 

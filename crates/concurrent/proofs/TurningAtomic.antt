@@ -5,7 +5,6 @@ use mathlib.Core.Path.{◌≡◌, refl, sym, ap, subst, ◌∙◌}
 use mathlib.Core.List.{List, [], ◌∷◌}
 use mathlib.Core.Bool.{true}
 use lib.ListN.{length, get_or}
-use Rattle.value.specs.Maybe.{is}
 use Rattle.value.specs.Try.{Try, has, ◌⟫◌}
 use Rattle.value.specs.declared.Reason.{Reason}
 use Rattle.value.proofs.Laws.Tries.{has_inj, chain_has}

@@ -1,16 +1,14 @@
 -- What the code for one step of a frame is asked and answers: the code that stands at a place of a table, over a frame of locals, the
 -- words of memory and a buffer of events.
-use Rattle.std.specs.Prelude.{ℕ, ◌+◌, ◌^◌, ◌≤◌, ◌<◌, ◌≡◌, List, [], ◌∷◌, ◌++◌, Bool, false, length, eqb}
+use Rattle.std.specs.Prelude.{ℕ, ◌+◌, ◌^◌, ◌≤◌, ◌<◌, ◌≡◌, List, ◌∷◌, ◌++◌, Bool, false, length, eqb}
 use Rattle.value.specs.Maybe.{is, either}
 use Rattle.value.specs.Try.{Try, has, lacks}
 use Rattle.value.specs.declared.Reason.{Reason}
 use Rattle.value.specs.Lists.{at}
-use Rattle.value.specs.declared.Value.{Value}
-use Rattle.value.proofs.Laws.Lists.{In}
-use Rattle.format.specs.Syntax.{Instr, Block, end, step, Proc, Program, Plain, concurrent}
+use Rattle.format.specs.Syntax.{Instr, Block, end, step, Proc, Program, Plain}
 use Rattle.format.specs.Labels.{labelled, first, ends_of}
 use Rattle.labels.specs.LabelMap as Map
-use Rattle.format.specs.Rules.{callees_of, max_locals}
+use Rattle.format.specs.Rules.{max_locals}
 use Rattle.concurrent.specs.declared.threads.Turn.{Turn}
 use Rattle.concurrent.specs.declared.threads.Turn.TheVariants as T
 use Rattle.semantics.specs.Memory.{Event}

@@ -1,28 +1,27 @@
 -- Where a decided step leads: the code that remains after it, its label, and its procedure.
-use Rattle.std.specs.Prelude.{ℕ, ◌+◌, ◌*◌, ◌≤◌, ◌<◌, ◌≡◌, refl, List, [], ◌∷◌, Bool, true, false, length, get_or, eqb}
-use Rattle.std.proofs.Common.{arith, sym, ap, subst, ◌∙◌, eqb-true}
-use Rattle.std.proofs.lemmas.Bool.{eqb-false}
+use Rattle.std.specs.Prelude.{ℕ, ◌≡◌, refl, List, Bool, true, false, length}
+use Rattle.std.proofs.Common.{sym, subst, ◌∙◌}
 use Rattle.value.specs.Maybe.{is}
 use Rattle.value.specs.Try.{has, ◌⟫◌}
 use Rattle.value.specs.Lists.{at, all}
 use Rattle.value.specs.declared.Value.{Value}
 use Rattle.value.proofs.Laws.Maybes.{is_inj, missing}
-use Rattle.value.proofs.Laws.Tests.{never, by_test, both_passed}
+use Rattle.value.proofs.Laws.Tests.{both_passed}
 use Rattle.value.proofs.Laws.Lists.{In, here}
-use Rattle.format.specs.Syntax.{local, Instr, assign, write, read, while, if, call, atomic, select, Block, end, step, ◌⊕◌, Proc, Program, Plain, concurrent}
+use Rattle.format.specs.Syntax.{local, Instr, assign, write, read, while, if, call, atomic, select, Block, step, Proc, Program, Plain}
 use Rattle.format.specs.Labels.{labelled, first, ends_of}
 use Rattle.labels.specs.LabelMap as Map
 use Rattle.format.specs.Rules.{allowed_i, named_i, takes, callees_i, callees_of}
 use Rattle.format.specs.Rules as Rules
 use Rattle.labels.specs.Laws.LabelMap.{loop_next, then_next, else_other}
-use Rattle.format.proofs.Laws.Procs.{body_in, takes_at}
+use Rattle.format.proofs.Laws.Procs.{takes_at}
 use Rattle.format.proofs.Laws.Names.{takes?}
 use Rattle.labels.specs.Laws.Spots.{Remains, remains_after, remains_loop, remains_then, remains_else}
 use Rattle.decide.specs.declared.step.Step.{Step}
 use Rattle.decide.specs.declared.step.Step.TheVariants as S
 use Rattle.semantics.specs.Memory.{Env, eval, evals, index, Memory, cell}
 use Rattle.value.specs.Values.{number, place, truth}
-use Rattle.decide.specs.Decided.{Act, act_of, args_of, args_in, branch, decided, or_blocked}
+use Rattle.decide.specs.Decided.{Act, act_of, args_in, branch, decided}
 use Rattle.atomic.specs.Laws.Fitting.{through}
 use Rattle.decide.specs.Laws.Deciding.{evals_length}
 
@@ -81,12 +80,13 @@ module _ (p : Program Plain) (m : ℕ) (ρ : Env) (η : Memory) (a : ℕ) (c : B
   leads (while e b) act j X f n q =
       let P : Step → Type 0 = Leads p m ρ a (while e b) c in
       subst (λ act. P (decided ρ η act j)) (is_inj f)
-      (through P (eval ρ e ⟫ truth) _ (λ _ _. tt) λ v _. elim v [ true ↦ loop_next (ends_of p m) a e b c | false ↦ refl ])
+      (through P (eval ρ e ⟫ truth) _ (λ _ _. tt) λ v _.
+      elim v as (λ v. P (S.Test v j)) [ true ↦ loop_next (ends_of p m) a e b c | false ↦ refl ])
   leads (if e b d) act j X f n q =
       let P : Step → Type 0 = Leads p m ρ a (if e b d) c in
       subst (λ act. P (decided ρ η act j)) (is_inj f)
       (through P (eval ρ e ⟫ truth) _ (λ _ _. tt) λ v _.
-      elim v [ true ↦ then_next (ends_of p m) a e b d c | false ↦ else_other (ends_of p m) a e b d c ])
+      elim v as (λ v. P (S.Test v j)) [ true ↦ then_next (ends_of p m) a e b d c | false ↦ else_other (ends_of p m) a e b d c ])
   leads (call r es) act j X f n q =
       let P : Step → Type 0 = Leads p m ρ a (call r es) c in
       let names = both_passed (takes (labelled p).procs r (length es)) (all (Rules.ex (labelled p) X) es) n in
