@@ -1,0 +1,8 @@
+-- `retable::whole::parse_definition` meets its contract.
+use Rattle.std.proofs.Common.{◌-◌, ◌/◌}
+use Rattle.retable.proofs.Assembling.{definition_ways}
+use Rattle.retable.proofs.whole.parse_definition.Goals as goal
+
+-- src/whole.rt:54:1
+pub returns : goal.returns
+returns c = search definition_ways
