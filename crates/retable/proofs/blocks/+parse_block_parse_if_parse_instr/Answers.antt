@@ -1,5 +1,4 @@
 -- The parsers of blocks and instructions meet their contracts.
-use Rattle.std.proofs.Common.{◌-◌, ◌/◌}
 use Rattle.retable.proofs.Nesting.{if_ways, instr_ways, block_ways, stuck_ways}
 use Rattle.retable.proofs.blocks.+parse_block_parse_if_parse_instr.Goals as goal
 

@@ -1,5 +1,4 @@
 -- `retable::exprs::parse_whole` meets its contract.
-use Rattle.std.proofs.Common.{◌-◌, ◌/◌}
 use Rattle.retable.proofs.Leaves.{leaf_ways}
 use Rattle.retable.proofs.exprs.parse_whole.Goals as goal
 

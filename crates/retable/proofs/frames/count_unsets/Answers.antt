@@ -1,5 +1,4 @@
 -- `retable::frames::count_unsets` meets its contract.
-use Rattle.std.proofs.Common.{◌-◌, ◌/◌}
 use Rattle.retable.proofs.Heading.{unsets_ways}
 use Rattle.retable.proofs.frames.count_unsets.Goals as goal
 

@@ -1,5 +1,4 @@
 -- `retable::frames::parse_locals` meets its contract.
-use Rattle.std.proofs.Common.{◌-◌, ◌/◌}
 use Rattle.retable.proofs.Heading.{locals_ways}
 use Rattle.retable.proofs.frames.parse_locals.Goals as goal
 

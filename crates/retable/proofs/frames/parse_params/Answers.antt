@@ -1,5 +1,4 @@
 -- `retable::frames::parse_params` meets its contract.
-use Rattle.std.proofs.Common.{◌-◌, ◌/◌}
 use Rattle.retable.proofs.Heading.{params_ways}
 use Rattle.retable.proofs.frames.parse_params.Goals as goal
 

@@ -1,5 +1,4 @@
 -- `retable::frames::parse_sizes` meets its contract.
-use Rattle.std.proofs.Common.{◌-◌, ◌/◌}
 use Rattle.retable.proofs.Framing.{sizes_ways}
 use Rattle.retable.proofs.frames.parse_sizes.Goals as goal
 

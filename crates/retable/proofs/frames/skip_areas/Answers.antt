@@ -1,5 +1,4 @@
 -- `retable::frames::skip_areas` meets its contract.
-use Rattle.std.proofs.Common.{◌-◌, ◌/◌}
 use Rattle.retable.proofs.Framing.{areas_ways}
 use Rattle.retable.proofs.frames.skip_areas.Goals as goal
 

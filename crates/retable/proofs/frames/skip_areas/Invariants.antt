@@ -1,5 +1,4 @@
 -- `retable::frames::skip_areas` meets its contract.
-use Rattle.std.proofs.Common.{◌-◌}
 use Rattle.retable.proofs.Framing.{AreasFrom}
 use Rattle.retable.proofs.frames.skip_areas.Given as goal
 

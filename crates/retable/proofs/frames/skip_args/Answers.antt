@@ -1,5 +1,4 @@
 -- `retable::frames::skip_args` meets its contract.
-use Rattle.std.proofs.Common.{◌-◌, ◌/◌}
 use Rattle.retable.proofs.Heading.{lines_ways}
 use Rattle.retable.proofs.frames.skip_args.Goals as goal
 

@@ -1,5 +1,4 @@
 -- `retable::frames::skip_args` meets its contract.
-use Rattle.std.proofs.Common.{◌-◌}
 use Rattle.retable.proofs.Heading.{ArgsFrom}
 use Rattle.retable.proofs.frames.skip_args.Given as goal
 

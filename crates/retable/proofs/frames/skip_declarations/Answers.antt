@@ -1,5 +1,4 @@
 -- `retable::frames::skip_declarations` meets its contract.
-use Rattle.std.proofs.Common.{◌-◌, ◌/◌}
 use Rattle.retable.proofs.Heading.{declared_ways}
 use Rattle.retable.proofs.frames.skip_declarations.Goals as goal
 

@@ -1,5 +1,4 @@
 -- `retable::pieces::number` meets its contract.
-use Rattle.std.proofs.Common.{◌-◌, ◌/◌}
 use Rattle.retable.proofs.Places.{place_ways}
 use Rattle.retable.proofs.pieces.number.Goals as goal
 

@@ -1,5 +1,4 @@
 -- `retable::statements::parse_args` meets its contract.
-use Rattle.std.proofs.Common.{◌-◌, ◌/◌}
 use Rattle.retable.proofs.Arguing.{args_ways}
 use Rattle.retable.proofs.statements.parse_args.Goals as goal
 

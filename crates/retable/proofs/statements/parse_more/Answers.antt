@@ -1,5 +1,4 @@
 -- `retable::statements::parse_more` meets its contract.
-use Rattle.std.proofs.Common.{◌-◌, ◌/◌}
 use Rattle.retable.proofs.Arguing.{more_ways}
 use Rattle.retable.proofs.statements.parse_more.Goals as goal
 

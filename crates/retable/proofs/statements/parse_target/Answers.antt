@@ -1,5 +1,4 @@
 -- `retable::statements::parse_target` meets its contract.
-use Rattle.std.proofs.Common.{◌-◌, ◌/◌}
 use Rattle.retable.proofs.Arguing.{target_ways}
 use Rattle.retable.proofs.statements.parse_target.Goals as goal
 

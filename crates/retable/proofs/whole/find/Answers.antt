@@ -1,5 +1,4 @@
 -- `retable::whole::find` meets its contract.
-use Rattle.std.proofs.Common.{◌-◌, ◌/◌}
 use Rattle.retable.proofs.Assembling.{middle_ways}
 use Rattle.retable.proofs.whole.find.Goals as goal
 

@@ -1,5 +1,4 @@
 -- `retable::whole::parse` meets its contract.
-use Rattle.std.proofs.Common.{◌-◌, ◌/◌}
 use Rattle.retable.proofs.Assembling.{parse_ways}
 use Rattle.retable.proofs.whole.parse.Goals as goal
 

@@ -1,5 +1,4 @@
 -- `retable::whole::parse_definition` meets its contract.
-use Rattle.std.proofs.Common.{◌-◌, ◌/◌}
 use Rattle.retable.proofs.Assembling.{definition_ways}
 use Rattle.retable.proofs.whole.parse_definition.Goals as goal
 

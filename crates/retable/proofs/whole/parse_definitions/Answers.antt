@@ -1,5 +1,4 @@
 -- `retable::whole::parse_definitions` meets its contract.
-use Rattle.std.proofs.Common.{◌-◌, ◌/◌}
 use Rattle.retable.proofs.Assembling.{defined_ways}
 use Rattle.retable.proofs.whole.parse_definitions.Goals as goal
 

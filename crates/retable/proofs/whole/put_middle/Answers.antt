@@ -1,5 +1,4 @@
 -- `retable::whole::put_middle` meets its contract.
-use Rattle.std.proofs.Common.{◌-◌, ◌/◌}
 use Rattle.retable.proofs.Assembling.{middle_ways}
 use Rattle.retable.proofs.whole.put_middle.Goals as goal
 
