@@ -1,10 +1,9 @@
 """Is a proved program older than its sources?
 
-Times are compared, not contents: a digest of the sources would have to be written down wherever the program is built,
-and `rt check` and `rt ci` build it as well as `make zaru`. Times alone would not do in a checkout, since git gives the
-time of now to each file that it changes, back to what it was too. But `rt check` compares contents, builds what has
-changed only, and writes in any case what it found (target/log/NAME.out). That file is as good as a build, so one quick
-`make zaru` is enough after any change of branches. It costs a look at 300 files, 4 ms.
+Times are compared, not contents: a digest of the sources would have to be written down wherever the program is built. Times
+alone would not do in a checkout, since git gives the time of now to each file that it changes, back to what it was too. But
+`make zaru` compares contents, builds what has changed only, and writes in any case what it found (target/log/NAME.out). That
+file is as good as a build, so one quick `make zaru` is enough after any change of branches. It costs a look at 300 files, 4 ms.
 """
 
 from __future__ import annotations
@@ -24,7 +23,7 @@ def newer_source(root: Path, name: str) -> Optional[Path]:
 
 
 def found_proved_at(root: Path, name: str) -> int:
-    """When `rt` last found the program proved from the sources as they are; 0 if it last found something else."""
+    """When `tools/prove` last found the program proved from the sources as they are; 0 if it last found something else."""
     said = root / "target" / "log" / f"{name}.out"
     is_proved = said.is_file() and f"\nrt: {name} proved".encode() in b"\n" + said.read_bytes()
     return changed_at(said) if is_proved else 0

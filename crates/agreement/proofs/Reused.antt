@@ -1,5 +1,5 @@
 -- Request 107's example C, run: "Schedule of eight 0: finished 8 205 0 0 in both modes".
-use Rattle.std.specs.Prelude.{ℕ, ◌≡◌, refl, List, [], ◌∷◌, ◌++◌, length, replicate}
+use Rattle.std.specs.Prelude.{ℕ, ◌≡◌, refl, List, [], ◌∷◌, ◌++◌, replicate}
 use Rattle.value.specs.Values.{bytes}
 use Rattle.format.specs.Syntax.{concurrent, sequential}
 use Rattle.format.specs.Encode.{table}

@@ -1,7 +1,7 @@
 -- Answers of the bench, worked by hand from request #102.
 use Rattle.std.specs.Prelude.{ℕ, ◌≡◌, refl, true, false, List, [], ◌∷◌, ◌++◌, replicate, pos}
 use Rattle.value.specs.Values.{not, add, sub, equal}
-use Rattle.value.specs.declared.Value.TheVariants.{Whole, Location, Truth}
+use Rattle.value.specs.declared.Value.TheVariants.{Whole, Location}
 use Rattle.format.specs.Syntax.{Expr, constant, local, one, two, Instr, assign, write, read, if, atomic, Block, end, step, Program, Plain, concurrent}
 use Rattle.format.specs.Encode.{table}
 use Rattle.allotments.specs.Allotments.{counts, allotted, schedule_of}

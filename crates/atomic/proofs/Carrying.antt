@@ -1,7 +1,7 @@
 -- Carrying out a step that was decided, way by way.
-use Prim.Native.Nat.{ℕ, ◌+◌, ◌^◌, ◌≤◌, ◌<◌}
+use Prim.Native.Nat.{ℕ, ◌+◌, ◌<◌}
 use native.Mathlib.Omega.{arith}
-use mathlib.Core.Path.{◌≡◌, refl, sym, ap, subst, ◌∙◌}
+use mathlib.Core.Path.{◌≡◌, refl, subst}
 use mathlib.Core.List.{List, [], ◌∷◌}
 use mathlib.Core.Bool.{true, false}
 use lib.ListN.{length, length-set}
@@ -15,11 +15,10 @@ use Rattle.decide.specs.contracts.step.Step.{the_type}
 use Rattle.decide.specs.declared.step.Step.{Step}
 use Rattle.decide.specs.declared.step.Step.TheVariants as S
 use Rattle.atomic.specs.declared.block.Done.TheVariants.{To, Blocked}
-use Rattle.engine.specs.declared.event.Event as E
 use Rattle.semantics.specs.Memory.{bound}
 use Rattle.engine.specs.Work.{Puts}
 use Rattle.engine.specs.Events.{event_of, with_event}
-use Rattle.atomic.specs.Doing.{Works, stops, goes, carried, StepFits, end_of, Carrying, Carries}
+use Rattle.atomic.specs.Doing.{Works, stops, goes, StepFits, Carrying, Carries}
 use Rattle.semantics.proofs.Laws.Cells.{shape_stored}
 use Rattle.engine.specs.Laws.Work.{framed_get, framed_put, beside_put, beside_same}
 use Rattle.engine.specs.Laws.Holding.{cell_word, holds_put}

@@ -15,7 +15,6 @@ use Rattle.format.specs.Labels.{tag}
 use Rattle.labels.specs.Walks.{BlockIn, CountsBlock}
 use Rattle.labels.specs.declared.count.Counted.{Counted}
 use Rattle.format.proofs.Laws.Grammar.{BlockAt, instr_inside, block_inside, block_deep}
-use Rattle.decide.specs.contracts.step.Step.{the_type}
 use Rattle.atomic.specs.contracts.block.Done.{the_type as done-type}
 use Rattle.decide.specs.declared.step.Step.{Step}
 use Rattle.decide.specs.declared.step.Step.TheVariants as S
@@ -142,7 +141,7 @@ past (S.Blocked q) e l = tt
 
 -- all steps but a test
 abbrev NoTest : Step → Type 0
-NoTest u = OneOf (0 ∷ 1 ∷ 2 ∷ 3 ∷ 5 ∷ 6 ∷ 7 ∷ []) (tag_of the_type u)
+NoTest u = (q : Bool) (k : ℕ) → u ≡ S.Test q k → ⊥
 
 -- are carried out
 simple : (t : List ℕ) {thread label : ℕ} (i d : ℕ) {j : ℕ} (p : Program ℕ) (X m : ℕ) {s : Instr ℕ} {a : Atomic} (u : Step) → NoTest u
@@ -151,7 +150,7 @@ simple t i d p X m (S.Assign x v k) h f = f
 simple t i d p X m (S.Read x l z v k) h f = f
 simple t i d p X m (S.Write l z c v k) h f = f
 simple t i d p X m S.Return h f = f
-simple t i d p X m (S.Test q k) h f = absurd (miss (0 ∷ 1 ∷ 2 ∷ 3 ∷ 5 ∷ 6 ∷ 7 ∷ []) 4 tt h)
+simple t i d p X m (S.Test q k) h f = absurd (h q k refl)
 simple t i d p X m (S.Call q k) h f = f
 simple t i d p X m (S.Select c u k) h f = f
 simple t i d p X m (S.Blocked q) h f = f

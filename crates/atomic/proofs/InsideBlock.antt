@@ -2,14 +2,12 @@
 use Prim.Native.Nat.{ℕ, ◌+◌, ◌-◌, ◌≤◌, ◌<◌}
 use native.Mathlib.Omega.{arith}
 use mathlib.Core.Path.{◌≡◌, refl, sym, ap, subst, ◌∙◌}
-use mathlib.Core.List.{List, [], ◌∷◌, append-nil}
+use mathlib.Core.List.{List, [], append-nil}
 use mathlib.Core.Bool.{true}
 use lib.ListN.{length, get_or, set}
 use lib.Seq.{get_or-set_same, get_or-set_other}
 use lib.Dec.{eqb}
 use borrow.Author.Tests.{eqb-true, eqb-false}
-use types.Run.{OneOf, miss}
-use denote.Enum.Declared.{tag_of}
 use Rattle.value.specs.Try.{Try, has, lacks, ◌⟫◌}
 use Rattle.value.specs.declared.Reason.{Reason}
 use Rattle.value.proofs.Laws.Tries.{lacks_inj, lacking}
@@ -17,7 +15,6 @@ use Rattle.value.proofs.Laws.Tests.{by_test, both_passed}
 use Rattle.format.specs.Syntax.{Block}
 use Rattle.format.specs.Rules.{allowed, allowed_i, named, named_i}
 use Rattle.format.proofs.Laws.Grammar.{StepAt, end_here, step_here, instr_inside, block_inside, block_deep}
-use Rattle.atomic.specs.contracts.block.Done.{the_type as done-type}
 use Rattle.atomic.specs.declared.block.Done.{Done}
 use Rattle.atomic.specs.declared.block.Done.TheVariants.{To, Blocked}
 use Rattle.semantics.specs.Memory.{Env}
@@ -26,7 +23,6 @@ use Rattle.engine.specs.Words.{held}
 use Rattle.engine.specs.Work.{frame_words, Framed}
 use Rattle.atomic.specs.Acts.{within, act}
 use Rattle.atomic.specs.Doing.{stops, goes, DoingI, Doing, DoesI, Does, Copies, DoesWhole}
-use Rattle.atomic.proofs.Carrying.{never_blocked}
 use Rattle.engine.specs.Laws.Work.{beside_same}
 use Rattle.engine.specs.Laws.Logging.{logged_none}
 use Rattle.atomic.specs.Laws.Acting.{later, act_later}
@@ -184,12 +180,11 @@ pub ruleset block_ways = (going_none, going_inside, going_deep, going_one, going
 
 -- it came to an end
 abbrev Ended : Done → Type 0
-Ended r = OneOf (0 ∷ []) (tag_of done-type r)
+Ended r = (u : Reason) → r ≡ Blocked u → ⊥
 
 -- and so did not block
 not_blocked : {G : Type 0} (r : Done) {u : Reason} → Ended r → r ≡ Blocked u → G
-not_blocked (To j k) h e = never_blocked e
-not_blocked (Blocked q) h e = absurd (miss (0 ∷ []) 1 tt h)
+not_blocked r {u = u} h e = absurd (h u e)
 
 -- before any event
 abbrev pub bare : Atomic → Atomic

@@ -1,5 +1,5 @@
 -- What an atomic block does, in one go. Threads.toEnd goes step by step; Laws/Acting.antt shows that the two are the same.
-use Rattle.std.specs.Prelude.{ℕ, List, [], ◌∷◌, ◌++◌, true, false}
+use Rattle.std.specs.Prelude.{ℕ, [], ◌∷◌, ◌++◌, true, false}
 use Rattle.value.specs.Try.{Try, has, lacks, ◌⟫◌}
 use Rattle.format.specs.Syntax.{local, Instr, assign, write, read, while, if, call, atomic, select, Block, end, step, concurrent}
 use Rattle.format.specs.Rules.{Here}

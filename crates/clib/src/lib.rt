@@ -115,24 +115,21 @@ fn store_mend(answer: &mut [u64], r: MendAnswer)
 }
 
 // Reads a concurrent table.
-#[unsafe(no_mangle)]
-pub extern "C" fn zaru_read_concurrent(table: &[u8], answer: &mut [u64])
+pub fn zaru_read_concurrent(table: &[u8], answer: &mut [u64])
     ensures { answer.new ≡ stored 0 (read_numbers (read_call concurrent table.now)) answer.old }
 {
     store_read(answer, reader::read_concurrent(table));
 }
 
 // Reads a sequential table.
-#[unsafe(no_mangle)]
-pub extern "C" fn zaru_read_sequential(table: &[u8], answer: &mut [u64])
+pub fn zaru_read_sequential(table: &[u8], answer: &mut [u64])
     ensures { answer.new ≡ stored 0 (read_numbers (read_call sequential table.now)) answer.old }
 {
     store_read(answer, reader::read_sequential(table));
 }
 
 // Translates a concurrent table: in mode 0 each procedure's locals have cells of their own, in any other those of different call paths share them.
-#[unsafe(no_mangle)]
-pub extern "C" fn zaru_translate(table: &[u8], mode: u64, out: &mut [u8], answer: &mut [u64])
+pub fn zaru_translate(table: &[u8], mode: u64, out: &mut [u8], answer: &mut [u64])
     ensures { ◌≡◌ {A = Translated} (record { out = out.exit.now; answer = answer.new }) (translated (translate_call
         (mode_numbered mode) table.now out.entry.now) answer.old) }
 {
@@ -141,8 +138,7 @@ pub extern "C" fn zaru_translate(table: &[u8], mode: u64, out: &mut [u8], answer
 }
 
 // Prints a sequential table as C text.
-#[unsafe(no_mangle)]
-pub extern "C" fn zaru_c_text(table: &[u8], out: &mut [u8], answer: &mut [u64])
+pub fn zaru_c_text(table: &[u8], out: &mut [u8], answer: &mut [u64])
     ensures { ◌≡◌ {A = Translated} (record { out = out.exit.now; answer = answer.new }) (translated (print_call
         table.now out.entry.now) answer.old) }
 {
@@ -151,8 +147,7 @@ pub extern "C" fn zaru_c_text(table: &[u8], out: &mut [u8], answer: &mut [u64])
 }
 
 // Reads such a text.
-#[unsafe(no_mangle)]
-pub extern "C" fn zaru_from_c_text(text: &[u8], out: &mut [u8], answer: &mut [u64])
+pub fn zaru_from_c_text(text: &[u8], out: &mut [u8], answer: &mut [u64])
     ensures { ◌≡◌ {A = Translated} (record { out = out.exit.now; answer = answer.new }) (translated (read_text_call
         text.now out.entry.now) answer.old) }
 {
@@ -161,8 +156,7 @@ pub extern "C" fn zaru_from_c_text(text: &[u8], out: &mut [u8], answer: &mut [u6
 }
 
 // Runs a concurrent table.
-#[unsafe(no_mangle)]
-pub extern "C" fn zaru_run_concurrent(
+pub fn zaru_run_concurrent(
     table: &[u8],
     schedule: &[u8],
     cells: &mut [u8],
@@ -178,8 +172,7 @@ pub extern "C" fn zaru_run_concurrent(
 }
 
 // Runs a concurrent table as the report has it, without labels.
-#[unsafe(no_mangle)]
-pub extern "C" fn zaru_run_plain(
+pub fn zaru_run_plain(
     table: &[u8],
     schedule: &[u8],
     cells: &mut [u8],
@@ -195,8 +188,7 @@ pub extern "C" fn zaru_run_plain(
 }
 
 // Runs a sequential table.
-#[unsafe(no_mangle)]
-pub extern "C" fn zaru_run_sequential(
+pub fn zaru_run_sequential(
     table: &[u8],
     schedule: &[u8],
     budget: u64,
@@ -214,8 +206,7 @@ pub extern "C" fn zaru_run_sequential(
 }
 
 // Tries a concurrent table's round-robin orders.
-#[unsafe(no_mangle)]
-pub extern "C" fn zaru_bench(
+pub fn zaru_bench(
     table: &[u8],
     rounds: u64,
     most: u64,
@@ -230,16 +221,14 @@ pub extern "C" fn zaru_bench(
 }
 
 // What the step at a label of a concurrent table costs.
-#[unsafe(no_mangle)]
-pub extern "C" fn zaru_prices(table: &[u8], label: u64, answer: &mut [u64])
+pub fn zaru_prices(table: &[u8], label: u64, answer: &mut [u64])
     ensures { answer.new ≡ stored 0 (prices_numbers (prices_call table.now label)) answer.old }
 {
     store_prices(answer, prices::prices(table, label));
 }
 
 // Mends a table of the kind wanted whose trailer is lost: 0 concurrent, any other number sequential.
-#[unsafe(no_mangle)]
-pub extern "C" fn zaru_mend(table: &mut [u8], kind: u64, list: &mut [u8], answer: &mut [u64])
+pub fn zaru_mend(table: &mut [u8], kind: u64, list: &mut [u8], answer: &mut [u64])
     ensures { ◌≡◌ {A = Mended} (record { table = table.exit.now; list = list.new; answer = answer.new })
         (mended (mend_call (kind_numbered kind) table.entry.now list.old) answer.old) }
 {

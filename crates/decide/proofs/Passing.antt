@@ -139,7 +139,7 @@ module _ {t ls : List ℕ} {fb i n : ℕ} where
               below = (next_below h P l).1;
               framed = framed_below (beside_put p) (omega (arith, h.narrow)) o.framed;
               args =
-                  rw (L.map_append is o.vs (v ∷ []))
+                  rw (L.map-append is o.vs (v ∷ []))
                   (framed_more (map is o.vs) o.args (rw long (omega (arith, h.room, h.few, P.beside.long))) (rw long p));
               count = omega (arith, length-append o.vs (v ∷ []), o.count);
             };

@@ -3,7 +3,6 @@ use Prim.Native.Nat.{ℕ, zero, suc, ◌+◌, ◌≤◌, ◌<◌}
 use native.Mathlib.Omega.{arith}
 use mathlib.Core.Path.{◌≡◌, refl, sym, ap, subst, ◌∙◌}
 use mathlib.Core.List.{List, [], ◌∷◌}
-use mathlib.Core.Bool.{Bool, true, false}
 use lib.ListN.{length, get_or, get_or-eq_default}
 use lib.IntN.{ℤ, pos, negsuc}
 use lib.Dec.{ltb}
@@ -26,7 +25,7 @@ use Rattle.value.specs.declared.Reason.{Reason}
 use Rattle.value.specs.declared.Reason.TheVariants.{WrongKind, FinishedThread}
 use Rattle.value.proofs.Laws.Tests.{by_test}
 use Rattle.engine.specs.declared.memory.Spot.{Spot}
-use Rattle.engine.specs.declared.memory.Spot.TheVariants.{At, Nowhere}
+use Rattle.engine.specs.declared.memory.Spot.TheVariants.{At}
 use Rattle.decide.specs.declared.step.Step.TheVariants.{Select, Blocked}
 use Rattle.semantics.specs.Memory.{Memory, cell}
 use Rattle.semantics.specs.Copy.{running}

@@ -8,7 +8,7 @@ use translation::Mode;
 
 // What is known of an accepted concurrent table: where its procedure records begin, and its counts; and where its copy's mode places the
 // locals: where those of each procedure begin in their row, and how long the row is.
-#[derive(Drop)]
+#[derive(Clone, Copy)]
 pub struct Shape {
     pub records: u16,
     pub procedures: u16,

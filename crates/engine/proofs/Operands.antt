@@ -2,14 +2,14 @@
 use Prim.Native.Nat.{ℕ}
 use native.Mathlib.Omega.{arith}
 use mathlib.Core.Path.{◌≡◌, refl, sym, ap, ◌∙◌}
-use mathlib.Core.List.{List, [], ◌∷◌}
+use mathlib.Core.List.{[], ◌∷◌}
 use mathlib.Core.Bool as B
 use mathlib.Core.Bool.{Bool, true, false}
 use lib.IntN.{ℤ}
-use lib.Dec.{T, eqb}
+use lib.Dec.{eqb}
 use borrow.Author.Tests.{eqb-true, eq-eqb, ne_eqb}
 use mir.Syntax.{w32}
-use mir.Val.{SFits, of_z, to_z, has_key}
+use mir.Val.{SFits, of_z, to_z}
 use mir.Facts.{to_z-of_z}
 use types.Run.{OneOf, miss}
 use denote.Enum.Declared.{tag_of}

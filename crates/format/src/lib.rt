@@ -1,5 +1,5 @@
 // Programs of both languages, their bytes, and the rules by which a table is read: definitions and laws, no code. May use `value`. Read
-// specs/Syntax.antt, Encode.antt and Rules.antt first, then what they are worth: specs/Laws/Sound.antt and Accepted.antt.
+// specs/Syntax.antt, Encode.antt and Rules.antt first, then what they are worth: proofs/Laws/Sound.antt and Accepted.antt.
 #![tactic(auto)]
 
 // What a reader answers: number 0 with the five counts, or the number of refusal and zeros.

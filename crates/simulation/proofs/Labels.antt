@@ -8,7 +8,6 @@ use mathlib.Core.List.{List, [], ◌∷◌, ◌++◌, append_assoc}
 use lib.ListN.{length, get_or}
 use Rattle.value.proofs.Laws.Lists.{Each}
 use Rattle.format.specs.Syntax.{Expr, local, Instr, assign, write, read, while, if, call, atomic, select, end}
-use Rattle.format.specs.Syntax as S
 use Rattle.format.specs.Encode.{expr, block}
 use Rattle.format.proofs.Laws.Grammar.{InstrAt, MoreAt, exprs_none_lem, exprs_more, AtomicAt, atomic_here}
 use Rattle.format.proofs.Laws.Stands.{first}

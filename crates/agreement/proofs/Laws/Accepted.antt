@@ -58,4 +58,4 @@ closed p ts r c d P.spent h k free = absurd h
 pub same_steps : {q o : Program Plain} {t : List ℕ} {p : Program Plain} {ts : List ℕ} {b : ℕ} → Agree q t p ts b → Agree o t p ts b
     → ((why : Reason) → (program_run p ts).how ≡ P.blocked why → ⊥)
     → (copy_run q b p ts).steps ≡ (copy_run o b p ts).steps
-same_steps {p = p} {ts = ts} x y free = closed p ts _ _ _ (program_run p ts).how x.closing y.closing free
+same_steps {q = q} {o = o} {p = p} {ts = ts} {b = b} x y free = closed p ts (program_run p ts) (copy_run q b p ts) (copy_run o b p ts) (program_run p ts).how x.closing y.closing free

@@ -4,7 +4,6 @@ use Rattle.std.proofs.Common.{arith, ◌∙◌, append-nil, append_assoc}
 use Rattle.std.proofs.Math.Path.{sym}
 use Rattle.value.specs.Maybe.{pick}
 use Rattle.value.specs.Try.{Try, has, ◌⟫◌}
-use Rattle.value.specs.Lists.{at}
 use Rattle.value.specs.declared.Value.TheVariants.{Whole}
 use Rattle.value.proofs.Laws.Maybes.{when_is, is_inj}
 use Rattle.value.proofs.Laws.Tries.{has_inj, lacking, chain_has}
@@ -14,7 +13,7 @@ use Rattle.format.specs.Labels.{first}
 use Rattle.format.specs.Rules.{Here, known, allowed, named}
 use Rattle.format.specs.Rules as Rules
 use Rattle.translation.specs.Layout.{Layout}
-use Rattle.translation.specs.Code.{◌then◌, load_all, variables, inside, inside_i, pc, code}
+use Rattle.translation.specs.Code.{load_all, variables, inside, inside_i, pc, code}
 use Rattle.semantics.specs.Memory.{Env, eval, Memory, stored, Event}
 use Rattle.value.specs.Values.{truth}
 use Rattle.semantics.specs.Step.{Stack, Moved, instr}

@@ -58,6 +58,11 @@ module _ {W : World} {w : Here} {l i : ℕ} {K : Stack Plain} {ts : List ℕ} {�
             (known_one F.known ρ o F.set q''.0) (F.set y q'.0).1
             (alike (eval ρ e) _ _ (λ v q. access_last (indexed ρ o) (pointed ρ y) η _ q) p),
       )
+  halt_simply (while _ _) x5 F p = elim x5 [ ]
+  halt_simply (if _ _ _) x7 F p = elim x7 [ ]
+  halt_simply (call _ _) x7 F p = elim x7 [ ]
+  halt_simply (atomic _) x7 F p = elim x7 [ ]
+  halt_simply (select _ _) x9 F p = elim x9 [ ]
 
 -- an instruction counts
 size_i_some : (ins : Instr ℕ) → 1 ≤ P.size_i ins

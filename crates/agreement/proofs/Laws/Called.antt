@@ -20,7 +20,7 @@ use Rattle.semantics.specs.Buffers.{cells}
 use Rattle.semantics.proofs.Laws.Cells.{shape, shape_fresh}
 use Rattle.semantics.proofs.Laws.Shapes.{run_shape}
 use Rattle.semantics.proofs.Laws.Called.{length_cells, Scheduled, scheduled?, Answers, by_rule, runs_it, concurrent_answers}
-use Rattle.semantics.specs.Calls.{reason_of, ran, scheduled, roomy, run_as, concurrent_call, sequential_call}
+use Rattle.semantics.specs.Calls.{reason_of, ran, roomy, run_as, concurrent_call, sequential_call}
 use Rattle.agreement.specs.Agreement.{program_run, copy_run, Same, Closing, budget, AgreeIn, Demand3}
 use Rattle.agreement.proofs.Laws.Accepted.{demand3}
 

@@ -89,7 +89,7 @@ module _ {S : Setting} {i : ℕ} {η₀ : Memory} {m : ℕ} {s : Stack ℕ} {ρ 
   pub rep_passed : {η' : Memory} → Rep S i η₀ m s ρ η η' → (j : ℕ) (vs : List Value) → j + length vs ≤ S.L q
       → Rep S i η₀ m s ρ η (passed S i q η' j vs)
   rep_passed R j [] h = R
-  rep_passed R j (v ∷ vs) h = rep_passed (rep_callee_home R j v (omega arith)) (suc j) vs (omega arith)
+  rep_passed {η' = η'} R j (v ∷ vs) h = rep_passed {η' = stored η' (S.G.home q j) i v} (rep_callee_home R j v (omega arith)) (suc j) vs (omega arith)
 
   -- the callee's homes are there
   pub callee_home_there : {η' : Memory} → Rep S i η₀ m s ρ η η' → (x : ℕ) → x < S.L q → (u : Value) × (cell η' (S.G.home q x) i ≡ has u)
@@ -109,7 +109,8 @@ module _ {S : Setting} {i : ℕ} {η₀ : Memory} {m : ℕ} {s : Stack ℕ} {ρ 
       let u=v : has u ≡ has v = ap has (is_inj e) in
       rw y=j (passed_before S i q in_n (stored η' (S.G.home q j) i u) (suc j) vs j (omega arith) (omega arith)
       ∙ cell_stored η' (S.G.home q j) i u (callee_home_there R j (omega arith)).1 ∙ u=v)
-  passed_at R j (u ∷ vs) (suc x) y h p e = passed_at (rep_callee_home R j u (omega arith)) (suc j) vs x y (omega arith) (omega arith) e
+  passed_at {η'} R j (u ∷ vs) (suc x) y h p e =
+      passed_at {η' = stored η' (S.G.home q j) i u} (rep_callee_home R j u (omega arith)) (suc j) vs x y (omega arith) (omega arith) e
 
   -- the call leaves the callee's frame above the caller's
   pub rep_call : {η' : Memory} → Rep S i η₀ m s ρ η η' → (vs : List Value) (c : Block ℕ) → length vs ≤ S.L q
@@ -155,7 +156,7 @@ module _ {S : Setting} {i : ℕ} {η₀ : Memory} {m : ℕ} {s : Stack ℕ} {ρ 
         run_steps {n = suc (suc (2 * length es + r))} (omega arith)
         (run_put S.private procs m (S.L m) (S.G.home q j) (shift e) a.0 (S.private.home q j)
         (eval_fresh i (is (Location (S.G.home q j))) ax ρ σ e (λ x p. fresh x (first_of x p)) ∙ a.1) (callee_home_there R j (omega arith)).1
-        (run_passes (rep_callee_home R j a.0 (omega arith)) (suc j) es b.0 (is (Location (S.G.home q j))) ax σ b.1
+        (run_passes {η' = stored η' (S.G.home q j) i a.0} (rep_callee_home R j a.0 (omega arith)) (suc j) es b.0 (is (Location (S.G.home q j))) ax σ b.1
         (λ x p. fresh x (either_right (mentioned x e) p)) (omega arith)
         (λ tm'. rw shape at (k tm'))))
       where

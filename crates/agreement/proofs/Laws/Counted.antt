@@ -1,7 +1,8 @@
 -- The definitions of Agreement count what they say: the visits are those of the run, in order, and each step has one price.
 use Rattle.std.specs.Prelude.{ℕ, zero, suc, ◌+◌, ◌≤◌, ◌<◌, ◌≡◌, refl, ◌↔◌, List, [], ◌∷◌, ◌++◌, true, false, length}
 use Rattle.std.proofs.Common.{arith, zero-add, sym, ap, ◌∙◌}
-use Rattle.value.specs.Maybe.{is}
+use Rattle.std.proofs.Math.Path.{subst}
+use Rattle.value.specs.Maybe.{is, pick}
 use Rattle.value.specs.Try.{Try, has, lacks}
 use Rattle.value.specs.Lists.{at}
 use Rattle.value.proofs.Laws.Maybes.{is_inj, missing}
@@ -133,10 +134,18 @@ module _ (h : ℕ) (procs : List (Proc Plain)) where
           → u.steps < v.steps
       by (C.ended how) e ih = by_test (is_at_head c.stack) (λ a. missing (rw (a, e) at q)) (λ a. missing (rw (a, e) at q))
       by (C.goes d) e ih =
+          let p' : at (pick (is_at_head c.stack) (record { steps = k; config = c } ∷ more (C.goes d)) (more (C.goes d))) i ≡ is u
+          = subst (λ x. at (pick (is_at_head c.stack) (record { steps = k; config = c } ∷ more x) (more x)) i ≡ is u) e p in
+          let q' : at (pick (is_at_head c.stack) (record { steps = k; config = c } ∷ more (C.goes d)) (more (C.goes d))) (suc i) ≡ is v
+          = subst (λ x. at (pick (is_at_head c.stack) (record { steps = k; config = c } ∷ more x) (more x)) (suc i) ≡ is v) e q in
           by_test (is_at_head c.stack)
-          (λ a. after i (rw (a, e) at p) (rw (a, e) at q))
-          (λ a. ih d i u v (rw (a, e) at p) (rw (a, e) at q))
+          (λ a. after i (rw a at p') (rw a at q'))
+          (λ a. ih d i u v (rw a at p') (rw a at q'))
         where
+          -- the visits after a step
+          more : C.Next → List Visit
+          more x = elim x [ C.ended how ↦ [] | C.goes d' ↦ visits h procs n (suc k) d' ]
+
           after : (i : ℕ) → at (record { steps = k; config = c } ∷ visits h procs n (suc k) d) i ≡ is u → at (visits h procs n (suc k) d) i ≡ is v
               → u.steps < v.steps
           after zero p q = let s : k ≡ u.steps = ap (λ (w : Visit). w.steps) (is_inj p) in omega (arith, not_before n (suc k) d 0 v q)

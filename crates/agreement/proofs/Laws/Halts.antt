@@ -3,7 +3,6 @@ use Rattle.std.specs.Prelude.{ℕ, suc, ◌+◌, ◌*◌, ◌≤◌, ◌<◌, �
 use Rattle.std.proofs.Common.{arith, sym, ap, ◌∙◌}
 use Rattle.value.specs.Maybe.{Maybe, is, either}
 use Rattle.value.specs.Try.{Try, has, lacks, ◌⟫◌}
-use Rattle.value.specs.Lists.{at}
 use Rattle.value.specs.declared.Value.{Value}
 use Rattle.value.specs.declared.Value.TheVariants.{Location}
 use Rattle.value.specs.declared.Reason.{Reason}
@@ -55,6 +54,7 @@ module _ (h : ℕ) (procs : List (Proc Plain)) {m : ℕ} {ρ : Env} {c : Block P
 -- the only variable of a list
 only : (ρ : Env) {u : Value} (y z : ℕ) → In z (y ∷ []) → lookup ρ y ≡ is u → lookup ρ z ≡ is u
 only ρ y z here e = e
+only ρ {u = u} y z (Rattle.value.proofs.Laws.Lists.there x4) e = elim x4 [ ]
 
 -- the program's cells are in the copy's memory
 same_cell : {S : Setting} {i : ℕ} {η₀ : Memory} {m : ℕ} {s : Stack ℕ} {ρ : Env} {η η' : Memory} → Rep S i η₀ m s ρ η η' → (a j : ℕ) → a < S.h
@@ -160,7 +160,7 @@ module _ {S : Setting} {i : ℕ} {η₀ : Memory} {m : ℕ} {s : Stack ℕ} {ρ 
       → Runs S.h procs (Halted S.h procs r ts) n (config (frame l (own i tm ax σ) (passes S.G m (S.L m) q j es c) ∷ K) η' ts t evs))
   halt_passes c R j [] e fits = lacking (sym e)
   halt_passes {η'} c R j (e ∷ es) none fits =
-      go (λ v none'. halt_passes c (rep_callee_home q in_n new on R j v (omega arith)) (suc j) es none' (omega arith)) (eval ρ e) refl
+      go (λ v none'. halt_passes {η' = stored η' (S.G.home q j) i v} c (rep_callee_home q in_n new on R j v (omega arith)) (suc j) es none' (omega arith)) (eval ρ e) refl
     where
       first_of : (σ : Env) → Fresh (e ∷ es) ρ σ → Fresh (e ∷ []) ρ σ
       first_of σ fresh x p = fresh x (either_left (mentions x es) (sym (either_false (mentioned x e)) ∙ p))

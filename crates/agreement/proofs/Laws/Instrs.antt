@@ -3,7 +3,6 @@ use Rattle.std.specs.Prelude.{ℕ, suc, ◌+◌, ◌*◌, ◌≤◌, ◌<◌, �
 use Rattle.std.proofs.Common.{arith, sym, ap, ◌∙◌, length-set, get_or-set_same, lt-ltb, le-ltb}
 use Rattle.value.specs.Maybe.{Maybe, is, nothing, pick}
 use Rattle.value.specs.Try.{has, ◌⟫◌, or_lacks}
-use Rattle.value.specs.Lists.{at}
 use Rattle.value.specs.declared.Value.{Value}
 use Rattle.value.specs.declared.Value.TheVariants.{Whole, Location}
 use Rattle.value.specs.declared.Reason.TheVariants.{WrongKind}
@@ -147,6 +146,7 @@ module _ {S : Setting} {procs : List (Proc Plain)} {Q : Config → Type 0} {l i 
 
       only : (z : ℕ) → In z (y ∷ []) → lookup ρ y ≡ is u → lookup ρ z ≡ is u
       only z here e = e
+      only z (Rattle.value.proofs.Laws.Lists.there x5) e = elim x5 [ ]
 
   -- y[o] := e
   pub run_writes : {r : ℕ} {c : Block Plain} {evs : List Event} (y : ℕ) (o e : Expr) (j a : ℕ) (v : Value) {u w : Value}
@@ -180,6 +180,7 @@ module _ {S : Setting} {procs : List (Proc Plain)} {Q : Config → Type 0} {l i 
 
       only : (z : ℕ) → In z (y ∷ []) → lookup ρ y ≡ is u → lookup ρ z ≡ is u
       only z here e = e
+      only z (Rattle.value.proofs.Laws.Lists.there x4) e = elim x4 [ ]
 
   -- a test inside an atomic block
   pub run_choice : {r : ℕ} {evs : List Event} (a b c : Block Plain) (e : Expr) (q : Bool)

@@ -53,6 +53,7 @@ module _ (η : Memory) (place : ℕ → ℕ) (i : ℕ) where
   loaded_has (y ∷ xs) ρ x here h =
       loaded_keeps xs (set ρ x (forget (cell η (place x) i))) x (rw (length-set ρ x (forget (cell η (place x) i))) h) (get_or-set_same ρ x (forget (cell η (place x) i)) nothing h)
   loaded_has (y ∷ xs) ρ x (there p) h = loaded_has xs (set ρ y (forget (cell η (place y) i))) x p (rw (length-set ρ y (forget (cell η (place y) i))) h)
+  loaded_has [] ρ x x4 h = elim x4 [ ]
 
 module _ {h : ℕ} {G : Layout} (P : Private h G) (procs : List (Proc Plain)) {ts : List ℕ} {t : ℕ} {s : Stack Plain} {l i : ℕ} {Q : Config → Type 0}
     {evs : List Event} (m n : ℕ) where

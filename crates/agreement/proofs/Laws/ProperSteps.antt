@@ -100,6 +100,11 @@ simple_shape procs t j m ρ a c z η (write y o e) simple_write r p =
     let b = chain_has (eval ρ e) _ p in
     let g = access (indexed ρ o) (pointed ρ y) η _ b.2 in
     (ρ, ap (λ (o : Moved ℕ). o.stack) (sym (has_inj g.then)), refl)
+simple_shape procs t j m ρ a c z η (while _ _) x4 r p = elim x4 [ ]
+simple_shape procs t j m ρ a c z η (if _ _ _) x6 r p = elim x6 [ ]
+simple_shape procs t j m ρ a c z η (call _ _) x6 r p = elim x6 [ ]
+simple_shape procs t j m ρ a c z η (atomic _) x6 r p = elim x6 [ ]
+simple_shape procs t j m ρ a c z η (select _ _) x8 r p = elim x8 [ ]
 
 module _ (W : World) (t j m : ℕ) where
   -- a block that is at its end is not blocked

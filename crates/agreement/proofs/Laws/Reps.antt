@@ -5,7 +5,6 @@ use Rattle.std.proofs.Common.{arith, sym, ap, ◌∙◌, length-set, get_or-set_
 use Rattle.std.proofs.Math.Decide.{ℕ_discrete}
 use Rattle.value.specs.Maybe.{is, nothing, either}
 use Rattle.value.specs.Try.{has}
-use Rattle.value.specs.Lists.{at}
 use Rattle.value.specs.declared.Value.{Value}
 use Rattle.value.proofs.Laws.Maybes.{is_inj}
 use Rattle.value.proofs.Laws.Tests.{either_left, either_right}

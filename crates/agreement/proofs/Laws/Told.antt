@@ -1,5 +1,5 @@
 -- From what the calls answer to what the run program tells.
-use Rattle.std.specs.Prelude.{ℕ, ◌*◌, ◌≤◌, refl, List, false, take}
+use Rattle.std.specs.Prelude.{ℕ, ◌*◌, ◌≤◌, refl, List, take}
 use Rattle.std.proofs.Common.{arith, sym, ◌∙◌}
 use Rattle.std.proofs.Math.Path.{◌≡◌, ap}
 use Rattle.std.proofs.Math.Bool.{true}
@@ -24,7 +24,7 @@ use Rattle.translation.proofs.Laws.Called.{Copied, call_copies}
 use Rattle.semantics.specs.declared.RunAnswer.{RunAnswer}
 use Rattle.semantics.specs.Calls.{Outcome, max_entries, scheduled, roomy, run_as, concurrent_outcome, concurrent_call, sequential_outcome, sequential_call}
 use Rattle.agreement.specs.Agreement.{budget}
-use Rattle.agreement.specs.Figures.{refusal, figures, figures_of, figures_as, figures_call}
+use Rattle.agreement.specs.Figures.{refusal, figures_of, figures_as, figures_call}
 use Rattle.agreement.specs.Answers.{answer_as, program_answer, copy_answer}
 
 -- ---- with room for the most cells, a run answers as if there were no buffers

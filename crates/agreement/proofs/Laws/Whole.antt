@@ -1,12 +1,11 @@
 -- The agreement of a program that passes the rules with its copy, from single steps (Bounded), wherever the locals are placed.
 use Rattle.std.specs.Prelude.{ℕ, ◌+◌, ◌*◌, ◌-◌, ◌≤◌, ◌<◌, ◌≡◌, refl, List, [], ◌∷◌, length, take, pos}
 use Rattle.std.proofs.Common.{arith, zero-add, sym, ap, subst, ◌∙◌}
-use Rattle.value.specs.Lists.{at}
 use Rattle.value.specs.declared.Value.TheVariants.{Whole}
 use Rattle.value.proofs.Laws.Lists.{map_same, Each, each_at}
 use Rattle.format.specs.Syntax.{Program, Plain, sequential, concurrent}
 use Rattle.format.specs.Encode.{table}
-use Rattle.format.specs.Labels.{counts, labels, labelled, end_of}
+use Rattle.format.specs.Labels.{counts, labelled, end_of}
 use Rattle.format.specs.Rules.{limits, max_labels}
 use Rattle.format.proofs.Laws.Sound.{Sound}
 use Rattle.format.proofs.Laws.Labelled.{end_of_labels}
@@ -15,7 +14,7 @@ use Rattle.semantics.specs.Step.{Stack}
 use Rattle.semantics.specs.Threads as P
 use Rattle.semantics.specs.Copy as C
 use Rattle.semantics.specs.Calls.{max_entries}
-use Rattle.agreement.specs.Agreement.{budget, visits, Same, Agree, program_run, copy_run, head_steps, visits_of, Closing}
+use Rattle.agreement.specs.Agreement.{budget, visits, Same, Agree, program_run, copy_run, head_steps, visits_of, Closing, spent, prices_of}
 use Rattle.agreement.proofs.Laws.Reps.{label_by}
 use Rattle.agreement.proofs.Laws.Frames.{World}
 use Rattle.agreement.proofs.Laws.Round.{Arrived, Zeroth}
@@ -89,7 +88,8 @@ module _ (p : Program Plain) (start : ℕ → ℕ) (R : ℕ) (D : Placed p.procs
           → Agree q (table concurrent p) p ts n
       go c sees runs g =
           let closes : Closing p ts (program_run p ts) (C.run (length p.sizes) q.procs (n - k) (0 + k) c) (program_run p ts).how
-          = closing_same ts (program_run p ts) _ _ (omega arith) (program_run p ts).how g.closing in
+          = closing_same ts (program_run p ts) (C.run (length p.sizes) q.procs (n - k) (0 + k) c)
+          (0 + k + spent (counts p.procs + 2 * length p.mains + 10) (prices_of p ts)) (omega arith) (program_run p ts).how g.closing in
           let split : n ≡ k + (n - k) = omega arith in
           let seen : visits_of q n p ts ≡ visits (length p.sizes) q.procs (n - k) (0 + k) c =
           ap (λ (j : ℕ). visits_of q j p ts) split ∙ sees
@@ -104,7 +104,7 @@ module _ (p : Program Plain) (start : ℕ → ℕ) (R : ℕ) (D : Placed p.procs
                 record { taken = u.2 ∙ zero-add j; same = shown_same (program_run p (take j ts)) v.config u.0; used = omega (arith, u.1) };
             cheap = g.cheap;
             how = rw ends g.how;
-            never = λ e. subst (Closing p ts (program_run p ts) _) (sym g.how ∙ ap (λ (r : C.Ran). r.how) (sym ends) ∙ e) closes;
+            never = λ e. subst (Closing p ts (program_run p ts) (C.run (length p.sizes) q.procs (n - k) (0 + k) c)) (sym g.how ∙ ap (λ (r : C.Ran). r.how) (sym ends) ∙ e) closes;
             closing = rw ends closes;
             unused = rw ends (g.unused (program_run p ts).steps (omega arith));
           }

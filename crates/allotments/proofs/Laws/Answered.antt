@@ -1,11 +1,10 @@
 -- What the bench answers: the first allotment that blocks, or that there is none.
-use Rattle.std.specs.Prelude.{ℕ, ◌<◌, ◌≡◌, refl, List, Bool, true, false, length}
-use Rattle.std.proofs.Common.{arith, sym, ap, ◌∙◌}
+use Rattle.std.specs.Prelude.{ℕ, ◌<◌, ◌≡◌, refl, List, true, false, length}
+use Rattle.std.proofs.Common.{arith, ap}
 use Rattle.value.specs.Maybe.{Maybe, is, nothing}
-use Rattle.value.proofs.Laws.Tests.{never}
 use Rattle.format.specs.Syntax.{Program, Plain}
 use Rattle.allotments.specs.Bench.{allotments, first_from, blocks_at, searched, search}
-use Rattle.allotments.proofs.Laws.Searches.{Least, found_least, found_none, first_none}
+use Rattle.allotments.proofs.Laws.Searches.{Least, found_least, found_none}
 
 module _ (p : Program Plain) (k s : ℕ) (cs : List ℕ) where
   -- how many allotments there are

@@ -1,10 +1,10 @@
 -- An allotment's run is what the run call answers for its schedule.
-use Rattle.std.specs.Prelude.{ℕ, zero, suc, ◌≤◌, ◌<◌, ◌≡◌, refl, List, [], ◌∷◌, ◌++◌, Bool, true, false, length, replicate, ltb, leb}
-use Rattle.std.proofs.Common.{arith, sym, ap, ◌∙◌, lt-ltb, ltb-true, le-leb}
-use Rattle.value.specs.Maybe.{both, pick}
+use Rattle.std.specs.Prelude.{ℕ, zero, suc, ◌≤◌, ◌<◌, ◌≡◌, refl, List, [], ◌∷◌, ◌++◌, Bool, true, false, length, replicate, ltb}
+use Rattle.std.proofs.Common.{arith, ap, ◌∙◌, lt-ltb, ltb-true, le-leb}
 use Rattle.value.specs.Try.{Try, has, lacks}
 use Rattle.value.specs.Lists.{at, all, over}
 use Rattle.value.proofs.Laws.Tests.{by_test, both_passed}
+use Rattle.format.specs.Labels.{labelled}
 use Rattle.format.specs.Syntax.{Program, Plain, concurrent}
 use Rattle.format.specs.Rules.{verdict, Verdict, accepted}
 use Rattle.semantics.specs.Threads.{State, thread_step}
@@ -48,7 +48,7 @@ pub run_called : (t : List ℕ) (p : Program Plain) (ds cs es : List ℕ) → ve
 run_called t p ds cs es v h l r =
     let ts : List ℕ = schedule_of p ds in
     let T : ℕ = length p.mains in
-    let low : all (λ u. ltb u T) ts ≡ true = taken_all _ (λ u. ltb u T) (allotted T 0 ds) _ (allotted_below T 0 ds (omega arith)) in
+    let low : all (λ u. ltb u T) ts ≡ true = taken_all (labelled p) (λ u. ltb u T) (allotted T 0 ds) _ (allotted_below T 0 ds (omega arith)) in
     let asked : scheduled concurrent p ts ≡ true = rw (le-leb (length ts) max_entries l) low in
     let whole : concurrent_call t ts cs es ≡ concurrent_outcome ts cs es p =
     ap (λ (x : Verdict). run_as concurrent x (concurrent_outcome ts cs es) ts cs es) v ∙ rw (asked, r, run_as)

@@ -1,6 +1,6 @@
 -- An allotment's counts and its number: each allotment has one number.
-use Rattle.std.specs.Prelude.{ℕ, zero, suc, ◌+◌, ◌*◌, ◌/◌, ◌%◌, ◌^◌, ◌≤◌, ◌<◌, ◌≡◌, refl, List, [], ◌∷◌, ◌++◌, length}
-use Rattle.std.proofs.Common.{arith, sym, ap, ◌∙◌, length-append}
+use Rattle.std.specs.Prelude.{ℕ, zero, suc, ◌/◌, ◌%◌, ◌≡◌, refl, [], ◌∷◌, length}
+use Rattle.std.proofs.Common.{arith, ◌∙◌, length-append}
 use Rattle.allotments.specs.Allotments.{counts}
 
 -- as many counts as asked for

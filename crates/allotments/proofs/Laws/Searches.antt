@@ -1,10 +1,10 @@
 -- The search: the first number that passes, or that there is none.
 use Rattle.std.specs.Prelude.{ℕ, zero, suc, ◌+◌, ◌≤◌, ◌<◌, ◌≡◌, refl, Bool, true, false, eqb}
-use Rattle.std.proofs.Common.{arith, sym, ap, subst, ◌∙◌, eqb-true}
+use Rattle.std.proofs.Common.{arith, sym, ap, ◌∙◌, eqb-true}
 use Rattle.std.proofs.lemmas.Bool.{eqb-false}
-use Rattle.value.specs.Maybe.{Maybe, is, nothing}
+use Rattle.value.specs.Maybe.{is, nothing}
 use Rattle.value.proofs.Laws.Maybes.{is_inj, missing}
-use Rattle.value.proofs.Laws.Tests.{by_test, never}
+use Rattle.value.proofs.Laws.Tests.{by_test}
 use Rattle.allotments.specs.Bench.{first_from}
 
 module _ (test : ℕ → Bool) where

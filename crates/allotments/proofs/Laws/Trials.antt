@@ -1,7 +1,6 @@
 -- An allotment's run, step by step: a step of a finished thread is left out, and it blocks where a step blocks.
-use Rattle.std.specs.Prelude.{ℕ, zero, suc, ◌+◌, ◌≡◌, refl, List, [], ◌∷◌, ◌++◌, Bool, true, false, length, replicate}
+use Rattle.std.specs.Prelude.{ℕ, zero, suc, ◌≡◌, refl, List, [], ◌∷◌, ◌++◌, Bool, true, false, replicate}
 use Rattle.std.proofs.Common.{sym, ap, ◌∙◌}
-use Rattle.value.specs.Maybe.{Maybe, is, nothing}
 use Rattle.value.specs.Try.{Try, has, lacks}
 use Rattle.value.specs.Lists.{at}
 use Rattle.value.proofs.Laws.Tests.{by_test, never}

@@ -1,17 +1,16 @@
 -- An atomic block in one go is the block step by step.
-use Rattle.std.specs.Prelude.{ℕ, zero, suc, ◌+◌, ◌≤◌, ◌≡◌, refl, List, [], ◌∷◌, ◌++◌, Bool, true, false}
+use Rattle.std.specs.Prelude.{ℕ, zero, suc, ◌+◌, ◌≤◌, ◌≡◌, refl, List, [], ◌∷◌, ◌++◌, true, false}
 use Rattle.std.proofs.Common.{arith, sym, ap, ◌∙◌, append-nil, append_assoc}
 use Rattle.value.specs.Maybe.{pick}
 use Rattle.value.specs.Try.{Try, has, lacks, ◌⟫◌}
 use Rattle.value.proofs.Laws.Tries.{chain_same}
 use Rattle.value.proofs.Laws.Tests.{both_passed, never}
-use Rattle.format.specs.Syntax.{Expr, local, Instr, assign, write, read, while, if, call, atomic, select, Block, end, step, ◌⊕◌, Proc}
+use Rattle.format.specs.Syntax.{local, Instr, assign, write, read, while, if, call, atomic, select, Block, end, step, ◌⊕◌, Proc}
 use Rattle.format.specs.Rules.{allowed, allowed_i}
 use Rattle.format.proofs.Laws.Joined.{allowed_append}
 use Rattle.semantics.specs.Memory.{Env, bound, eval, index, Memory, cell, stored, Event}
 use Rattle.value.specs.Values.{number, place, truth}
-use Rattle.semantics.specs.Step.{Moved, instr}
-use Rattle.semantics.specs.Threads.{Atomic, size_i, size, to_end, first_instr}
+use Rattle.semantics.specs.Threads.{Atomic, size_i, size, to_end}
 use Rattle.atomic.specs.Acts.{within, act_i, act}
 
 -- links of a chain may be grouped in any way
@@ -75,7 +74,9 @@ module _ (procs : List (Proc ℕ)) (t label m : ℕ) where
   acts (suc n) (step l (if e b d) c) h k ρ η evs =
       let ok = both_passed (allowed_i (within m) (if e b d)) (allowed (within m) c) k in
       let two = both_passed (allowed (within m) b) (allowed (within m) d) ok.0 in
-      chain_both (eval ρ e ⟫ truth) _ _ _ _ (λ q. rw (append-nil evs) (elim q [
+      chain_both (eval ρ e ⟫ truth) _ _ _ _ (λ q. rw (append-nil evs) (elim q as (λ q.
+      to_end procs t label n (record { proc = m; env = ρ; code = pick q b d ⊕ c } ∷ []) η evs
+      ≡ (elim q as (λ _. Try Atomic) [ true ↦ act t label b (from ρ η evs) | false ↦ act t label d (from ρ η evs) ] ⟫ act t label c)) [
         | true ↦
             acts n (b ⊕ c) (omega (arith, size_join b c)) (allowed_append (within m) b c two.0 ok.1) ρ η evs ∙ act_join t label b c (from ρ η evs)
         | false ↦
@@ -119,7 +120,9 @@ module _ (t label : ℕ) (evs : List Event) where
         link (index z) _ _ λ i.
         link (cell a.memory l i) _ _ λ u.
         rw (append_assoc evs a.events _)
-    later_i (if e b d) a = link (eval a.env e ⟫ truth) _ _ λ q. elim q [ true ↦ act_later b a | false ↦ act_later d a ]
+    later_i (if e b d) a = link (eval a.env e ⟫ truth) _ _ λ q. elim q as (λ q.
+        elim q as (λ _. Try Atomic) [ true ↦ act t label b (later evs a) | false ↦ act t label d (later evs a) ]
+        ≡ Later (elim q as (λ _. Try Atomic) [ true ↦ act t label b a | false ↦ act t label d a ])) [ true ↦ act_later b a | false ↦ act_later d a ]
     later_i (while e b) a = refl
     later_i (call m es) a = refl
     later_i (atomic b) a = refl

@@ -1,5 +1,5 @@
 -- The step that is decided for an instruction inside an atomic block is what the instruction does.
-use Rattle.std.specs.Prelude.{ℕ, ◌+◌, ◌≤◌, ◌<◌, ◌≡◌, refl, List, [], ◌∷◌, Bool, true, false, length, ltb}
+use Rattle.std.specs.Prelude.{ℕ, ◌+◌, ◌<◌, ◌≡◌, refl, List, [], Bool, true, false, length, ltb}
 use Rattle.std.proofs.Common.{arith, sym, ap, subst, ◌∙◌, ltb-true}
 use Rattle.value.specs.Maybe.{is, both}
 use Rattle.value.specs.Try.{Try, has, lacks, ◌⟫◌}

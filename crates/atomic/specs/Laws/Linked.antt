@@ -7,7 +7,7 @@ use Rattle.value.specs.Maybe.{is, either}
 use Rattle.value.specs.Lists.{at}
 use Rattle.value.proofs.Laws.Tests.{either_passed, either_failed, never, by_test}
 use Rattle.value.proofs.Laws.Lists.{In, Each, member, at_below}
-use Rattle.format.specs.Syntax.{end, Proc, Program, Plain, concurrent}
+use Rattle.format.specs.Syntax.{Proc, Program, Plain, concurrent}
 use Rattle.format.specs.Labels.{count, labels, labelled}
 use Rattle.format.specs.Rules.{callees_of}
 use Rattle.format.proofs.Laws.Calls.{Reaches, direct, onward, Distinct, distinct_below}

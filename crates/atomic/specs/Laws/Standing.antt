@@ -1,13 +1,13 @@
 -- The code that remains in a frame stands in the table: what is at the place of its label, by the byte there, and what the rules
 -- say of it.
-use Rattle.std.specs.Prelude.{ℕ, zero, suc, ◌+◌, ◌*◌, ◌-◌, ◌≤◌, ◌≡◌, refl, List, [], ◌∷◌, ◌++◌, Bool, true, length, get_or}
+use Rattle.std.specs.Prelude.{ℕ, zero, suc, ◌+◌, ◌*◌, ◌-◌, ◌≤◌, ◌≡◌, refl, List, [], ◌∷◌, true, length, get_or}
 use Rattle.std.proofs.Common.{arith, sym, ap, ap₂, subst, ◌∙◌}
 use Rattle.value.specs.Maybe.{is, both}
 use Rattle.value.specs.Lists.{at}
 use Rattle.value.proofs.Laws.Maybes.{is_inj, missing}
 use Rattle.value.proofs.Laws.Tests.{both_passed}
-use Rattle.value.proofs.Laws.Lists.{Each, each_at, In, in_front, in_back}
-use Rattle.format.specs.Syntax.{Expr, Instr, assign, write, read, while, if, call, atomic}
+use Rattle.value.proofs.Laws.Lists.{each_at, In, in_front, in_back}
+use Rattle.format.specs.Syntax.{Instr, assign, write, read, while, if, call, atomic}
 use Rattle.format.specs.Syntax.{select, Block, end, step, ◌⊕◌, Proc, Program, Plain, concurrent}
 use Rattle.format.specs.Encode.{instr, block, each, bodies_of, table}
 use Rattle.format.specs.Labels.{count, count_i, tag, tag_i, label, label_i, labels, labelled, first, ends_of}

@@ -1,24 +1,20 @@
 -- A step of one thread leaves the stacks of the others, and of its own stack the frames below the top.
-use Rattle.std.specs.Prelude.{ℕ, zero, suc, ◌+◌, ◌*◌, ◌-◌, ◌≤◌, ◌<◌, ◌≡◌, refl, List, [], ◌∷◌, ◌++◌, map, true, false, length, get_or, set, replicate, eqb, ltb}
-use Rattle.std.proofs.Common.{arith, sym, ap, subst, ◌∙◌, length-set, length-append, get_or-set_same, get_or-set_other, eqb-true, ltb-true, ltb-false}
-use Rattle.std.proofs.lemmas.List.{length-map, length-replicate}
+use Rattle.std.specs.Prelude.{ℕ, zero, suc, ◌+◌, ◌*◌, ◌≤◌, ◌<◌, ◌≡◌, List, [], ◌∷◌, length, get_or, set, eqb, ltb}
+use Rattle.std.proofs.Common.{arith, sym, ap, subst, ◌∙◌, length-set, get_or-set_same, get_or-set_other, eqb-true, ltb-true, ltb-false}
 use Rattle.std.proofs.lemmas.Bool.{eqb-false}
-use Rattle.value.specs.Maybe.{is, nothing}
+use Rattle.value.specs.Maybe.{is}
 use Rattle.value.specs.Lists.{at}
-use Rattle.value.specs.declared.Value.{Value}
 use Rattle.value.proofs.Laws.Maybes.{is_inj, missing}
 use Rattle.value.proofs.Laws.Tests.{by_test}
 use Rattle.value.proofs.Laws.Lists.{In, at_set_same, at_set_other, at_below}
-use Rattle.format.specs.Syntax.{Block, Proc, Program, Plain, concurrent}
-use Rattle.format.specs.Labels.{count, labels, labelled, first, ends_of, body_of, begins}
+use Rattle.format.specs.Syntax.{Proc, Program, Plain, concurrent}
+use Rattle.format.specs.Labels.{labels, labelled}
 use Rattle.format.specs.Rules.{callees_of, max_locals}
 use Rattle.format.proofs.Laws.Procs.{ProcSound, proc_sound}
 use Rattle.format.proofs.Laws.Sound.{Sound}
-use Rattle.labels.specs.Laws.Spots.{Remains, remains_body}
-use Rattle.semantics.specs.Memory.{Env}
-use Rattle.semantics.specs.Step.{Frame, Stack, entered}
-use Rattle.engine.specs.Work.{frame_words, Beside, Framed}
-use Rattle.atomic.specs.Threaded.{most_frames, thread_frames, most_threads, FrameAt, FramesAt, Link, Linked, ThreadAt, Threaded, all_frames}
+use Rattle.semantics.specs.Step.{Frame, Stack}
+use Rattle.engine.specs.Work.{frame_words, Beside}
+use Rattle.atomic.specs.Threaded.{most_frames, thread_frames, most_threads, FrameAt, FramesAt, ThreadAt, Threaded, all_frames}
 use Rattle.engine.specs.Laws.Work.{beside_same, beside_set}
 use Rattle.atomic.specs.Laws.Standing.{Labelled, labelled_at}
 use Rattle.atomic.specs.Laws.Linked.{remains_proc, few_frames}

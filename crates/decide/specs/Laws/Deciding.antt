@@ -15,7 +15,7 @@ use Rattle.value.proofs.Laws.Tests.{by_test, both_passed}
 use Rattle.value.proofs.Laws.Lists.{Each, all_passed}
 use Rattle.basics.specs.Laws.Places.{number_at_lem}
 use Rattle.format.specs.Syntax.{Expr, constant, local, one, two, Instr, assign, write, read}
-use Rattle.format.specs.Syntax.{while, if, call, atomic, select, Block, step, Proc, Program}
+use Rattle.format.specs.Syntax.{while, if, call, atomic, select, Block, Proc, Program}
 use Rattle.format.specs.Encode.{each, expr, instr, block}
 use Rattle.format.specs.Rules.{in_expr, takes, named_i}
 use Rattle.format.proofs.Laws.Fits.{SaysI}

@@ -1,5 +1,5 @@
 -- Memory in words: each cell by its number, stores, fresh memory, and the bytes of all cells.
-use Rattle.std.specs.Prelude.{ℕ, zero, suc, ◌+◌, ◌-◌, ◌^◌, ◌≤◌, ◌<◌, ◌≡◌, refl, List, [], ◌∷◌, ◌++◌, length, get_or, take, set, replicate, pos, eqb}
+use Rattle.std.specs.Prelude.{ℕ, zero, suc, ◌+◌, ◌^◌, ◌≤◌, ◌<◌, ◌≡◌, refl, List, [], ◌∷◌, ◌++◌, length, get_or, take, set, replicate, pos, eqb}
 use Rattle.std.proofs.Common.{arith, sym, ap, ◌∙◌, length-append, length-set, get_or-set_same, get_or-set_other, eqb-true}
 use Rattle.std.proofs.lemmas.List.{length-replicate, get_or-replicate, replicate-append-replicate, set-append_left}
 use Rattle.std.proofs.lemmas.Bool.{eqb-false}
@@ -11,7 +11,6 @@ use Rattle.value.specs.declared.Value.TheVariants.{Whole}
 use Rattle.value.specs.declared.Reason.TheVariants.{WrongKind, IndexOutside}
 use Rattle.value.proofs.Laws.Tests.{by_test}
 use Rattle.value.proofs.Laws.Lists.{at_set_same, at_set_other, at_replicate, at_after, at_get_d}
-use Rattle.format.specs.Encode.{each}
 use Rattle.semantics.specs.Memory.{Memory, cell, stored, fresh}
 use Rattle.engine.specs.Words.{held, value_in}
 use Rattle.engine.specs.Work.{Puts, flat, Holds, IsCell}

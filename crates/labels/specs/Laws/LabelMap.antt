@@ -54,6 +54,7 @@ at_map f (x ∷ xs) (suc i) e = at_map f xs i e
 in_at : {A : Type 0} {x : A} (xs : List A) → In x xs → (i : ℕ) × (at xs i ≡ is x)
 in_at (x ∷ xs) Lists.here = (0, refl)
 in_at (y ∷ xs) (Lists.there p) = let q = in_at xs p in (suc q.0, q.1)
+in_at {A = A} [] x'' = elim x'' [ ]
 
 -- what stands at a place is a member
 at_in : {A : Type 0} (xs : List A) (i : ℕ) {x : A} → at xs i ≡ is x → In x xs

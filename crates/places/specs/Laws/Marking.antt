@@ -153,6 +153,7 @@ module _ (q : ℕ) where
   marking_called {c} (d ∷ cs) marks (there i) l room = by_test (ltb d (limits concurrent).procs)
       (λ e. rw e (marking_called cs (set marks (spot q d) 1) i l (omega (arith, room, length-set marks (spot q d) 1))))
       (λ e. rw e (marking_called cs marks i l room))
+  marking_called {c = c} [] marks x3 l room = elim x3 [ ]
 
   -- and nothing else
   marking_only : {G : Type 0} (cs marks : List ℕ) (i : ℕ) → get_or (marking q cs marks) i 0 ≢ 0

@@ -1,5 +1,5 @@
 -- Rule 7: procedures from which each row of calls comes to an end, as the search finds them out.
-use Rattle.std.specs.Prelude.{ℕ, zero, suc, ◌+◌, ◌-◌, ◌<◌, ◌≡◌, refl, List, [], ◌∷◌, ◌++◌, length, get_or}
+use Rattle.std.specs.Prelude.{ℕ, zero, suc, ◌+◌, ◌<◌, ◌≡◌, refl, List, [], ◌∷◌, ◌++◌, length, get_or}
 use Rattle.std.proofs.Common.{arith, sym, ap, subst, ◌∙◌, append_assoc}
 use Rattle.value.proofs.Laws.Lists.{In, here, there, in_front, in_back, in_either, each_in, Each, each_append, at_below}
 use Rattle.scan.specs.declared.tokens.Token.{Token}

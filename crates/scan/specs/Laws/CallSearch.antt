@@ -6,7 +6,6 @@ use Rattle.std.proofs.lemmas.Bool.{eqb-false}
 use Rattle.std.specs.Int.{w64}
 use Rattle.value.specs.Maybe.{pick}
 use Rattle.value.proofs.Laws.Tests.{by_test}
-use Rattle.value.proofs.Laws.Lists.{here}
 use Rattle.scan.specs.declared.tokens.Token.{Token}
 use Rattle.scan.specs.declared.tokens.Token.TheVariants as T
 use Rattle.format.specs.Syntax.{sequential}

@@ -223,7 +223,7 @@ all_rows_lem : {t : List ℕ} (i : ℕ) {j : ℕ} (ps : List (Proc Plain)) → E
 all_rows_lem {t} i [] f s = subst (λ (j : ℕ). Row t i [] j) (omega (arith, s.ends)) done
 all_rows_lem i (p ∷ ps) f s =
     row_append (row p.body f.0.1 (front (block p.body) (each block (bodies_of ps)) s))
-    (all_rows_lem _ ps f.1 (back (block p.body) (each block (bodies_of ps)) s))
+    (all_rows_lem (i + length (block p.body)) ps f.1 (back (block p.body) (each block (bodies_of ps)) s))
 
 -- ---- one token
 

@@ -7,8 +7,8 @@ use Rattle.value.specs.Lists.{at, all}
 use Rattle.value.proofs.Laws.Tests.{by_test}
 use Rattle.value.proofs.Laws.Maybes.{is_inj, missing}
 use Rattle.value.proofs.Laws.Lists.{each_at, at_get_d}
-use Rattle.format.specs.Syntax.{end, Proc, Program, Plain, Kind, concurrent, sequential}
-use Rattle.format.specs.Encode.{each, block, bodies_of, table, record_size}
+use Rattle.format.specs.Syntax.{end, Proc, Program, Plain, Kind, sequential}
+use Rattle.format.specs.Encode.{each, block, bodies_of, record_size}
 use Rattle.scan.specs.Tokens.{four_at, tokens}
 use Rattle.format.proofs.Laws.Fits.{BlockFits}
 use Rattle.format.proofs.Laws.Formed.{Formed}

@@ -195,10 +195,10 @@ row_e (constant (Location l)) f s = last_token 0x02 (bytes 2 l) refl s (ap T.Loc
 row_e (constant (Truth false)) f s = last_token 0x03 [] refl s refl
 row_e (constant (Truth true)) f s = last_token 0x04 [] refl s refl
 row_e (local x) f s = last_token 0x05 (x ∷ []) refl s (ap T.Local (first (others s)))
-row_e {t} {i} (one o a) f s = token (mark₁ o) [] (plain₁ o t i).0 (E.expr a) s (plain₁ o t i).1 (row_e a f)
+row_e {t} {i} (one o a) f s = token (mark₁ o) [] (plain₁ o t i).0 (E.expr a) s (plain₁ o t i).1 (row_e {i = i + 1} a f)
 row_e {t} {i} (two o a b) f s =
     token (mark₂ o) [] (plain₂ o t i).0 (E.expr a ++ E.expr b) s (plain₂ o t i).1 λ u.
-    row_append (row_e a f.0 (front (E.expr a) (E.expr b) u)) (row_e b f.1 (back (E.expr a) (E.expr b) u))
+    row_append (row_e {i = i + 1} a f.0 (front (E.expr a) (E.expr b) u)) (row_e {i = i + 1 + length (E.expr a)} b f.1 (back (E.expr a) (E.expr b) u))
 
 -- two of them
 row_e₂ : {t : List ℕ} {i j : ℕ} (a b : Expr) → NumbersFit a → NumbersFit b → Stands t i (E.expr a ++ E.expr b) j → Row t i (tokens_e a ++ tokens_e b) j
@@ -207,7 +207,8 @@ row_e₂ a b f g u = row_append (row_e a f (front (E.expr a) (E.expr b) u)) (row
 -- several
 row_es : {t : List ℕ} {i j : ℕ} (es : List Expr) → Each (ExprFits max_depth) es → Stands t i (each E.expr es) j → Row t i (tokens_es es) j
 row_es {t} {i} [] f s = subst (λ (j : ℕ). Row t i [] j) (omega (arith, s.ends)) done
-row_es (e ∷ es) f s = row_append (row_e e f.0.1 (front (E.expr e) (each E.expr es) s)) (row_es es f.1 (back (E.expr e) (each E.expr es) s))
+row_es {t} {i} (e ∷ es) f s =
+    row_append (row_e e f.0.1 (front (E.expr e) (each E.expr es) s)) (row_es {i = i + length (E.expr e)} es f.1 (back (E.expr e) (each E.expr es) s))
 
 mutual
   -- an instruction

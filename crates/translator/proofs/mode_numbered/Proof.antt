@@ -1,5 +1,4 @@
 -- `translator::mode_numbered` meets its contract.
-use borrow.Author.Rules.{rules}
 use Prim.Native.Nat.{ℕ, zero, suc}
 use mathlib.Core.Path.{◌≡◌, refl}
 use Rattle.translation.specs.declared.Mode.TheVariants.{Own, Shared}

@@ -1,0 +1,7 @@
+-- `translator::table::put_middle` meets its contract.
+use Rattle.translator.proofs.Tabling.{table_ways}
+use Rattle.translator.proofs.table.put_middle.Goals as goal
+
+-- src/table.rt:103:1
+pub returns : goal.returns
+returns c = search table_ways

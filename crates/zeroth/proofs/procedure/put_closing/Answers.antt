@@ -1,0 +1,7 @@
+-- `zeroth::procedure::put_closing` meets its contract.
+use Rattle.zeroth.proofs.Rounding.{round_ways}
+use Rattle.zeroth.proofs.procedure.put_closing.Goals as goal
+
+-- src/procedure.rt:175:1
+pub returns : goal.returns
+returns c = search round_ways

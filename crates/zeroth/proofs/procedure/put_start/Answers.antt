@@ -1,0 +1,7 @@
+-- `zeroth::procedure::put_start` meets its contract.
+use Rattle.zeroth.proofs.Rounding.{round_ways}
+use Rattle.zeroth.proofs.procedure.put_start.Goals as goal
+
+-- src/procedure.rt:226:1
+pub returns : goal.returns
+returns c = search round_ways
