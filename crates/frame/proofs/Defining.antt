@@ -1,13 +1,13 @@
 -- One law for each way to set declarations and definitions.
-use Prim.Native.Nat.{ℕ, zero, suc, ◌+◌, ◌*◌, ◌-◌, ◌≤◌, ◌<◌}
+use Prim.Native.Nat.{ℕ, suc, ◌+◌, ◌*◌, ◌-◌, ◌≤◌, ◌<◌}
 use native.Mathlib.Omega.{arith}
 use native.Mathlib.Numerals.{add-one}
-use mathlib.Core.Path.{◌≡◌, refl, sym, ap, ap₂, subst, ◌∙◌}
+use mathlib.Core.Path.{◌≡◌, refl, ◌∙◌}
 use mathlib.Core.List.{List, [], ◌∷◌, ◌++◌, append_assoc}
 use lib.ListN.{length, get_or, drop, drop_of_length-le}
 use lib.Seq.{drop-cons}
 use Rattle.value.specs.Lists.{upto}
-use Rattle.value.proofs.Laws.Lists.{Each, at_get_d}
+use Rattle.value.proofs.Laws.Lists.{at_get_d}
 use Rattle.format.specs.Syntax.{Block, end, Proc, Plain}
 use Rattle.format.specs.Encode.{each, bodies_of}
 use Rattle.format.specs.Encode as E
@@ -16,7 +16,6 @@ use Rattle.format.proofs.Laws.Grammar.{BlockAt}
 use Rattle.format.proofs.Laws.Stands.{front, back}
 use Rattle.ctext.specs.Pieces.{say, decimal}
 use Rattle.ctext.specs.Text.{numbered, head, argument, unset, block, declaration, definition}
-use Rattle.ctext.proofs.Laws.LineText.{Flat}
 use Rattle.typeset.specs.Page.{Put, Onto}
 use Rattle.typeset.proofs.Setting.{put_then, put_same, onto_start, onto_next, onto_end}
 use Rattle.phrases.specs.declared.exprs.Shown.{Shown}

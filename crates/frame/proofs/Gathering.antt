@@ -1,20 +1,17 @@
 -- The whole text, of its parts.
-use Prim.Native.Nat.{ℕ, zero, suc, ◌+◌, ◌*◌, ◌-◌, ◌^◌, ◌≤◌, ◌<◌}
+use Prim.Native.Nat.{ℕ, ◌+◌, ◌*◌, ◌-◌}
 use native.Mathlib.Omega.{arith}
-use mathlib.Core.Path.{◌≡◌, refl, sym, ap, subst, ◌∙◌}
-use mathlib.Core.List.{List, [], ◌∷◌, ◌++◌, append_assoc}
-use lib.ListN.{length, get_or}
-use Rattle.value.specs.Maybe.{is}
-use Rattle.value.specs.Lists.{at}
+use mathlib.Core.Path.{◌≡◌, refl, sym, ◌∙◌}
+use mathlib.Core.List.{List, ◌++◌, append_assoc}
+use lib.ListN.{length}
 use Rattle.value.proofs.Laws.Lists.{Each, each_so, each_at}
-use Rattle.format.specs.Syntax.{Proc, Program, Plain, sequential}
-use Rattle.format.specs.Encode.{table, record_size, trailer_size}
-use Rattle.format.specs.Rules.{limits, max_size}
+use Rattle.format.specs.Syntax.{Program, Plain, sequential}
+use Rattle.format.specs.Encode.{table}
+use Rattle.format.specs.Rules.{max_size}
 use Rattle.format.proofs.Laws.Sound.{Within, Sound}
 use Rattle.format.proofs.Laws.Stands.{first, others}
 use Rattle.format.proofs.Laws.Stands as Stands
 use Rattle.format.proofs.Laws.TablePlaces.{records_at, all_bodies, record_stands, size_stands, trailer_at}
-use Rattle.basics.specs.Places.{number_at}
 use Rattle.basics.specs.Laws.Places.{number_at_lem}
 use Rattle.ctext.specs.Pieces.{say}
 use Rattle.ctext.specs.Prelude.{prelude}

@@ -1,5 +1,5 @@
 -- What is promised of the parts of a text, and of the whole: for whatever program the table is.
-use Rattle.std.specs.Prelude.{ℕ, ◌+◌, ◌*◌, ◌-◌, ◌≤◌, ◌≡◌, List, [], ◌∷◌, ◌++◌, length, get_or, drop}
+use Rattle.std.specs.Prelude.{ℕ, ◌+◌, ◌*◌, ◌-◌, ◌≡◌, List, [], ◌∷◌, ◌++◌, length, get_or, drop}
 use Rattle.value.specs.Maybe.{is}
 use Rattle.value.specs.Lists.{at, upto}
 use Rattle.value.proofs.Laws.Lists.{Each}

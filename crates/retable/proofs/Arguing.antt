@@ -1,14 +1,13 @@
 -- One law for each way through the parser of lines that hold no block.
-use Prim.Native.Nat.{ℕ, zero, suc, ◌+◌, ◌-◌, ◌%◌, ◌^◌, ◌≤◌, ◌<◌}
+use Prim.Native.Nat.{ℕ, suc, ◌+◌, ◌%◌, ◌^◌, ◌≤◌, ◌<◌}
 use native.Mathlib.Omega.{arith}
 use native.Mathlib.Nat.{add-zero}
 use mathlib.Core.Path.{◌≡◌, refl, sym, ap, subst, ◌∙◌}
-use mathlib.Core.List.{List, [], ◌∷◌, ◌++◌}
-use lib.ListN.{length, get_or, set, length-set}
+use mathlib.Core.List.{List, [], ◌∷◌}
+use lib.ListN.{length, get_or, set}
 use lib.Seq.{sets, set-set, set_comm}
 use Rattle.value.specs.Values.{bytes}
-use Rattle.basics.specs.Sizes.{too_long}
-use Rattle.format.specs.Syntax.{Expr, Instr, Plain, assign, read, write, call, select}
+use Rattle.format.specs.Syntax.{Expr, Instr, Plain}
 use Rattle.format.specs.Encode.{expr, each, instr}
 use Rattle.format.specs.Decode.{max_depth}
 use Rattle.ctext.proofs.Laws.ExprText.{ExprText, moved}

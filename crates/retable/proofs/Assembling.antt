@@ -1,19 +1,18 @@
 -- One law for each way through the parser of a whole text.
-use Prim.Native.Nat.{ℕ, zero, suc, ◌+◌, ◌*◌, ◌-◌, ◌%◌, ◌^◌, ◌≤◌, ◌<◌}
+use Prim.Native.Nat.{ℕ, suc, ◌+◌, ◌*◌, ◌-◌, ◌%◌, ◌≤◌, ◌<◌}
 use native.Mathlib.Omega.{arith}
 use mathlib.Core.Path.{◌≡◌, refl, sym, ap, subst, ◌∙◌}
-use mathlib.Core.List.{List, [], ◌∷◌, ◌++◌, append_assoc, append-nil}
+use mathlib.Core.List.{List, [], ◌∷◌, ◌++◌, append-nil}
 use lib.ListN.{length, take, drop, replicate, length-append, length-replicate}
-use lib.Seq.{sets, sets-eq, slice, slice_empty}
+use lib.Seq.{sets-eq, slice, slice_empty}
 use Rattle.value.specs.Values.{bytes}
 use Rattle.value.proofs.Laws.Lists.{Each, each_so}
 use Rattle.format.specs.Syntax.{Proc, Program, Plain, sequential}
-use Rattle.format.specs.Encode.{block, each, Head, head, heads, bodies_of, middle, middle_of, front, trailer, trailer_of, distance, table, form_mark, kind_mark, record_size, trailer_size}
+use Rattle.format.specs.Encode.{block, each, head, heads, bodies_of, middle, middle_of, front, trailer, trailer_of, distance, table, form_mark, kind_mark, record_size}
 use Rattle.format.specs.Rules.{limits}
 use Rattle.format.proofs.Laws.Sound.{Sound}
 use Rattle.format.proofs.Laws.Stands.{Stands, stands_at, in_take}
 use Rattle.basics.specs.Sizes.{too_long}
-use Rattle.ctext.specs.Prelude.{prelude}
 use Rattle.ctext.proofs.Worked.{prelude_long}
 use Rattle.ctext.specs.Text.{text}
 use Rattle.ctext.proofs.Laws.FrameText.{LocationsText}

@@ -1,40 +1,29 @@
 -- One law for each way through the parser of lines around the bodies.
-use Prim.Native.Nat.{ℕ, zero, suc, ◌+◌, ◌*◌, ◌-◌, ◌^◌, ◌≤◌, ◌<◌}
+use Prim.Native.Nat.{ℕ, suc, ◌+◌, ◌-◌, ◌^◌, ◌≤◌, ◌<◌}
 use native.Mathlib.Omega.{arith}
 use native.Mathlib.Nat.{add-zero}
 use mathlib.Core.Path.{◌≡◌, refl, sym, ap, subst, ◌∙◌}
 use mathlib.Core.List.{List, [], ◌∷◌, ◌++◌}
-use mathlib.Core.Bool.{Bool, true, false}
 use lib.ListN.{length, get_or}
-use lib.Dec.{eqb}
-use borrow.Author.Tests.{ne_eqb}
 use Rattle.value.specs.Values.{bytes}
-use Rattle.value.specs.Lists.{upto}
 use Rattle.value.proofs.Laws.Lists.{Each}
-use Rattle.format.specs.Syntax.{Proc, Plain, sequential}
+use Rattle.format.specs.Syntax.{sequential}
 use Rattle.format.specs.Encode.{each}
 use Rattle.format.specs.Rules.{limits}
-use Rattle.format.proofs.Laws.Stands.{Stands, first, others, front, back}
+use Rattle.format.proofs.Laws.Stands.{Stands, front, back}
 use Rattle.ctext.specs.Pieces.{say, decimal}
-use Rattle.ctext.specs.Text.{var, numbered, area, argument, unset, declaration, params}
+use Rattle.ctext.specs.Text.{numbered, area}
 use Rattle.ctext.proofs.Laws.Numbers.{Digit}
 use Rattle.ctext.proofs.Laws.ExprText.{behind, shift}
-use Rattle.ctext.proofs.Laws.ArgText.{NumberText, take_number}
-use Rattle.ctext.proofs.Laws.FrameText.{LocationsText, LocationIn, locations_next, locations_end, ParamsText, MoreParams, params_more, params_none, params_some}
-use Rattle.ctext.proofs.Laws.FrameText.{more_params_none, more_params_some, more_next, DeclarationsText, declaration_parts, head_parts}
-use Rattle.ctext.proofs.Laws.DefinitionText.{UnsetsText, unsetting, unsets_end, unsets_next, unset_after, DefinitionIn}
-use Rattle.writer.specs.Laws.Put.{Put}
+use Rattle.ctext.proofs.Laws.ArgText.{take_number}
+use Rattle.ctext.proofs.Laws.FrameText.{LocationsText, LocationIn, locations_next, locations_end}
 use Rattle.writer.proofs.Puts.{put_then, put_none}
 use Rattle.retable.specs.Laws.Pieces.{Skips, ReadsNumber}
-use Rattle.retable.specs.Laws.Exprs.{Parses, ParsesTwo}
-use Rattle.retable.specs.Laws.Frames.{SkipsTwo, ParsesLocation, Sized, ParsesSizes, SkipsAreas, Counts, CountsMore, CountsParams, CountsHead}
-use Rattle.retable.specs.Laws.Frames.{Declares, Few, SkipsDeclarations, SkipsArgs, CountsUnsets, Counting, CountsLocals}
+use Rattle.retable.specs.Laws.Exprs.{ParsesTwo}
+use Rattle.retable.specs.Laws.Frames.{SkipsTwo, ParsesLocation, Sized, ParsesSizes, SkipsAreas}
 use Rattle.retable.specs.declared.pieces.Numbered.{Numbered}
 use Rattle.retable.specs.declared.exprs.Parsed.{Parsed}
 use Rattle.retable.specs.declared.frames.Sizes.{Sizes}
-use Rattle.retable.specs.declared.frames.Counted.{Counted}
-use Rattle.retable.specs.declared.frames.Declared.{Declared}
-use Rattle.retable.specs.declared.frames.Locals.{Locals}
 use Rattle.retable.proofs.Arguing.{hop, number_from, number_is, two_at_lem}
 
 -- the first byte

@@ -1,22 +1,21 @@
 -- One law for each way through the parser of heads and of lines for locals.
-use Prim.Native.Nat.{ℕ, zero, suc, ◌+◌, ◌*◌, ◌-◌, ◌^◌, ◌≤◌, ◌<◌}
+use Prim.Native.Nat.{ℕ, zero, suc, ◌+◌, ◌-◌, ◌^◌, ◌≤◌, ◌<◌}
 use native.Mathlib.Omega.{arith}
 use native.Mathlib.Nat.{add-zero}
-use mathlib.Core.Path.{◌≡◌, refl, sym, ap, subst, ◌∙◌}
+use mathlib.Core.Path.{◌≡◌, refl, sym, subst, ◌∙◌}
 use mathlib.Core.List.{List, [], ◌∷◌, ◌++◌}
 use mathlib.Core.Bool.{Bool, true, false}
 use mathlib.Core.Bool as B
 use lib.ListN.{length, get_or}
 use lib.Dec.{eqb}
 use borrow.Author.Tests.{ne_eqb}
-use Rattle.value.specs.Maybe.{both}
 use Rattle.value.specs.Lists.{upto}
 use Rattle.value.proofs.Laws.Lists.{Each}
 use Rattle.value.proofs.Laws.Tests.{never}
 use Rattle.format.specs.Syntax.{Proc, Plain, sequential}
 use Rattle.format.specs.Encode.{each}
 use Rattle.format.specs.Rules.{limits}
-use Rattle.format.proofs.Laws.Stands.{Stands, first, others, front, back}
+use Rattle.format.proofs.Laws.Stands.{Stands, first, front, back}
 use Rattle.ctext.specs.Pieces.{say, decimal}
 use Rattle.ctext.specs.Text.{numbered, argument, unset, declaration}
 use Rattle.ctext.proofs.Laws.Numbers.{Digit}
@@ -31,7 +30,6 @@ use Rattle.retable.specs.Laws.Frames.{Declares, Few, SkipsDeclarations, SkipsArg
 use Rattle.retable.specs.declared.pieces.Numbered.{Numbered}
 use Rattle.retable.specs.declared.frames.Counted.{Counted}
 use Rattle.retable.specs.declared.frames.Declared.{Declared}
-use Rattle.retable.specs.declared.frames.Locals.{Locals}
 use Rattle.retable.proofs.Arguing.{hop, number_from, number_is}
 
 -- the first byte

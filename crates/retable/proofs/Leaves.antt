@@ -1,30 +1,30 @@
 -- One law for each way through the parser of expressions.
-use Prim.Native.Nat.{ℕ, zero, suc, ◌+◌, ◌-◌, ◌%◌, ◌^◌, ◌≤◌, ◌<◌}
+use Prim.Native.Nat.{ℕ, suc, ◌+◌, ◌-◌, ◌%◌, ◌^◌, ◌<◌}
 use native.Mathlib.Omega.{arith}
 use native.Mathlib.Nat.{add-zero}
-use mathlib.Core.Path.{◌≡◌, refl, sym, ap, subst, ◌∙◌}
-use mathlib.Core.List.{List, [], ◌∷◌, ◌++◌}
+use mathlib.Core.Path.{◌≡◌, sym, ap, subst, ◌∙◌}
+use mathlib.Core.List.{List, [], ◌∷◌}
 use mathlib.Core.Bool.{true, false}
-use lib.ListN.{length, get_or}
+use lib.ListN.{get_or}
 use lib.IntN.{ℤ, pos, negsuc}
 use lib.Signed.{mag}
 use borrow.Author.Tests.{eqb-true}
-use Rattle.value.specs.Values.{One, not, neg, Two, add, sub, mul, less, equal, and, bytes, word}
-use Rattle.value.specs.Marks.{Mark, whole_mark, location_mark, no_mark, yes_mark, local_mark, one_mark, two_mark, no_expr, mark_of, mark₁, mark₂}
+use Rattle.value.specs.Values.{not, neg, add, sub, mul, less, equal, and, bytes, word}
+use Rattle.value.specs.Marks.{Mark, whole_mark, location_mark, no_mark, yes_mark, local_mark, one_mark, two_mark, no_expr, mark_of}
 use Rattle.value.proofs.Laws.Marks.{marks?, mark_right}
-use Rattle.value.specs.declared.Value.TheVariants.{Whole, Location, Truth}
+use Rattle.value.specs.declared.Value.TheVariants.{Truth}
 use Rattle.basics.specs.Columns.{row_of, operands_of}
-use Rattle.format.specs.Syntax.{Expr, constant, local, one, two}
+use Rattle.format.specs.Syntax.{Expr, constant}
 use Rattle.format.specs.Encode.{expr}
 use Rattle.format.proofs.Laws.Stands.{Stands, first, others, inside}
 use Rattle.ctext.specs.Pieces.{decimal, whole}
 use Rattle.ctext.proofs.Laws.Numbers.{Stops, number_first}
-use Rattle.ctext.proofs.Laws.ExprText.{key_at, name_length, ExprText, WholeIn, LocationIn, LocalIn, OneIn, TwoIn}
-use Rattle.ctext.proofs.Laws.ExprText.{expr_deep, whole_in, location_in, no_in, yes_in, local_in, one_in, two_in, none_in}
+use Rattle.ctext.proofs.Laws.ExprText.{key_at, ExprText, WholeIn, LocationIn, LocalIn}
+use Rattle.ctext.proofs.Laws.ExprText.{whole_in, location_in, no_in, yes_in, local_in}
 use Rattle.writer.specs.Laws.Put.{Put}
-use Rattle.writer.proofs.Puts.{put_then, put_cons, put_same}
+use Rattle.writer.proofs.Puts.{put_cons, put_same}
 use Rattle.retable.specs.Laws.Pieces.{Skips, ReadsNumber}
-use Rattle.retable.specs.Laws.Exprs.{Parses, ParsesByte, ParsesTwo, ParsesWhole, ParsesLeaf, ParsesExpr}
+use Rattle.retable.specs.Laws.Exprs.{Parses, ParsesByte, ParsesTwo, ParsesWhole, ParsesLeaf}
 use Rattle.retable.specs.declared.pieces.Numbered.{Numbered}
 use Rattle.retable.specs.declared.exprs.Parsed.{Parsed}
 

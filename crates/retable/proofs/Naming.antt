@@ -1,13 +1,11 @@
 -- One law for each name of an expression.
 use Prim.Native.Nat.{ℕ, ◌+◌}
-use native.Mathlib.Omega.{arith}
 use native.Mathlib.Nat.{add-zero}
-use mathlib.Core.Path.{◌≡◌, refl, sym, ◌∙◌}
+use mathlib.Core.Path.{◌≡◌, sym, ◌∙◌}
 use mathlib.Core.List.{List}
 use lib.ListN.{get_or}
-use lib.Dec.{eqb}
 use borrow.Author.Tests.{ne_eqb}
-use Rattle.ctext.proofs.Laws.ExprText.{name_key, key_of, key_at, name_length}
+use Rattle.ctext.proofs.Laws.ExprText.{name_key, key_at, name_length}
 
 module _ (b c : ℕ) where
   -- z_num

@@ -1,5 +1,5 @@
 -- One law for each way through the parser of instructions and blocks.
-use Prim.Native.Nat.{ℕ, zero, suc, ◌+◌, ◌*◌, ◌-◌, ◌≤◌, ◌<◌}
+use Prim.Native.Nat.{ℕ, suc, ◌+◌, ◌*◌, ◌-◌, ◌≤◌}
 use native.Mathlib.Omega.{arith}
 use native.Mathlib.Nat.{add-zero}
 use mathlib.Core.Path.{◌≡◌, refl, sym, ap, subst, ◌∙◌}
@@ -8,14 +8,11 @@ use mathlib.Core.Bool.{Bool, true, false}
 use lib.ListN.{length, get_or, get_or-eq_default}
 use lib.Dec.{eqb}
 use borrow.Author.Tests.{ne_eqb}
-use Rattle.value.specs.Maybe.{both, either}
-use Rattle.value.proofs.Laws.Tests.{never}
-use Rattle.format.specs.Syntax.{Expr, Instr, Block, Plain, end, step, while, if}
+use Rattle.format.specs.Syntax.{Instr, Block, Plain}
 use Rattle.format.specs.Encode.{expr, instr, block}
 use Rattle.format.proofs.Laws.Blocks.{nesting_pos}
-use Rattle.format.proofs.Laws.Stands.{Stands}
-use Rattle.ctext.proofs.Laws.ExprText.{ExprText, moved}
-use Rattle.ctext.proofs.Laws.LineText.{ended, InstrText, BlockText, TargetIn, WhileIn, IfIn, WriteIn, CallIn, SelectIn}
+use Rattle.ctext.proofs.Laws.ExprText.{moved}
+use Rattle.ctext.proofs.Laws.LineText.{ended, InstrText, BlockText, WhileIn, IfIn}
 use Rattle.ctext.proofs.Laws.BlockText.{target_in, while_in, if_in, write_in, call_in_lem, select_in, StepIn, block_end, block_step}
 use Rattle.writer.specs.Laws.Put.{Put}
 use Rattle.writer.proofs.Puts.{put_then, put_cons}

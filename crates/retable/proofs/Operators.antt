@@ -1,13 +1,12 @@
 -- One law for each way through the parser of expressions with operators.
-use Prim.Native.Nat.{ℕ, zero, suc, ◌+◌, ◌-◌, ◌≤◌, ◌<◌}
+use Prim.Native.Nat.{ℕ, ◌+◌, ◌-◌}
 use native.Mathlib.Omega.{arith}
-use mathlib.Core.Path.{◌≡◌, refl, sym, ap, subst, ◌∙◌}
-use mathlib.Core.List.{List, [], ◌∷◌, ◌++◌}
-use lib.ListN.{length}
+use mathlib.Core.Path.{◌≡◌, refl, sym, ap, ◌∙◌}
+use mathlib.Core.List.{List, [], ◌∷◌}
 use Rattle.value.specs.Values.{One, not, neg, Two, add, sub, mul, less, equal, and}
-use Rattle.value.specs.Marks.{Mark, whole_mark, location_mark, no_mark, yes_mark, local_mark, one_mark, two_mark, no_expr, mark_of, mark₁, mark₂}
+use Rattle.value.specs.Marks.{Mark, whole_mark, location_mark, no_mark, yes_mark, local_mark, one_mark, two_mark, no_expr, mark_of}
 use Rattle.basics.specs.Columns.{row_of, operands_of}
-use Rattle.format.specs.Syntax.{Expr, one, two}
+use Rattle.format.specs.Syntax.{Expr}
 use Rattle.format.specs.Encode.{expr}
 use Rattle.ctext.proofs.Laws.ExprText.{key_at, name_length, ExprText, OneIn, TwoIn, moved, expr_deep, one_in, two_in, none_in}
 use Rattle.writer.specs.Laws.Put.{Put}

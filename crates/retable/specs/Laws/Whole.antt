@@ -1,15 +1,13 @@
 -- What is promised of definitions and of a whole text.
-use Rattle.std.specs.Prelude.{ℕ, ◌+◌, ◌≤◌, ◌≡◌, List, ◌∷◌, ◌++◌, length}
+use Rattle.std.specs.Prelude.{ℕ, ◌+◌, ◌≤◌, ◌≡◌, List, ◌++◌, length}
 use Rattle.value.specs.Values.{bytes}
 use Rattle.value.proofs.Laws.Lists.{Each}
 use Rattle.format.specs.Syntax.{Proc, Program, Plain, sequential}
 use Rattle.format.specs.Encode.{block, each, head, heads, bodies_of, trailer, distance, table, form_mark, kind_mark}
 use Rattle.format.proofs.Laws.Sound.{Sound}
 use Rattle.format.proofs.Laws.Stands.{Stands}
-use Rattle.format.specs.Rules.{limits}
 use Rattle.basics.specs.Sizes.{too_long}
 use Rattle.ctext.specs.Text.{text}
-use Rattle.ctext.proofs.Laws.FrameText.{LocationsText}
 use Rattle.ctext.proofs.Laws.DefinitionText.{DefinitionsText, DefinitionIn}
 use Rattle.writer.specs.Laws.Put.{Put}
 use Rattle.retable.specs.Laws.Frames.{Few}

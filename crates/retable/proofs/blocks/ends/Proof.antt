@@ -3,7 +3,6 @@ use borrow.Author.Rules.{rules}
 use Rattle.retable.proofs.Nesting.{test_ways}
 use Rattle.retable.proofs.blocks.ends.Statement.{statement}
 use Rattle.retable.proofs.blocks.ends.Tie as tie
-use Rattle.retable.proofs.pieces.peek.Reads as peek-reads
 
 pub ends_spec : {M : Type 1} → statement M
 ends_spec =

@@ -3,9 +3,6 @@ use borrow.Author.Rules.{rules}
 use Rattle.retable.proofs.Nesting.{test_ways}
 use Rattle.retable.proofs.blocks.parse_test.Statement.{statement}
 use Rattle.retable.proofs.blocks.parse_test.Tie as tie
-use Rattle.retable.proofs.exprs.parse_expr.Reads as parse-expr-reads
-use Rattle.retable.proofs.pieces.skip.Reads as skip-reads
-use Rattle.writer.proofs.bytes.put.Reads as put_reads
 
 pub parse_test_spec : {M : Type 1} → statement M
 parse_test_spec =

@@ -3,8 +3,6 @@ use borrow.Author.Rules.{rules}
 use Rattle.retable.proofs.Naming.{name_ways}
 use Rattle.retable.proofs.exprs.key_at.Statement.{statement}
 use Rattle.retable.proofs.exprs.key_at.Tie as tie
-use Rattle.retable.proofs.exprs.name_key.Reads as name-key-reads
-use Rattle.retable.proofs.pieces.peek.Reads as peek-reads
 
 pub key_at_spec : {M : Type 1} → statement M
 key_at_spec =

@@ -1,5 +1,4 @@
 -- `retable::exprs::name_key` meets its contract.
-use borrow.Author.Rules.{rules}
 use Rattle.retable.proofs.Naming.{name_ways}
 use Rattle.retable.proofs.exprs.name_key.Statement.{statement}
 use Rattle.retable.proofs.exprs.name_key.Tie as tie

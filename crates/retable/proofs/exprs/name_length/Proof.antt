@@ -1,5 +1,4 @@
 -- `retable::exprs::name_length` meets its contract.
-use borrow.Author.Rules.{rules}
 use Rattle.retable.proofs.Naming.{name_ways}
 use Rattle.retable.proofs.exprs.name_length.Statement.{statement}
 use Rattle.retable.proofs.exprs.name_length.Tie as tie

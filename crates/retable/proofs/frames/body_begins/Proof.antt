@@ -3,7 +3,6 @@ use borrow.Author.Rules.{rules}
 use Rattle.retable.proofs.Heading.{unsets_ways}
 use Rattle.retable.proofs.frames.body_begins.Statement.{statement}
 use Rattle.retable.proofs.frames.body_begins.Tie as tie
-use Rattle.retable.proofs.pieces.peek.Reads as peek-reads
 
 pub body_begins_spec : {M : Type 1} → statement M
 body_begins_spec = tie.close (tie.spec

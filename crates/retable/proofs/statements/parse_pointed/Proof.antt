@@ -3,9 +3,6 @@ use borrow.Author.Rules.{rules}
 use Rattle.retable.proofs.Arguing.{write_ways}
 use Rattle.retable.proofs.statements.parse_pointed.Statement.{statement}
 use Rattle.retable.proofs.statements.parse_pointed.Tie as tie
-use Rattle.retable.proofs.exprs.parse_byte.Reads as parse-byte-reads
-use Rattle.retable.proofs.exprs.parse_expr.Reads as parse-expr-reads
-use Rattle.retable.proofs.pieces.skip.Reads as skip-reads
 
 pub parse_pointed_spec : {M : Type 1} → statement M
 parse_pointed_spec =

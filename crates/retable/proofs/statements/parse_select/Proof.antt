@@ -3,9 +3,6 @@ use borrow.Author.Rules.{rules}
 use Rattle.retable.proofs.Arguing.{select_ways}
 use Rattle.retable.proofs.statements.parse_select.Statement.{statement}
 use Rattle.retable.proofs.statements.parse_select.Tie as tie
-use Rattle.retable.proofs.exprs.parse_two.Reads as parse-two-reads
-use Rattle.retable.proofs.pieces.skip.Reads as skip-reads
-use Rattle.writer.proofs.bytes.put.Reads as put_reads
 
 pub parse_select_spec : {M : Type 1} → statement M
 parse_select_spec =

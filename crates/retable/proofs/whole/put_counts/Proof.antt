@@ -3,7 +3,6 @@ use borrow.Author.Rules.{rules}
 use Rattle.retable.proofs.Assembling.{trailer_ways}
 use Rattle.retable.proofs.whole.put_counts.Statement.{statement}
 use Rattle.retable.proofs.whole.put_counts.Tie as tie
-use Rattle.writer.proofs.bytes.put_two.Reads as put-two-reads
 
 pub put_counts_spec : {M : Type 1} → statement M
 put_counts_spec =

@@ -3,7 +3,6 @@ use borrow.Author.Rules.{rules}
 use Rattle.retable.proofs.Assembling.{trailer_ways}
 use Rattle.retable.proofs.whole.put_lengths.Statement.{statement}
 use Rattle.retable.proofs.whole.put_lengths.Tie as tie
-use Rattle.writer.proofs.bytes.put_four.Reads as put-four-reads
 
 pub put_lengths_spec : {M : Type 1} → statement M
 put_lengths_spec = tie.close (tie.spec

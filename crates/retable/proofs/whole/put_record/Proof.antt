@@ -3,8 +3,6 @@ use borrow.Author.Rules.{rules}
 use Rattle.retable.proofs.Assembling.{definition_ways}
 use Rattle.retable.proofs.whole.put_record.Statement.{statement}
 use Rattle.retable.proofs.whole.put_record.Tie as tie
-use Rattle.writer.proofs.bytes.put.Reads as put_reads
-use Rattle.writer.proofs.bytes.put_four.Reads as put-four-reads
 
 pub put_record_spec : {M : Type 1} → statement M
 put_record_spec =

@@ -3,9 +3,6 @@ use borrow.Author.Rules.{rules}
 use Rattle.retable.proofs.Assembling.{trailer_ways}
 use Rattle.retable.proofs.whole.put_trailer.Statement.{statement}
 use Rattle.retable.proofs.whole.put_trailer.Tie as tie
-use Rattle.retable.proofs.whole.put_counts.Reads as put-counts-reads
-use Rattle.retable.proofs.whole.put_lengths.Reads as put-lengths-reads
-use Rattle.writer.proofs.bytes.put.Reads as put_reads
 
 pub put_trailer_spec : {M : Type 1} → statement M
 put_trailer_spec =

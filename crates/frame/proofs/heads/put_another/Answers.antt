@@ -1,0 +1,7 @@
+-- `frame::heads::put_another` meets its contract.
+use Rattle.frame.proofs.Heading.{head_ways}
+use Rattle.frame.proofs.heads.put_another.Goals as goal
+
+-- src/heads.rt:22:1
+pub returns : goal.returns
+returns c = search head_ways

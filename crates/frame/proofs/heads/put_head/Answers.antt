@@ -1,0 +1,7 @@
+-- `frame::heads::put_head` meets its contract.
+use Rattle.frame.proofs.Heading.{head_ways}
+use Rattle.frame.proofs.heads.put_head.Goals as goal
+
+-- src/heads.rt:61:1
+pub returns : goal.returns
+returns c = search head_ways

@@ -1,0 +1,7 @@
+-- `frame::heads::put_unset` meets its contract.
+use Rattle.frame.proofs.Heading.{head_ways}
+use Rattle.frame.proofs.heads.put_unset.Goals as goal
+
+-- src/heads.rt:93:1
+pub returns : goal.returns
+returns c = search head_ways

@@ -1,0 +1,7 @@
+-- `frame::locations::put_area` meets its contract.
+use Rattle.frame.proofs.Placing.{place_ways}
+use Rattle.frame.proofs.locations.put_area.Goals as goal
+
+-- src/locations.rt:22:1
+pub returns : goal.returns
+returns c = search place_ways

@@ -1,0 +1,7 @@
+-- `retable::frames::parse_locals` meets its contract.
+use Rattle.retable.proofs.Heading.{locals_ways}
+use Rattle.retable.proofs.frames.parse_locals.Goals as goal
+
+-- src/frames.rt:216:1
+pub returns : goal.returns
+returns c = search locals_ways

@@ -1,0 +1,7 @@
+-- `retable::frames::skip_areas` meets its contract.
+use Rattle.retable.proofs.Framing.{areas_ways}
+use Rattle.retable.proofs.frames.skip_areas.Goals as goal
+
+-- src/frames.rt:96:5
+pub loop-left-preserved : goal.loop-left-preserved
+loop-left-preserved c = search areas_ways

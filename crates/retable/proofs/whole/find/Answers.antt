@@ -1,0 +1,7 @@
+-- `retable::whole::find` meets its contract.
+use Rattle.retable.proofs.Assembling.{middle_ways}
+use Rattle.retable.proofs.whole.find.Goals as goal
+
+-- src/whole.rt:93:1
+pub returns : goal.returns
+returns c = search middle_ways

@@ -1,0 +1,7 @@
+-- `retable::whole::parse_definition` meets its contract.
+use Rattle.retable.proofs.Assembling.{definition_ways}
+use Rattle.retable.proofs.whole.parse_definition.Goals as goal
+
+-- src/whole.rt:54:1
+pub returns : goal.returns
+returns c = search definition_ways

@@ -1,0 +1,7 @@
+-- `retable::whole::put_middle` meets its contract.
+use Rattle.retable.proofs.Assembling.{middle_ways}
+use Rattle.retable.proofs.whole.put_middle.Goals as goal
+
+-- src/whole.rt:108:1
+pub returns : goal.returns
+returns c = search middle_ways
