@@ -11,21 +11,21 @@ use lib.Seq.{sets-eq}
 use borrow.Author.Tests.{lt-ltb, le-ltb}
 use Rattle.value.specs.Lists.{over}
 use Rattle.value.proofs.Laws.Bytes.{Bytes}
-use Rattle.value.proofs.Laws.Lists.{In, here}
+use Rattle.value.proofs.Laws.Lists.{here}
 use Rattle.format.specs.Syntax.{Kind, sequential}
 use Rattle.format.specs.Encode.{each, Trailer, trailer, trailer_size}
 use Rattle.format.specs.Decode.{but, last}
 use Rattle.format.specs.Rules as R
 use Rattle.format.specs.Rules.{limits}
 use Rattle.format.proofs.Laws.Passes.{at_most}
-use Rattle.format.proofs.Laws.Sections.{but_append, last_append, but_last}
+use Rattle.format.proofs.Laws.Sections.{last_append, but_last}
 use Rattle.basics.specs.declared.numbers.Limits as L
 use Rattle.shape.specs.Shapes.{limits_of}
 use Rattle.writer.specs.Laws.Put.{Put}
 use Rattle.mending.specs.Mending.{trailer_for, with_trailer, accepts, acceptable, Change, changes_from, change_bytes, change_size}
 use Rattle.mending.specs.Mending.{Outcome, untouched, become, mend_by, kind_numbered, mend_call}
 use Rattle.mending.specs.declared.MendAnswer.{MendAnswer}
-use Rattle.mending.proofs.Laws.Narrow.{narrowed, acceptable_narrowed}
+use Rattle.mending.proofs.Laws.Narrow.{acceptable_narrowed}
 use Rattle.mending.proofs.Laws.Changes.{changes_bytes, changes_behind, changes_few}
 use Rattle.mending.proofs.Laws.Found.{Listed, listed}
 use Rattle.mending.proofs.Laws.Mended.{with_front, with_length}

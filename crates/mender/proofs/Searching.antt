@@ -1,5 +1,5 @@
 -- One law for each way through the search.
-use Prim.Native.Nat.{ℕ, zero, suc, ◌+◌, ◌*◌, ◌-◌, ◌/◌, ◌%◌, ◌≤◌, ◌<◌}
+use Prim.Native.Nat.{ℕ, suc, ◌+◌, ◌*◌, ◌-◌, ◌/◌, ◌%◌, ◌≤◌, ◌<◌}
 use native.Mathlib.Omega.{arith}
 use native.Mathlib.Numerals.{add-one}
 use mathlib.Core.Path.{◌≡◌, refl, sym, ap, ap₂, subst, ◌∙◌}
@@ -28,7 +28,7 @@ use Rattle.parse.specs.declared.Ends.TheVariants.{At, Nothing}
 use Rattle.parse.proofs.Chains.{end_inside}
 use Rattle.shape.proofs.Rule3.{is_concurrent_lem, is_sequential}
 use Rattle.shape.specs.Shapes.{limits_of, BodyReads}
-use Rattle.mending.specs.Mending.{range, gather, trailer_for, with_trailer, passes, accepts, kept}
+use Rattle.mending.specs.Mending.{range, gather, trailer_for, passes, accepts, kept}
 use Rattle.mending.proofs.Laws.Narrow.{further, body_end, tried, tried_at, narrowed}
 use Rattle.mending.proofs.Laws.Mended.{with_front, with_length}
 use Rattle.mender.specs.declared.trailer.Counts.{Counts}

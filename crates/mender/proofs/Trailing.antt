@@ -1,25 +1,24 @@
 -- One law for each way through the code of the last sixteen bytes and of the list of changes.
-use Prim.Native.Nat.{ℕ, suc, ◌+◌, ◌*◌, ◌-◌, ◌≤◌, ◌<◌}
+use Prim.Native.Nat.{ℕ, suc, ◌+◌, ◌-◌, ◌≤◌, ◌<◌}
 use native.Mathlib.Omega.{arith}
-use native.Mathlib.Numerals.{add-one}
 use mathlib.Core.Path.{◌≡◌, refl, sym, ap, ap₂, subst, ◌∙◌}
 use mathlib.Core.List.{List, [], ◌∷◌, ◌++◌, append_assoc, append-nil}
-use mathlib.Core.Bool.{Bool, true, false}
+use mathlib.Core.Bool.{Bool}
 use lib.Dec.{eqb}
 use Rattle.value.specs.Maybe.{pick}
 use Rattle.value.proofs.Laws.Tests.{by_test}
-use lib.ListN.{length, get_or, take, drop, length-drop, drop_of_length-le}
-use lib.Seq.{slice, sets-eq, take_all, drop-cons, drop-drop, length-slice}
+use lib.ListN.{length, get_or, drop, drop_of_length-le}
+use lib.Seq.{slice, sets-eq, take_all, drop-cons, length-slice}
 use borrow.Author.Tests.{eq-eqb, ne_eqb}
 use Rattle.value.specs.Values.{bytes}
 use Rattle.format.specs.Syntax.{Kind}
-use Rattle.format.specs.Encode.{each, trailer, trailer_size, kind_mark, form_mark, distance}
+use Rattle.format.specs.Encode.{each, trailer_size, kind_mark, form_mark, distance}
 use Rattle.format.specs.Decode.{but, last}
 use Rattle.writer.specs.Laws.Put.{Put, Onto}
 use Rattle.writer.proofs.Puts.{put_none, put_then, put_cons, put_same, onto_start, onto_next, onto_end}
-use Rattle.mending.specs.Mending.{with_trailer, Change, changes_from, change_bytes}
+use Rattle.mending.specs.Mending.{Change, changes_from, change_bytes}
 use Rattle.mender.specs.declared.trailer.Counts.{Counts}
-use Rattle.mender.specs.Trailing.{Sized, trailer_as, PutsCounts, PutsLengths, Trails, Keeps, PutsBack, PutsChange, ListsChanges}
+use Rattle.mender.specs.Trailing.{Sized, PutsCounts, PutsLengths, Trails, Keeps, PutsBack, PutsChange, ListsChanges}
 
 -- the change at a place, by whether the byte stays
 abbrev one : ℕ → ℕ → ℕ → Bool → List Change

@@ -1,11 +1,10 @@
 -- What the mender answers of a table that is neither too short nor too long, and not accepted as it is.
-use Rattle.std.specs.Prelude.{ℕ, ◌*◌, ◌-◌, ◌≡◌, true, false, List, ◌++◌, length}
-use Rattle.value.specs.Lists.{over}
+use Rattle.std.specs.Prelude.{ℕ, ◌≡◌, false, List, ◌++◌}
 use Rattle.value.proofs.Laws.Bytes.{Bytes}
 use Rattle.format.specs.Syntax.{Kind}
 use Rattle.format.specs.Encode.{trailer_size}
 use Rattle.format.specs.Decode.{but}
-use Rattle.mending.specs.Mending.{with_trailer, acceptable, Outcome, untouched, become, mend_by}
+use Rattle.mending.specs.Mending.{with_trailer, acceptable, Outcome, become, mend_by}
 use Rattle.mending.specs.declared.MendAnswer.{MendAnswer}
 use Rattle.mender.specs.declared.trailer.Counts.{Counts}
 use Rattle.mender.specs.Trailing.{trailer_as}

@@ -1,5 +1,5 @@
 -- What the code finds out about a table's shape by rules 1 to 4, in the words of Rules.
-use Rattle.std.specs.Prelude.{ℕ, ◌+◌, ◌*◌, ◌-◌, ◌≤◌, ◌≡◌, List, Bool, true, false, length, get_or, take, drop, leb}
+use Rattle.std.specs.Prelude.{ℕ, ◌+◌, ◌-◌, ◌≤◌, ◌≡◌, List, Bool, true, false, length, get_or, take, drop, leb}
 use Rattle.value.specs.Maybe.{Maybe, is, nothing, both}
 use Rattle.value.specs.Lists.{all, sum}
 use Rattle.value.specs.Values.{unbytes}

@@ -1,5 +1,4 @@
 -- `shape::bodies::right_bodies` meets its contract.
-use Rattle.std.proofs.Common.{◌-◌, ◌/◌}
 use Rattle.shape.proofs.Rule4.{bodies_ways}
 use Rattle.shape.proofs.bodies.right_bodies.Goals as goal
 

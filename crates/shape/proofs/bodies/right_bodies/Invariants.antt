@@ -1,5 +1,4 @@
 -- `shape::bodies::right_bodies` meets its contract.
-use Rattle.std.proofs.Common.{◌-◌}
 use Rattle.parse.specs.Ends.{kind_of}
 use Rattle.shape.proofs.Rule4.{BodiesFrom}
 use Rattle.shape.proofs.bodies.right_bodies.Given as goal

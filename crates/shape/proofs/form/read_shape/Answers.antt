@@ -1,5 +1,4 @@
 -- `shape::form::read_shape` meets its contract.
-use Rattle.std.proofs.Common.{◌-◌, ◌/◌}
 use Rattle.shape.proofs.Shaping.{shape_ways}
 use Rattle.shape.proofs.form.read_shape.Goals as goal
 

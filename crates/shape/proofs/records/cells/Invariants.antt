@@ -1,5 +1,4 @@
 -- `shape::records::cells` meets its contract.
-use Rattle.std.proofs.Common.{◌-◌}
 use Rattle.shape.proofs.Rule3.{CellsFrom}
 use Rattle.shape.proofs.records.cells.Given as goal
 

@@ -1,5 +1,4 @@
 -- `shape::records::right_locals` meets its contract.
-use Rattle.std.proofs.Common.{◌-◌}
 use Rattle.shape.proofs.Rule3.{LocalsFrom}
 use Rattle.shape.proofs.records.right_locals.Given as goal
 

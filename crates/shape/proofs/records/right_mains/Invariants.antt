@@ -1,5 +1,4 @@
 -- `shape::records::right_mains` meets its contract.
-use Rattle.std.proofs.Common.{◌-◌}
 use Rattle.shape.proofs.Rule3.{MainsFrom}
 use Rattle.shape.proofs.records.right_mains.Given as goal
 

@@ -1,5 +1,4 @@
 -- `shape::records::right_sizes` meets its contract.
-use Rattle.std.proofs.Common.{◌-◌, ◌/◌}
 use Rattle.shape.proofs.Rule3.{sizes_ways}
 use Rattle.shape.proofs.records.right_sizes.Goals as goal
 
