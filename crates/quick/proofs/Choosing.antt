@@ -1,9 +1,9 @@
 -- Tests in a row of one local that fail: what stands there, and one law for each way.
-use Prim.Native.Nat.{ℕ, suc, ◌+◌, ◌*◌, ◌-◌, ◌/◌, ◌%◌, ◌^◌, ◌≤◌, ◌<◌}
+use Prim.Native.Nat.{ℕ, suc, ◌+◌, ◌*◌, ◌/◌, ◌%◌, ◌^◌, ◌≤◌, ◌<◌}
 use native.Mathlib.Numerals.{add-one}
 use native.Mathlib.Omega.{arith}
 use mathlib.Core.Path.{◌≡◌, refl, sym, ap, subst, ◌∙◌}
-use mathlib.Core.Logic.{◌⊎◌, inl, inr, ⊎_elim}
+use mathlib.Core.Logic.{inl, inr, ⊎_elim}
 use mathlib.Core.List.{List}
 use mathlib.Core.Bool as B
 use mathlib.Core.Bool.{Bool, true, false}
@@ -11,8 +11,6 @@ use lib.ListN.{length, get_or}
 use lib.Dec.{eqb}
 use borrow.Author.Tests.{eqb-true, eq-eqb, ne_eqb}
 use Rattle.value.specs.Maybe.{is}
-use Rattle.value.specs.Try.{has}
-use Rattle.value.specs.Values.{number, place}
 use Rattle.value.specs.declared.Value.TheVariants.{Truth}
 use Rattle.value.specs.declared.Answer.TheVariants as A
 use Rattle.basics.specs.Places.{number_at}

@@ -1,12 +1,10 @@
 -- Quick calls, and the quick step of any instruction: one law for each way.
-use Prim.Native.Nat.{ℕ, ◌+◌, ◌-◌, ◌≤◌, ◌<◌}
+use Prim.Native.Nat.{ℕ, ◌+◌, ◌≤◌, ◌<◌}
 use native.Mathlib.Omega.{arith}
 use mathlib.Core.Path.{◌≡◌, refl, sym, ap, subst, ◌∙◌}
-use mathlib.Core.Logic.{◌⊎◌, ⊎_elim}
+use mathlib.Core.Logic.{⊎_elim}
 use mathlib.Core.List.{List}
 use lib.ListN.{length, get_or, set}
-use Rattle.value.specs.Maybe.{is}
-use Rattle.value.specs.declared.Answer.TheVariants as A
 use Rattle.basics.specs.Places.{number_at}
 use Rattle.format.specs.Decode.{max_depth}
 use Rattle.engine.specs.Work.{Beside, frame_words}

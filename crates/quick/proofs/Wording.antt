@@ -12,7 +12,7 @@ use mir.Syntax.{w32}
 use mir.Val.{SFits}
 use mir.Facts.{to_z-of_z}
 use Rattle.value.specs.Maybe.{Maybe, is, nothing}
-use Rattle.value.specs.Try.{has, or_lacks}
+use Rattle.value.specs.Try.{or_lacks}
 use Rattle.value.specs.Values.{One, not, neg, Two, add, sub, mul, less, equal, and, given, unword}
 use Rattle.value.specs.Marks.{mark₁, mark₂}
 use Rattle.value.proofs.Laws.Bytes.{word_unword}

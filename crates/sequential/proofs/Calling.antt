@@ -1,10 +1,10 @@
 -- The call of the sequential machine: from an accepted table to the run, and from the run to the answer.
-use Prim.Native.Nat.{ℕ, zero, suc, ◌+◌, ◌*◌, ◌-◌, ◌^◌, ◌≤◌, ◌<◌}
+use Prim.Native.Nat.{ℕ, ◌+◌, ◌*◌, ◌-◌, ◌^◌, ◌≤◌, ◌<◌}
 use native.Mathlib.Omega.{arith}
-use mathlib.Core.Path.{◌≡◌, refl, sym, ap, ap₂, subst, ◌∙◌}
-use mathlib.Core.List.{List, [], ◌∷◌, ◌++◌}
+use mathlib.Core.Path.{◌≡◌, refl, sym, ap, subst, ◌∙◌}
+use mathlib.Core.List.{List, ◌++◌}
 use mathlib.Core.Bool.{true, false}
-use lib.ListN.{length, get_or, drop, replicate, length-append, length-drop, length-replicate, get_or-replicate, get_or-eq_default}
+use lib.ListN.{length, get_or, replicate, length-drop, length-replicate, get_or-replicate, get_or-eq_default}
 use lib.Dec.{ltb}
 use borrow.Author.Tests.{ltb-true, ltb-false, le-leb, lt-leb}
 use Rattle.value.specs.Lists.{sum, over}
@@ -12,7 +12,7 @@ use Rattle.value.specs.Values.{bytes, cell_size}
 use Rattle.value.proofs.Laws.Tests.{by_test}
 use Rattle.value.proofs.Laws.Lists.{Each, each_so}
 use Rattle.value.proofs.Laws.Bytes.{Bytes}
-use Rattle.format.specs.Syntax.{Block, Proc, Program, Plain, sequential}
+use Rattle.format.specs.Syntax.{Program, Plain, sequential}
 use Rattle.format.specs.Encode.{each, block, bodies_of, head, heads, middle_of, middle, trailer, trailer_of, table, record_size, trailer_size}
 use Rattle.format.specs.Encode as E
 use Rattle.format.specs.declared.ReadAnswer.{ReadAnswer}
@@ -23,20 +23,18 @@ use Rattle.format.proofs.Laws.Accepted.{bodies_fit, accepted_exactly}
 use Rattle.format.proofs.Laws.Heads.{length_heads}
 use Rattle.format.proofs.Laws.Refusals.{refused_within}
 use Rattle.format.proofs.Laws.Sections.{length_each}
-use Rattle.format.proofs.Laws.Sound.{Within, Sound}
 use Rattle.format.proofs.Laws.Stands.{Stands, whole, front, back}
 use Rattle.format.proofs.Laws.TablePlaces.{records_at, all_bodies, trailer_at, length_table}
 use Rattle.sequential.specs.declared.machine.Ran.{Ran}
-use Rattle.semantics.specs.Memory.{Memory, fresh}
+use Rattle.semantics.specs.Memory.{Memory}
 use Rattle.semantics.specs.Copy as C
-use Rattle.semantics.specs.Buffers.{cells, log}
+use Rattle.semantics.specs.Buffers.{cells}
 use Rattle.semantics.specs.declared.RunAnswer.{RunAnswer}
 use Rattle.semantics.specs.Calls.{Outcome, refusal, untouched, max_entries, scheduled, roomy}
 use Rattle.semantics.specs.Calls.{run_as, sequential_run, sequential_outcome, sequential_call, result}
 use Rattle.engine.specs.Work.{local_words, cell_words, flat, Bases, sizes_at, Starts, Writes}
-use Rattle.jumps.specs.Jumps.{positions, Jumps, FillsJumps}
-use Rattle.sequential.specs.Sequential.{Loaded, Starting, RanAs, Runs, Accepted, Outcomes}
-use Rattle.semantics.proofs.Laws.Cells.{shape}
+use Rattle.jumps.specs.Jumps.{positions, FillsJumps}
+use Rattle.sequential.specs.Sequential.{Starting, RanAs, Runs, Accepted, Outcomes}
 use Rattle.basics.specs.Sizes.{stack_frames}
 use Rattle.engine.specs.Laws.Holding.{length_flat, holds_fresh}
 use Rattle.engine.specs.Laws.Starting.{sizes_stand}

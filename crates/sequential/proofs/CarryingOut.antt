@@ -25,7 +25,6 @@ use Rattle.decide.specs.declared.step.Step.TheVariants.{Return, Assign, Read, Wr
 use Rattle.sequential.specs.declared.machine.State.{State}
 use Rattle.semantics.specs.Memory.{Memory, stored, Event}
 use Rattle.semantics.specs.Step.{entered}
-use Rattle.semantics.specs.Copy as C
 use Rattle.engine.specs.Work.{Puts, Clears, frame_words, Framed}
 use Rattle.engine.specs.Events.{with_event}
 use Rattle.jumps.specs.Jumps.{positions, Settles, Branches}

@@ -3,7 +3,7 @@ use Prim.Native.Nat.{ℕ, zero, suc, ◌+◌, ◌*◌, ◌-◌, ◌^◌, ◌≤�
 use native.Mathlib.Omega.{arith}
 use mathlib.Core.Path.{◌≡◌, refl, sym, ap, subst, ◌∙◌}
 use mathlib.Core.List.{List, [], ◌∷◌}
-use mathlib.Core.Bool.{Bool, true, false}
+use mathlib.Core.Bool.{Bool}
 use lib.ListN.{length, get_or, drop, length-set, length-drop}
 use lib.Dec.{ltb}
 use borrow.Author.Tests.{ltb-true, ltb-false}
@@ -28,7 +28,7 @@ use Rattle.labels.specs.Laws.Spots.{itself}
 use Rattle.decide.specs.declared.step.Step.{Step}
 use Rattle.decide.specs.declared.step.Step.TheVariants.{Return, Assign, Read, Write, Test, Call, Select, Blocked}
 use Rattle.sequential.specs.declared.machine.State.{State}
-use Rattle.semantics.specs.Memory.{Env, bound, eval, evals, index, Memory, cell, stored}
+use Rattle.semantics.specs.Memory.{Env, bound, eval, evals, index, Memory, cell}
 use Rattle.value.specs.Values.{number, place, truth}
 use Rattle.semantics.specs.Step.{Frame, Stack}
 use Rattle.semantics.specs.Copy as C
@@ -339,6 +339,7 @@ module _ {t : List ℕ} {records : ℕ} {js ls bs cs es : List ℕ} {s : State} 
   after_inside d (Test g n) (choosing a b b' b'' r o q z u) = code_inside d.loaded.same d.loaded.sound (code_then o z)
   after_inside d (Call m n) (calling as' b r vs o q z u) = code_inside d.loaded.same d.loaded.sound (code_after o z)
   after_inside d (Select j i n) (selecting a b us b' r v o q z u u' f) = code_inside d.loaded.same d.loaded.sound (code_after o z)
+  after_inside d (Blocked _) x3 = elim x3 [ ]
 
   -- by the step
   pub assign_after : {y n : ℕ} {v : Value} → Due t records js ls bs cs es s x → x ≡ Assign y v n → n < length t

@@ -1,27 +1,23 @@
 -- Deciding the step of a run: what stands at its position, and that the decided step is due.
-use Prim.Native.Nat.{ℕ, zero, suc, ◌+◌, ◌*◌, ◌-◌, ◌≤◌, ◌<◌}
-use native.Mathlib.Numerals.{add-one}
+use Prim.Native.Nat.{ℕ, suc, ◌+◌, ◌*◌, ◌-◌, ◌≤◌, ◌<◌}
 use native.Mathlib.Omega.{arith}
-use mathlib.Core.Path.{◌≡◌, refl, sym, ap, subst, ◌∙◌}
-use mathlib.Core.List.{List, [], ◌∷◌, map}
+use mathlib.Core.Path.{◌≡◌, refl, sym, ap, ◌∙◌}
+use mathlib.Core.List.{List, ◌∷◌}
 use mathlib.Core.Bool.{Bool, true, false}
 use lib.ListN.{length, get_or, drop}
 use lib.Seq.{drop-cons}
 use lib.Dec.{eqb}
 use borrow.Author.Tests.{eqb-true, eqb-false}
 use Rattle.value.specs.Maybe.{is}
-use Rattle.value.specs.Lists.{at}
 use Rattle.basics.specs.Places.{number_at}
-use Rattle.value.specs.declared.Value.{Value}
-use Rattle.value.proofs.Laws.Maybes.{is_inj, missing}
+use Rattle.value.proofs.Laws.Maybes.{is_inj}
 use Rattle.value.proofs.Laws.Tests.{never, both_passed}
 use Rattle.value.proofs.Laws.Lists.{each_at}
 use Rattle.basics.specs.Laws.Places.{number_at_lem}
-use Rattle.format.specs.Syntax.{Expr, Instr, assign, write, read, while, if, call, atomic, select, Block, end, step, ◌⊕◌, Proc, Program, Plain}
+use Rattle.format.specs.Syntax.{Expr, Instr, assign, write, read, while, if, call, atomic, select, Block, end, step, ◌⊕◌, Program, Plain}
 use Rattle.format.specs.Syntax.{sequential}
 use Rattle.format.specs.Encode.{table}
-use Rattle.format.specs.Encode as E
-use Rattle.format.specs.Rules.{allowed_i, named_i, named}
+use Rattle.format.specs.Rules.{allowed_i, named_i}
 use Rattle.labels.specs.Spots.{CodeAt}
 use Rattle.format.proofs.Laws.Grammar.{InstrAt, SelectAt, select_here}
 use Rattle.format.proofs.Laws.Names.{NamesI, names?}
@@ -32,18 +28,16 @@ use Rattle.format.proofs.Laws.Stands as Stands
 use Rattle.format.specs.Decode.{max_nesting}
 use Rattle.decide.specs.declared.step.Step.{Step}
 use Rattle.sequential.specs.declared.machine.State.{State}
-use Rattle.semantics.specs.Memory.{evals}
-use Rattle.semantics.specs.Step.{Frame, Stack}
+use Rattle.semantics.specs.Step.{Frame}
 use Rattle.semantics.specs.Copy as C
-use Rattle.engine.specs.Work.{Beside, frame_words, Framed, Bases}
+use Rattle.engine.specs.Work.{Beside, frame_words}
 use Rattle.decide.specs.Decided.{Act, assigns, writes, reads, tests, calls, returns, act_of, act_end, args_of, Tests, ActAt, Poised, Lies}
 use Rattle.decide.specs.Decided.{Kept, DecidesAll, SelectHere, Selects, Selectable}
 use Rattle.jumps.specs.Jumps.{Settled, last, first}
-use Rattle.sequential.specs.Frames.{FrameAt, Stacked}
-use Rattle.sequential.specs.Sequential.{Present, Decision, leaves, acts, selects, Facing, Faced, Faces, UsedUp}
-use Rattle.semantics.proofs.Laws.Cells.{shape}
+use Rattle.sequential.specs.Frames.{FrameAt}
+use Rattle.sequential.specs.Sequential.{Present, leaves, acts, selects, Facing, Faced, Faces, UsedUp}
 use Rattle.decide.specs.Laws.Deciding.{act_at}
-use Rattle.sequential.proofs.Standing.{Here, stands_here, settled_here, code_inside}
+use Rattle.sequential.proofs.Standing.{Here, stands_here, settled_here}
 use Rattle.sequential.proofs.Framing.{frame_small, stacked_below, stacked_few}
 use Rattle.decide.proofs.Deciding.{assign_inside, call_inside, act_tests}
 use Rattle.sequential.proofs.CarryingOut.{tower_of, deep_of, top_frame, some_size}

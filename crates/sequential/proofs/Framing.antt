@@ -1,29 +1,26 @@
 -- The stack of frames: what a step leaves of it, and that it has no more frames than the program has procedures.
-use Prim.Native.Nat.{ℕ, zero, suc, ◌+◌, ◌*◌, ◌-◌, ◌≤◌, ◌<◌}
+use Prim.Native.Nat.{ℕ, zero, suc, ◌*◌, ◌≤◌, ◌<◌}
 use native.Mathlib.Omega.{arith}
-use mathlib.Core.Path.{◌≡◌, refl, sym, ap, subst, ◌∙◌}
-use mathlib.Core.List.{List, [], ◌∷◌, ◌++◌, map}
-use mathlib.Core.Bool.{Bool, true, false}
-use mathlib.Core.Bool as B
+use mathlib.Core.Path.{◌≡◌, refl, sym, ◌∙◌}
+use mathlib.Core.List.{List, [], ◌∷◌, map}
+use mathlib.Core.Bool.{true, false}
 use lib.ListN.{length, get_or, set, length-map}
-use lib.Seq.{get_or-set_same, get_or-set_other}
+use lib.Seq.{get_or-set_other}
 use lib.Dec.{eqb}
 use borrow.Author.Tests.{eqb-true, eq-eqb}
-use Rattle.value.specs.Maybe.{is, either}
+use Rattle.value.specs.Maybe.{is}
 use Rattle.value.specs.Lists.{at}
 use Rattle.value.proofs.Laws.Maybes.{is_inj, missing}
 use Rattle.value.proofs.Laws.Tests.{by_test, never, either_passed, either_failed}
 use Rattle.value.proofs.Laws.Lists.{In, here, in_front, in_back, member, Each, each_at, at_below}
-use Rattle.format.specs.Syntax.{Expr, Instr, while, if, call, Block, end, step, Proc, Plain}
-use Rattle.format.specs.Rules.{callees, callees_i, callees_of}
+use Rattle.format.specs.Syntax.{Expr, Instr, call, Block, step, Proc, Plain}
+use Rattle.format.specs.Rules.{callees, callees_i}
 use Rattle.labels.specs.Spots.{CodeAt}
 use Rattle.format.proofs.Laws.Calls.{Calls, Reaches, direct, onward, Distinct, distinct_below}
 use Rattle.format.proofs.Laws.Sound.{LocalsRight}
 use Rattle.labels.specs.Laws.Spots.{Inherited, spot_has}
-use Rattle.semantics.specs.Memory.{Env}
 use Rattle.semantics.specs.Step.{Frame, Stack, runs}
-use Rattle.engine.specs.Work.{frame_words, Framed, Beside}
-use Rattle.jumps.specs.Jumps.{Settled}
+use Rattle.engine.specs.Work.{frame_words, Beside}
 use Rattle.sequential.specs.Frames.{FrameAt, Called, Stacked, none, more}
 use Rattle.engine.specs.Laws.Work.{framed_below}
 

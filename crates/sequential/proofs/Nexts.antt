@@ -1,21 +1,20 @@
 -- One step of the definition, instruction by instruction: what it leaves, or how the run ends there.
-use Prim.Native.Nat.{ℕ, suc}
-use mathlib.Core.Path.{◌≡◌, refl, sym, ◌∙◌}
+use Prim.Native.Nat.{ℕ}
+use mathlib.Core.Path.{◌≡◌}
 use mathlib.Core.List.{List, [], ◌∷◌, ◌++◌}
 use mathlib.Core.Bool.{Bool, true, false}
-use mathlib.Core.Bool as B
-use lib.Dec.{ltb, eqb}
+use lib.Dec.{ltb}
 use lib.IntN.{pos}
-use Rattle.value.specs.Maybe.{is, pick, either}
+use Rattle.value.specs.Maybe.{is, pick}
 use Rattle.value.specs.Try.{has, ◌⟫◌}
 use Rattle.value.specs.Lists.{at}
 use Rattle.value.specs.declared.Value.{Value}
 use Rattle.value.specs.declared.Value.TheVariants.{Whole}
-use Rattle.format.specs.Syntax.{Expr, local, Instr, assign, write, read, while, if, call, atomic, select, Block, end, step, ◌⊕◌, Proc, Plain}
-use Rattle.semantics.specs.Memory.{Env, bound, eval, evals, Memory, cell, stored, reading, writing, Event}
+use Rattle.format.specs.Syntax.{Expr, local, assign, write, read, while, if, call, select, Block, end, step, ◌⊕◌, Proc, Plain}
+use Rattle.semantics.specs.Memory.{bound, eval, evals, cell, stored, reading, writing, Event}
 use Rattle.value.specs.Values.{number, place, truth}
 use Rattle.semantics.specs.Step.{Frame, Stack, entered, runs}
-use Rattle.semantics.specs.Threads.{finished, used, blocked}
+use Rattle.semantics.specs.Threads.{finished, used}
 use Rattle.semantics.specs.Copy as C
 
 -- a configuration with another stack

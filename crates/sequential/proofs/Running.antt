@@ -6,9 +6,6 @@ use mathlib.Core.List.{List, [], ◌∷◌}
 use mathlib.Core.Bool.{Bool, true, false}
 use lib.ListN.{length, get_or, length-replicate}
 use lib.Seq.{drop-length}
-use types.Run.{OneOf, miss}
-use denote.Enum.Declared.{tag_of}
-use Rattle.decide.specs.contracts.step.Step.{the_type}
 use Rattle.value.specs.Maybe.{is, nothing}
 use Rattle.value.specs.Try.{reason_number}
 use Rattle.value.specs.declared.Reason.{Reason}
@@ -314,17 +311,9 @@ module _ {t : List ℕ} {records : ℕ} {ts js ss ls₀ bs₀ cs₀ : List ℕ} 
             budget = G.budget;
           }
 
-        module _ (on : OneOf (0 ∷ 1 ∷ 2 ∷ 3 ∷ 4 ∷ 5 ∷ 6 ∷ []) (tag_of the_type x)) where
-          -- the step goes on
-          goes_on : (y : Reason) → x ≡ Blocked y → ⊥
-          goes_on y z = miss (0 ∷ 1 ∷ 2 ∷ 3 ∷ 4 ∷ 5 ∷ 6 ∷ []) 7 tt (rw z at on)
-
+          -- wherever the run started
           pub going_due : Due t records js ls' bs cs es s x
-          going_due = step_due goes_on G.start
-
-          pub going_on : {ls'' bs' cs' es' : List ℕ} {s' : State} → CarriesOut t records js h ls' bs cs es s x ls'' bs' cs' es' s'
-              → Going t records ts js ss ls₀ bs₀ cs₀ h n lent ls'' bs' cs' es' s' (k + 1)
-          going_on K = step_on goes_on K
+          going_due = step_due G.start
 
 -- one law for each way
 pub ruleset going_ways = (
@@ -339,5 +328,5 @@ pub ruleset going_ways = (
   going_facing,
   going_blocked,
   going_due,
-  going_on,
+  step_on,
 )

@@ -12,14 +12,14 @@ use Rattle.value.specs.Values.{bytes}
 use Rattle.basics.specs.Places.{number_at}
 use Rattle.value.proofs.Laws.Lists.{each_at}
 use Rattle.basics.specs.Laws.Places.{number_at_lem}
-use Rattle.format.specs.Syntax.{Expr, Instr, while, if, Block, end, step, ◌⊕◌, Proc, Program, Plain, sequential}
+use Rattle.format.specs.Syntax.{Instr, Block, end, step, ◌⊕◌, Proc, Program, Plain, sequential}
 use Rattle.format.specs.Encode.{table, bodies_of, record_size}
 use Rattle.format.specs.Encode as E
 use Rattle.format.specs.Rules.{allowed_i}
-use Rattle.labels.specs.Spots.{Spot, inner, body, thens, elses, later, body_at, CodeAt}
+use Rattle.labels.specs.Spots.{body_at, CodeAt}
 use Rattle.format.proofs.Laws.Fits.{Says, SaysI, BlockFits}
-use Rattle.format.proofs.Laws.Names.{Names, NamesI}
-use Rattle.format.proofs.Laws.Depths.{nesting, nesting_i}
+use Rattle.format.proofs.Laws.Names.{NamesI}
+use Rattle.format.proofs.Laws.Depths.{nesting}
 use Rattle.format.proofs.Laws.Grammar.{InstrAt}
 use Rattle.format.proofs.Laws.Stands.{Stands, front}
 use Rattle.format.proofs.Laws.Stands as Stands
@@ -30,8 +30,7 @@ use Rattle.format.proofs.Laws.Accepted.{bodies_fit}
 use Rattle.format.specs.Decode.{max_nesting}
 use Rattle.labels.specs.Laws.Spots.{itself, join_end, Inherited, spot_has, deep_inherited}
 use Rattle.labels.specs.Laws.Spots.{names_inherited, allowed_inherited, code_stands, step_byte, block_some}
-use Rattle.jumps.specs.Jumps.{Settled, last, first, beyond, Entry, Jumps, Settles}
-use Rattle.jumps.proofs.Jumping.{code_in}
+use Rattle.jumps.specs.Jumps.{Settled, last, first, Jumps, Settles}
 
 -- what the bytes of a block can say, those of its instructions and inner blocks can
 says_inherited : Inherited {A = Plain} Says SaysI

@@ -3,17 +3,14 @@ use Prim.Native.Nat.{ℕ, ◌+◌, ◌*◌, ◌-◌, ◌≤◌, ◌<◌}
 use native.Mathlib.Omega.{arith}
 use mathlib.Core.Path.{◌≡◌, refl, sym, ap, subst, ◌∙◌}
 use mathlib.Core.Logic.{⊎_elim}
-use mathlib.Core.List.{List, [], ◌∷◌}
+use mathlib.Core.List.{List}
 use mathlib.Core.Bool.{Bool, true, false}
 use lib.ListN.{get_or}
-use types.Run.{OneOf}
-use denote.Enum.Declared.{tag_of}
 use mir.Val.{Fits}
 use mir.Syntax.{w64}
 use Rattle.value.specs.Try.{reason_number}
 use Rattle.value.specs.declared.Reason.{Reason}
 use Rattle.value.proofs.Laws.Tests.{never}
-use Rattle.decide.specs.contracts.step.Step.{the_type}
 use Rattle.decide.specs.declared.step.Step.{Step}
 use Rattle.decide.specs.declared.step.Step.TheVariants as S
 use Rattle.decide.specs.Decided.{Lies, DecidesAll, Tests}
@@ -28,7 +25,7 @@ use Rattle.sequential.specs.Words.{Means, assigns, reads, writes, holds, calls, 
 use Rattle.sequential.proofs.CarryingOut.{did_test}
 use Rattle.sequential.proofs.Facing.{facing_poised, faces_act, used_other, present_above}
 use Rattle.sequential.proofs.Running.{Going, facing_of, small, going_inside, going_few, step_due, step_on}
-use Rattle.sequential.proofs.Running.{going_facing, going_blocked, going_due, going_on}
+use Rattle.sequential.proofs.Running.{going_facing, going_blocked, going_due}
 
 -- ---- what an answer stands for
 
@@ -162,13 +159,13 @@ module _ {t : List ℕ} {records : ℕ} {ts js ss ls₀ bs₀ cs₀ : List ℕ} 
             → Runs t records ts js ss ls₀ bs₀ cs₀ h n lent cs es a
         left_blocked z w f = going_blocked going_above deep under U e F z w f
 
-        module _ (on : OneOf (0 ∷ 1 ∷ 2 ∷ 3 ∷ 4 ∷ 5 ∷ 6 ∷ []) (tag_of the_type x)) where
+        module _ (on : (y : Reason) → x ≡ S.Blocked y → ⊥) where
           pub left_due : Due t records js ls'' bs cs es s x
           left_due = going_due going_above deep under U e F on
 
           pub left_on : {ls''' bs' cs' es' : List ℕ} {s' : State} → CarriesOut t records js h ls'' bs cs es s x ls''' bs' cs' es' s'
               → Going t records ts js ss ls₀ bs₀ cs₀ h n lent ls''' bs' cs' es' s' (k + 1)
-          left_on K = going_on going_above deep under U e F on K
+          left_on K = step_on going_above deep under U e F on K
 
     module _ {r : ℕ} (on : 0 < r) (count : r ≡ steps_of q) (under : k ≡ n → ⊥) where
       -- no select stands there

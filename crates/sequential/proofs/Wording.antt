@@ -10,7 +10,6 @@ use denote.Enum.Declared.{tag_of}
 use mir.Val.{Fits}
 use mir.Syntax.{w64}
 use Rattle.value.specs.contracts.Answer.{the_type}
-use Rattle.value.specs.Maybe.{is}
 use Rattle.value.specs.Try.{has}
 use Rattle.value.specs.Values.{given}
 use Rattle.value.specs.declared.Value.{Value}
@@ -27,8 +26,8 @@ use Rattle.engine.specs.Words.{value_in}
 use Rattle.engine.specs.Work.{frame_words, local_words, cell_words}
 use Rattle.engine.specs.Laws.Logging.{event_past}
 use Rattle.jumps.specs.Jumps.{Settles}
-use Rattle.sequential.specs.Sequential.{Due, event_in, Recorded, Enterable, Enters, moved_to, CarriesOut}
-use Rattle.sequential.specs.Words.{RecordedWord, Means, assigns, reads, writes, holds, calls, Asked, one, several, DueWords, CarriesWords}
+use Rattle.sequential.specs.Sequential.{event_in, Recorded, Enterable, Enters, moved_to, CarriesOut}
+use Rattle.sequential.specs.Words.{RecordedWord, Means, assigns, reads, writes, holds, calls, Asked, one, DueWords, CarriesWords}
 use Rattle.sequential.proofs.CarryingOut.{did_assign, did_read, did_write, did_test, did_call, event_kept, event_passed, settles_below}
 use Rattle.sequential.proofs.DueSteps.{call_enterable, assign_after, read_after, write_after, test_after, call_after}
 use Rattle.sequential.proofs.DueSteps.{assign_room, read_room, write_room}
