@@ -1,11 +1,10 @@
 -- From an accepted table to the run, and from the run to the answer.
 use Prim.Native.Nat.{ℕ, ◌+◌, ◌*◌, ◌-◌, ◌^◌, ◌≤◌, ◌<◌}
 use native.Mathlib.Omega.{arith}
-use mathlib.Core.Path.{◌≡◌, refl, sym, ap, subst, ◌∙◌}
+use mathlib.Core.Path.{◌≡◌, sym, ap, subst, ◌∙◌}
 use mathlib.Core.List.{List, map}
-use lib.ListN.{length, get_or, replicate, length-replicate, length-map}
-use Rattle.value.specs.Maybe.{is}
-use Rattle.value.specs.Lists.{at, sum, over}
+use lib.ListN.{length, get_or, replicate, length-replicate}
+use Rattle.value.specs.Lists.{sum, over}
 use Rattle.value.specs.Values.{cell_size}
 use Rattle.value.proofs.Laws.Lists.{at_below, at_get_d}
 use Rattle.basics.specs.Places.{number_at}

@@ -14,10 +14,10 @@ use Rattle.format.specs.Syntax.{Block}
 use Rattle.format.specs.Labels.{tag}
 use Rattle.format.specs.Decode.{max_nesting}
 use Rattle.format.proofs.Laws.Grammar.{BlockAt}
-use Rattle.labels.specs.Walks.{BlockIn, CountsBlock}
+use Rattle.labels.specs.Walks.{CountsBlock}
 use Rattle.labels.specs.declared.count.Counted.{Counted}
 use Rattle.atomic.specs.Laws.Standing.{tag_at}
-use Rattle.report.specs.Rows.{most_rows, all_rows, places, Known, Passing, Passes, Within, Leaves, Testing, Tested}
+use Rattle.report.specs.Rows.{most_rows, Passing, Passes, Within, Leaves, Testing, Tested}
 
 -- ---- where a block ends
 

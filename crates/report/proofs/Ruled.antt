@@ -1,12 +1,10 @@
 -- The instruction of a frame, way by way, as the code has it.
 use Prim.Native.Nat.{ℕ, suc, ◌+◌, ◌*◌, ◌-◌, ◌≤◌, ◌<◌}
 use native.Mathlib.Omega.{arith}
-use mathlib.Core.Path.{◌≡◌, refl, sym, ap, subst, ◌∙◌}
-use mathlib.Core.List.{List, [], ◌∷◌}
+use mathlib.Core.Path.{◌≡◌, sym, ◌∙◌}
+use mathlib.Core.List.{List}
 use mathlib.Core.Bool.{Bool, true, false}
 use lib.ListN.{length, get_or, set}
-use types.Run.{OneOf}
-use denote.Enum.Declared.{tag_of}
 use Rattle.value.specs.declared.Reason.{Reason}
 use Rattle.value.specs.declared.Reason.TheVariants.{WrongKind}
 use Rattle.value.specs.declared.Value.{Value}
@@ -18,7 +16,6 @@ use Rattle.format.proofs.Laws.Grammar.{BlockAt, block_deep}
 use Rattle.labels.specs.Walks.{BlockIn}
 use Rattle.engine.specs.Work.{frame_words, Clears, Puts}
 use Rattle.engine.specs.Events.{with_event, event_of}
-use Rattle.decide.specs.contracts.step.Step.{the_type}
 use Rattle.decide.specs.declared.step.Step.{Step}
 use Rattle.decide.specs.declared.step.Step.TheVariants as S
 use Rattle.decide.specs.Decided.{Poised, Kept, Lies, DecidesAll}
@@ -32,8 +29,8 @@ use Rattle.report.specs.Rows.{most_rows, Testing, Tested, HasRecord}
 use Rattle.report.specs.Stepping.{Stepping, Ready, Rules}
 use Rattle.report.proofs.Turning.{doing_atomic, atomic_stays, atomic_went}
 use Rattle.report.proofs.Taking.{turn_poised, turn_kept, turn_other, turn_stays, turn_came, call_byte, call_room, call_above, turn_calls, turn_carrying}
-use Rattle.report.proofs.Taking.{went_assign, went_read, went_write}
-use Rattle.report.proofs.Standing.{deeper, TestAt, loops, forks, BodyAt, body_here}
+use Rattle.report.proofs.Taking.{Neither, went_assign, went_read, went_write}
+use Rattle.report.proofs.Standing.{deeper, TestAt, loops, forks, body_here}
 use Rattle.report.proofs.Ruling.{lower, lower_is, row_is, up, turning}
 use Rattle.report.proofs.Ways.{goes_next, goes_test, goes_call, stays_there, test_here}
 
@@ -113,7 +110,7 @@ module _ {t : List ℕ} {records : ℕ} {ss : List ℕ} {thread top : ℕ} {dept
       rule_blocks e = record { rules = λ R. record { steps = λ h. stays_there R h (turn_stays y E (turning R h) e) } }
 
       -- no other step stands there
-      pub rule_other : OneOf (0 ∷ 6 ∷ []) (tag_of the_type u)
+      pub rule_other : Neither u
           → Rules t records ss thread top depths heights rows ends ls cs o n depths heights rows ends ls₁ cs o (Blocked WrongKind)
       rule_other k = record { rules = λ R. record { steps = λ h. absurd (turn_other y E (turning R h) k) } }
 

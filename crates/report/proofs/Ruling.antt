@@ -1,50 +1,39 @@
 -- One step of a thread: the instruction of its uppermost frame, and what it is worth to the thread.
-use Prim.Native.Nat.{ℕ, zero, suc, ◌+◌, ◌*◌, ◌-◌, ◌≤◌, ◌<◌}
+use Prim.Native.Nat.{ℕ, suc, ◌+◌, ◌*◌, ◌-◌, ◌≤◌, ◌<◌}
 use native.Mathlib.Omega.{arith}
 use mathlib.Core.Path.{◌≡◌, refl, sym, ap, subst, ◌∙◌}
-use mathlib.Core.List.{List, [], ◌∷◌, ◌++◌, append-nil, map, map_append}
-use mathlib.Core.Bool.{Bool, true, false}
-use lib.ListN.{length, get_or, set, length-set}
-use lib.Seq.{get_or-set_same, get_or-set_other}
+use mathlib.Core.List.{List, [], ◌∷◌, ◌++◌, append-nil, map, map-append}
+use lib.ListN.{length, get_or, set}
 use Rattle.value.specs.Maybe.{is}
 use Rattle.value.specs.Try.{has, lacks}
 use Rattle.value.specs.declared.Reason.{Reason}
-use Rattle.value.specs.declared.Reason.TheVariants.{FinishedThread}
 use Rattle.value.specs.Lists.{at}
 use Rattle.value.proofs.Laws.Maybes.{is_inj}
-use Rattle.value.proofs.Laws.Lists.{at_below, at_get_d}
-use Rattle.basics.specs.Places.{number_at}
-use Rattle.format.specs.Syntax.{Instr, while, if, Block, end, step, ◌⊕◌, Proc, Program, Plain}
-use Rattle.format.specs.Encode.{instr, record_size}
-use Rattle.format.specs.Decode.{max_nesting}
-use Rattle.format.specs.Labels.{labelled, first, ends_of, body_of, begins}
-use Rattle.format.proofs.Laws.Grammar.{InstrAt, BlockAt, block_inside, block_deep}
-use Rattle.labels.specs.Laws.Spots.{Remains, remains_body, remains_after, join_end}
+use Rattle.value.proofs.Laws.Lists.{at_get_d}
+use Rattle.format.specs.Syntax.{Instr, Block, end, ◌⊕◌, Proc, Program, Plain}
+use Rattle.format.specs.Labels.{labelled, first, ends_of}
+use Rattle.labels.specs.Laws.Spots.{Remains, remains_body}
 use Rattle.semantics.specs.Memory.{Event}
 use Rattle.semantics.specs.Step.{Frame, Stack, Moved, entered}
-use Rattle.semantics.specs.Threads as P
 use Rattle.semantics.specs.Threads.{Atomic}
 use Rattle.semantics.specs.Calls.{unlabelled}
 use Rattle.semantics.proofs.Laws.Shapes.{thread_shape}
 use Rattle.engine.specs.Work.{Beside, Framed, frame_words}
 use Rattle.engine.specs.Events.{Logged}
-use Rattle.engine.specs.Laws.Work.{beside_same, beside_set}
-use Rattle.decide.specs.Decided.{act_end, branch}
+use Rattle.engine.specs.Laws.Work.{beside_same}
 use Rattle.atomic.specs.Doing.{Works}
-use Rattle.atomic.specs.Threaded.{thread_frames, FrameAt, Linked, Threaded, all_frames, most_frames, most_threads}
-use Rattle.atomic.specs.Laws.Linked.{no_cycle_lem, few_frames}
+use Rattle.atomic.specs.Threaded.{thread_frames, FrameAt, Linked, Threaded, most_frames, most_threads}
+use Rattle.atomic.specs.Laws.Linked.{few_frames}
 use Rattle.atomic.specs.Laws.Threading.{beside_wide, few_locals_lem, frame_small, thread_there}
 use Rattle.atomic.specs.Laws.Threading.{threaded_on, threaded_back, threaded_call, threaded_still}
 use Rattle.concurrent.specs.Turning.{code_of}
-use Rattle.concurrent.specs.Laws.Leading.{Called, remains_branch}
-use Rattle.concurrent.proofs.Stepping.{step_is, step_blocks, step_finished, entered_long, body_of_lem}
-use Rattle.report.specs.declared.step.Stepped.TheVariants.{To, Blocked}
-use Rattle.report.specs.Rows.{most_rows, all_rows, RowsAt, AllRows, Known, Leaves, Within}
-use Rattle.report.specs.Stepping.{Stepping, Went, Stays, Answers, Steps, Ready}
-use Rattle.report.proofs.Rowed.{few_rows, rows_within, Upper, upper, rows_put, rows_then, rows_settled, rows_called, rows_back, own_rows}
+use Rattle.concurrent.specs.Laws.Leading.{Called}
+use Rattle.concurrent.proofs.Stepping.{step_is, step_blocks, entered_long}
+use Rattle.report.specs.Rows.{most_rows, RowsAt, AllRows, Known}
+use Rattle.report.specs.Stepping.{Stepping, Went, Stays, Ready}
+use Rattle.report.proofs.Rowed.{Upper, upper, rows_then, rows_called, rows_back, own_rows}
 use Rattle.report.proofs.Turning.{Turning}
-use Rattle.report.proofs.Turning as U
-use Rattle.report.proofs.Standing.{ruled, body_here}
+use Rattle.report.proofs.Standing.{ruled}
 
 -- ---- the uppermost frame
 
@@ -153,7 +142,7 @@ module _ {t : List ℕ} {records : ℕ} {ss : List ℕ} {thread : ℕ} {depths h
         long = W.long ∙ h.present.long;
         memory = rw m w.holds;
         sizes = thread_shape (labelled program).procs thread (u.frame ∷ u.below) h.state.memory r d ∙ h.present.sizes;
-        events = subst (λ (evs : List Event). Logged h.lent evs o' k) (log ∙ sym (map_append unlabelled h.so_far r.events)) w.logged;
+        events = subst (λ (evs : List Event). Logged h.lent evs o' k) (log ∙ sym (map-append unlabelled h.so_far r.events)) w.logged;
       };
       few = few;
     }

@@ -1,5 +1,5 @@
 -- One step of a thread: rows that are used up go away, and then the frame returns or does its instruction.
-use Prim.Native.Nat.{ℕ, zero, suc, ◌+◌, ◌*◌, ◌-◌, ◌≤◌, ◌<◌}
+use Prim.Native.Nat.{ℕ, ◌+◌, ◌*◌, ◌-◌, ◌≤◌, ◌<◌}
 use native.Mathlib.Omega.{arith}
 use mathlib.Core.Path.{◌≡◌, refl, sym, ap, subst, ◌∙◌}
 use mathlib.Core.List.{List, [], ◌∷◌}
@@ -15,10 +15,10 @@ use Rattle.atomic.specs.Threaded.{thread_frames, all_frames, most_frames, most_t
 use Rattle.concurrent.proofs.Stepping.{step_finished}
 use Rattle.report.specs.declared.step.Stepped.{Stepped}
 use Rattle.report.specs.declared.step.Stepped.TheVariants.{To, Blocked}
-use Rattle.report.specs.Rows.{most_rows, all_rows, places, RowsAt, none, some, Within, Leaves}
-use Rattle.report.specs.Stepping.{Stepping, Went, Answers, Steps, Ready, Rules}
+use Rattle.report.specs.Rows.{most_rows, all_rows, RowsAt, none, Within, Leaves}
+use Rattle.report.specs.Stepping.{Stepping, Answers, Steps, Ready, Rules}
 use Rattle.report.proofs.Rowed.{few_rows, rows_within, own_rows, rows_settled}
-use Rattle.report.proofs.Ruling.{few_all, Uppermost, stacked, uppermost, comes_back}
+use Rattle.report.proofs.Ruling.{few_all, stacked, uppermost, comes_back}
 
 -- the number of the uppermost frame
 abbrev top_of : ℕ → List ℕ → ℕ

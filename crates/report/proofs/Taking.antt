@@ -5,17 +5,12 @@ use mathlib.Core.Path.{◌≡◌, refl, sym, ap, subst, ◌∙◌}
 use mathlib.Core.List.{List, [], ◌∷◌, ◌++◌, append-nil, map}
 use mathlib.Core.Bool.{Bool, true, false}
 use lib.ListN.{length, get_or}
-use types.Run.{OneOf, miss}
-use denote.Enum.Declared.{tag_of}
-use Rattle.value.specs.Maybe.{is}
-use Rattle.value.specs.Try.{Try, has, lacks}
+use Rattle.value.specs.Try.{Try, has}
 use Rattle.value.specs.declared.Reason.{Reason}
 use Rattle.value.specs.declared.Value.{Value}
 use Rattle.value.proofs.Laws.Tries.{has_inj, lacking}
-use Rattle.format.specs.Syntax.{Instr}
 use Rattle.format.specs.Encode.{instr}
 use Rattle.format.specs.Labels.{labelled}
-use Rattle.decide.specs.contracts.step.Step.{the_type}
 use Rattle.decide.specs.declared.step.Step.{Step}
 use Rattle.decide.specs.declared.step.Step.TheVariants as S
 use Rattle.engine.specs.Events.{with_event, event_of}
@@ -30,13 +25,21 @@ use Rattle.decide.specs.Decided.{act_end, args_of, decided, Right, Poised, Kept,
 use Rattle.decide.specs.Decided as D
 use Rattle.decide.specs.Laws.Deciding.{decided_right, evals_length}
 use Rattle.atomic.specs.Doing.{Works, carried, end_of, Carrying, Carries}
-use Rattle.atomic.specs.Doing as W
 use Rattle.atomic.specs.Laws.Threading.{beside_wide}
 use Rattle.atomic.proofs.Inside.{came, beside_again}
 use Rattle.atomic.proofs.Carrying.{carries_assign, carries_read, carries_write}
 use Rattle.concurrent.specs.Laws.Leading.{Called, Leads}
 use Rattle.concurrent.proofs.Turning.{step_fits, step_past, framed_called, call_count}
 use Rattle.report.proofs.Turning.{Turning, doing, Went, Came, Calls, Stays, IsTest, Ended, ended, turn_inside, asked}
+
+-- a return or a select: none of the other steps
+pub record Neither (u : Step) : Type 0 where
+  pub no_assign : (x : ℕ) (v : Value) (j : ℕ) → u ≡ S.Assign x v j → ⊥
+  pub no_read : (x l z : ℕ) (v : Value) (j : ℕ) → u ≡ S.Read x l z v j → ⊥
+  pub no_write : (l z d : ℕ) (v : Value) (j : ℕ) → u ≡ S.Write l z d v j → ⊥
+  pub no_test : (q : Bool) (j : ℕ) → u ≡ S.Test q j → ⊥
+  pub no_call : (q j : ℕ) → u ≡ S.Call q j → ⊥
+  pub no_block : (q : Reason) → u ≡ S.Blocked q → ⊥
 
 module _ {t : List ℕ} {thread fb : ℕ} {bs : List ℕ} {i : ℕ} {ls cs o : List ℕ} {n : ℕ} where
   -- a step that was carried out
@@ -127,18 +130,18 @@ module _ {t : List ℕ} {thread fb : ℕ} {bs : List ℕ} {i : ℕ} {ls cs o : L
       }
 
       -- no step of another kind
-      pub turn_other : OneOf (0 ∷ 6 ∷ []) (tag_of the_type u) → ⊥
+      pub turn_other : Neither u → ⊥
       turn_other k = by u k ending
         where
-          by : (u : Step) → OneOf (0 ∷ 6 ∷ []) (tag_of the_type u) → Ended i h.running.instr u → ⊥
+          by : (u : Step) → Neither u → Ended i h.running.instr u → ⊥
           by S.Return k m = m
-          by (S.Assign x v j) k m = miss (0 ∷ 6 ∷ []) 1 tt k
-          by (S.Read x l z v j) k m = miss (0 ∷ 6 ∷ []) 2 tt k
-          by (S.Write l z d v j) k m = miss (0 ∷ 6 ∷ []) 3 tt k
-          by (S.Test q j) k m = miss (0 ∷ 6 ∷ []) 4 tt k
-          by (S.Call q j) k m = miss (0 ∷ 6 ∷ []) 5 tt k
+          by (S.Assign x v j) k m = k.no_assign x v j refl
+          by (S.Read x l z v j) k m = k.no_read x l z v j refl
+          by (S.Write l z d v j) k m = k.no_write l z d v j refl
+          by (S.Test q j) k m = k.no_test q j refl
+          by (S.Call q j) k m = k.no_call q j refl
           by (S.Select c e j) k m = m
-          by (S.Blocked q) k m = miss (0 ∷ 6 ∷ []) 7 tt k
+          by (S.Blocked q) k m = k.no_block q refl
 
       -- it blocks
       pub turn_stays : {why : Reason} → u ≡ S.Blocked why → Stays h ls₁ cs o why

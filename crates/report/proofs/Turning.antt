@@ -18,7 +18,7 @@ use Rattle.format.specs.Encode.{instr}
 use Rattle.format.specs.Labels.{labelled}
 use Rattle.format.specs.Rules.{allowed, allowed_i, named, named_i, max_locals}
 use Rattle.format.specs.Decode.{max_nesting}
-use Rattle.format.proofs.Laws.Grammar.{InstrAt, BlockAt, AtomicAt, atomic_here, block_inside, instr_inside}
+use Rattle.format.proofs.Laws.Grammar.{BlockAt, AtomicAt, atomic_here, block_inside, instr_inside}
 use Rattle.format.proofs.Laws.Procs.{body_in}
 use Rattle.decide.specs.declared.step.Step.{Step}
 use Rattle.decide.specs.declared.step.Step.TheVariants as S

@@ -1,7 +1,7 @@
 -- An atomic block without labels in its events.
 use Prim.Native.Nat.{ℕ}
 use mathlib.Core.Path.{◌≡◌, refl, sym, ap, ◌∙◌}
-use mathlib.Core.List.{map, map_append}
+use mathlib.Core.List.{map, map-append}
 use mathlib.Core.Bool.{true, false}
 use Rattle.value.specs.Try.{Try, has, lacks, ◌⟫◌}
 use Rattle.value.specs.Values.{number, place, truth}
@@ -37,14 +37,16 @@ module _ (t label : ℕ) where
         link (eval a.env (local y) ⟫ place) _ _ λ l.
         link (index z) _ _ λ i.
         link (cell a.memory l i) _ _ λ u.
-        rw (map_append unlabelled a.events _)
+        rw (map-append unlabelled a.events _)
     without_i (read x y o) a =
         link (eval a.env o ⟫ number) _ _ λ z.
         link (eval a.env (local y) ⟫ place) _ _ λ l.
         link (index z) _ _ λ i.
         link (cell a.memory l i) _ _ λ u.
-        rw (map_append unlabelled a.events _)
-    without_i (if e b d) a = link (eval a.env e ⟫ truth) _ _ λ q. elim q [ true ↦ act_without b a | false ↦ act_without d a ]
+        rw (map-append unlabelled a.events _)
+    without_i (if e b d) a = link (eval a.env e ⟫ truth) _ _ λ q. elim q as (λ q.
+        elim q as (λ _. Try Atomic) [ true ↦ act t 0 b (without a) | false ↦ act t 0 d (without a) ]
+        ≡ Without (elim q as (λ _. Try Atomic) [ true ↦ act t label b a | false ↦ act t label d a ])) [ true ↦ act_without b a | false ↦ act_without d a ]
     without_i (while e b) a = refl
     without_i (call m es) a = refl
     without_i (atomic b) a = refl

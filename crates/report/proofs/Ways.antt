@@ -1,36 +1,36 @@
 -- One law for each way through a step: the rules of the report's figures.
-use Prim.Native.Nat.{ℕ, suc, ◌+◌, ◌*◌, ◌-◌, ◌≤◌, ◌<◌}
+use Prim.Native.Nat.{ℕ, suc, ◌+◌, ◌*◌, ◌-◌, ◌<◌}
 use native.Mathlib.Omega.{arith}
 use mathlib.Core.Path.{◌≡◌, refl, sym, ap, subst, ◌∙◌}
-use mathlib.Core.List.{List, [], ◌∷◌, append-nil, map}
+use mathlib.Core.List.{List, [], append-nil, map}
 use mathlib.Core.Bool.{Bool, true, false}
 use lib.ListN.{length, get_or, set, length-set}
 use lib.Seq.{get_or-set_same, get_or-set_other}
 use Rattle.value.specs.Maybe.{pick}
 use Rattle.value.specs.declared.Reason.{Reason}
 use Rattle.basics.specs.Places.{number_at}
-use Rattle.format.specs.Syntax.{Expr, Instr, while, if, Block, end, step, ◌⊕◌}
+use Rattle.format.specs.Syntax.{Block, step, ◌⊕◌}
 use Rattle.format.specs.Encode.{record_size}
 use Rattle.format.specs.Decode.{max_nesting}
 use Rattle.format.specs.Labels.{labelled}
 use Rattle.format.proofs.Laws.Grammar.{BlockAt, block_deep}
 use Rattle.labels.specs.Laws.Spots.{Remains, remains_after, join_end}
 use Rattle.semantics.specs.Calls.{unlabelled}
-use Rattle.engine.specs.Work.{Beside, frame_words}
+use Rattle.engine.specs.Work.{Beside}
 use Rattle.engine.specs.Laws.Work.{beside_same, beside_set}
 use Rattle.decide.specs.Decided.{act_end, branch}
-use Rattle.atomic.specs.Threaded.{thread_frames, all_frames, most_frames, most_threads}
+use Rattle.atomic.specs.Threaded.{all_frames}
 use Rattle.atomic.specs.Laws.Linked.{no_cycle_lem}
 use Rattle.atomic.specs.Laws.Threading.{beside_wide}
 use Rattle.atomic.proofs.Inside.{beside_again}
 use Rattle.concurrent.specs.Laws.Leading.{remains_branch}
-use Rattle.report.specs.Rows.{most_rows, all_rows, RowsAt, some, none, Known, Tested}
+use Rattle.report.specs.Rows.{most_rows, RowsAt, none, Known, Tested}
 use Rattle.report.specs.Stepping.{Stepping, Went, Stays, Ready}
-use Rattle.report.proofs.Rowed.{few_rows, rows_put, rows_above, rows_below, Upper}
+use Rattle.report.proofs.Rowed.{few_rows, rows_put, rows_below}
 use Rattle.report.proofs.Turning.{Turning, IsTest}
 use Rattle.report.proofs.Turning as U
 use Rattle.report.proofs.Standing.{deeper, TestAt, loops, forks, test_at, BodyAt, body_here}
-use Rattle.report.proofs.Ruling.{Uppermost, upmost, at_top, lower, lower_is, row_is, up, turning, goes_on, calls_on_lem, stays}
+use Rattle.report.proofs.Ruling.{upmost, at_top, lower, lower_is, row_is, up, turning, goes_on, calls_on_lem, stays}
 
 module _ {t : List ℕ} {records : ℕ} {ss : List ℕ} {thread top : ℕ} {depths heights rows ends ls cs o : List ℕ} {n : ℕ}
     (R : Ready t thread top depths heights rows ls n)

@@ -2,7 +2,6 @@
 use Rattle.std.specs.Prelude.{ℕ, zero, suc, ◌+◌, ◌*◌, ◌-◌, ◌≤◌, ◌<◌, ◌≡◌, List, [], ◌∷◌, Bool, true, false, length, get_or, set}
 use Rattle.value.specs.Maybe.{is, pick}
 use Rattle.value.specs.Lists.{at}
-use Rattle.basics.specs.Places.{number_at}
 use Rattle.basics.specs.Sizes.{thread_frames, all_frames}
 use Rattle.format.specs.Syntax.{Block, end, ◌⊕◌, concurrent}
 use Rattle.format.specs.Encode.{record_size}
@@ -10,7 +9,7 @@ use Rattle.format.specs.Decode.{max_nesting}
 use Rattle.format.specs.Rules.{limits}
 use Rattle.format.proofs.Laws.Grammar.{BlockAt}
 use Rattle.labels.specs.Walks.{BlockIn}
-use Rattle.semantics.specs.Step.{Frame, Stack}
+use Rattle.semantics.specs.Step.{Stack}
 
 -- "depth at most 16": a frame has at most a row for each block around its next instruction
 abbrev pub most_rows : ℕ
