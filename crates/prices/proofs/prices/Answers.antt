@@ -1,5 +1,4 @@
 -- `prices::prices` meets its contract.
-use Rattle.std.proofs.Common.{◌-◌, ◌/◌}
 use Rattle.prices.proofs.Labelling.{prices_label, call_ways}
 use Rattle.prices.proofs.prices.Goals as goal
 

@@ -1,5 +1,5 @@
 -- The cycle of the walks over an atomic block meets its contracts.
-use Rattle.std.proofs.Common.{◌-◌, ◌/◌, rules}
+use Rattle.std.proofs.Common.{rules}
 use Rattle.prices.proofs.Costing.{inside_ways}
 use Rattle.prices.proofs.costs.+inner_costs_inside_costs.Goals as goal
 

@@ -1,5 +1,4 @@
 -- `costs::step_costs` meets its contract.
-use Rattle.std.proofs.Common.{◌-◌, ◌/◌}
 use Rattle.prices.proofs.Stepping.{step_ways}
 use Rattle.prices.proofs.costs.step_costs.Goals as goal
 
