@@ -1,5 +1,5 @@
 -- One law for each way through the text reader's call.
-use Prim.Native.Nat.{ℕ, zero, suc, ◌+◌, ◌^◌, ◌≤◌, ◌<◌}
+use Prim.Native.Nat.{ℕ, suc, ◌+◌, ◌^◌, ◌≤◌, ◌<◌}
 use native.Mathlib.Omega.{arith}
 use native.Mathlib.Nat.{zero-add}
 use native.Mathlib.Decide.{dec_le}
@@ -7,29 +7,27 @@ use mathlib.Core.Path.{◌≡◌, refl, sym, ap, ap₂, subst, ◌∙◌}
 use mathlib.Core.List.{List, [], ◌∷◌, ◌++◌}
 use mathlib.Core.Bool.{Bool, true, false, not}
 use lib.ListN.{length, get_or, set, take, drop}
-use lib.Seq.{sets, sets-eq, slice, drop-cons, drop-length, take_at, take-append_seam}
-use lib.Dec.{eqb, ltb, leb}
+use lib.Seq.{sets-eq, slice, drop-cons, drop-length, take-append_seam}
+use lib.Dec.{eqb}
 use borrow.Author.Tests.{lt-ltb, le-ltb, lt-leb, le-leb, eqb-true, eq-eqb}
-use Rattle.value.specs.Maybe.{Maybe, is, nothing, both}
+use Rattle.value.specs.Maybe.{Maybe, is, nothing}
 use Rattle.value.specs.Lists.{over}
 use Rattle.value.proofs.Laws.Maybes.{missing}
 use Rattle.value.proofs.Laws.Tests.{by_test, never}
-use Rattle.value.proofs.Laws.Bytes.{Bytes, bytes_at}
+use Rattle.value.proofs.Laws.Bytes.{Bytes}
 use Rattle.format.specs.Syntax.{Program, Plain, sequential}
 use Rattle.format.specs.Encode.{table}
-use Rattle.format.specs.Rules.{Verdict, refused, accepted, verdict, limits}
+use Rattle.format.specs.Rules.{Verdict, refused, accepted}
 use Rattle.format.specs.Calls.{read_as, read_call}
 use Rattle.format.specs.declared.ReadAnswer.{ReadAnswer}
 use Rattle.format.proofs.Laws.Sound.{Sound}
 use Rattle.format.proofs.Laws.Accepted.{accepted_exactly}
-use Rattle.basics.specs.Sizes.{too_long}
 use Rattle.translation.specs.Calls.{Written, refusal, written, writes}
 use Rattle.translation.specs.declared.WriteAnswer.{WriteAnswer}
 use Rattle.ctext.specs.Text.{text}
 use Rattle.ctext.specs.Calls.{read_text_call, untext}
 use Rattle.ctext.proofs.Laws.Reads.{TextOf, untext_exactly, reads, refuses}
 use Rattle.typeset.specs.Page.{Page, nowhere, otherwise, set_one, set_all}
-use Rattle.typeset.specs.Page as P
 use Rattle.writer.specs.Laws.Put.{Put}
 use Rattle.frame.specs.Frames.{ShowsText}
 use Rattle.printer.specs.Accepted.{Accepts}

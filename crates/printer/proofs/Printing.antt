@@ -1,17 +1,16 @@
 -- One law for each way through the printer's call.
-use Prim.Native.Nat.{ℕ, zero, suc, ◌+◌, ◌*◌, ◌-◌, ◌^◌, ◌≤◌, ◌<◌}
+use Prim.Native.Nat.{ℕ, suc, ◌+◌, ◌^◌, ◌≤◌, ◌<◌}
 use native.Mathlib.Omega.{arith}
 use native.Mathlib.Nat.{zero-add}
 use native.Mathlib.Decide.{dec_le}
-use mathlib.Core.Path.{◌≡◌, refl, sym, ap, ap₂, subst, ◌∙◌}
+use mathlib.Core.Path.{◌≡◌, refl, sym, ap, ap₂, ◌∙◌}
 use mathlib.Core.List.{List, [], ◌∷◌, ◌++◌}
-use mathlib.Core.Bool.{true, false}
 use lib.ListN.{length, get_or, set, drop}
 use lib.Seq.{sets, sets-eq}
 use borrow.Author.Tests.{lt-ltb, le-ltb, lt-leb, le-leb}
 use Rattle.value.specs.Lists.{over}
-use Rattle.value.proofs.Laws.Bytes.{Bytes, bytes_at}
-use Rattle.format.specs.Syntax.{Program, Plain, sequential}
+use Rattle.value.proofs.Laws.Bytes.{bytes_at}
+use Rattle.format.specs.Syntax.{sequential}
 use Rattle.format.specs.Encode.{table}
 use Rattle.format.specs.Rules.{Verdict, refused, accepted, verdict}
 use Rattle.format.specs.Calls.{read_as, read_call}
@@ -24,7 +23,7 @@ use Rattle.translation.specs.Calls.{Written, refusal, written, writes}
 use Rattle.translation.specs.declared.WriteAnswer.{WriteAnswer}
 use Rattle.ctext.specs.Text.{text}
 use Rattle.ctext.specs.Calls.{print_as, print_call}
-use Rattle.typeset.specs.Page.{Page, nowhere, otherwise, set_one, set_all, Put}
+use Rattle.typeset.specs.Page.{nowhere, set_one, set_all, Put}
 use Rattle.typeset.proofs.Setting.{differs_past}
 use Rattle.frame.specs.Frames.{ShowsText}
 use Rattle.printer.specs.Accepted.{Accepts}

@@ -2,6 +2,5 @@
 use Rattle.frame.proofs.Heading.{head_ways}
 use Rattle.frame.proofs.heads.put_argument.Goals as goal
 
--- src/heads.rt:71:1
 pub returns : goal.returns
 returns c = search head_ways

@@ -9,6 +9,5 @@ use Rattle.frame.proofs.heads.put_unsets.Given as goal
 abbrev pub invariant-loop-j : goal.invariant-loop-j
 invariant-loop-j l = Onto l.text l.initial.out l.at (each unset (upto l.from (l.n - l.from))) l.out l.p (each unset (upto l.j (l.n - l.j)))
 
--- proposed from the loop's first test
 abbrev pub decreases-loop-j : goal.decreases-loop-j
 decreases-loop-j l = l.n - l.j

@@ -2,6 +2,5 @@
 use Rattle.frame.proofs.Placing.{place_ways}
 use Rattle.frame.proofs.locations.put_area.Goals as goal
 
--- src/locations.rt:22:1
 pub returns : goal.returns
 returns c = search place_ways

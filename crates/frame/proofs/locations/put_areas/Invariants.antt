@@ -7,6 +7,5 @@ use Rattle.frame.proofs.locations.put_areas.Given as goal
 abbrev pub invariant-loop-k : goal.invariant-loop-k
 invariant-loop-k l = SizesFrom area l.t l.text l.from l.n l.initial.out l.at l.k l.out l.p
 
--- proposed from the loop's first test
 abbrev pub decreases-loop-k : goal.decreases-loop-k
 decreases-loop-k l = l.n - l.k

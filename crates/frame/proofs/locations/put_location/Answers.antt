@@ -2,6 +2,5 @@
 use Rattle.frame.proofs.Placing.{place_ways}
 use Rattle.frame.proofs.locations.put_location.Goals as goal
 
--- src/locations.rt:13:1
 pub returns : goal.returns
 returns c = search place_ways

@@ -6,6 +6,5 @@ use Rattle.frame.proofs.procedures.put_definitions.Given as goal
 abbrev pub invariant-loop-k : goal.invariant-loop-k
 invariant-loop-k l = DefinitionsFrom l.t l.text l.from l.n l.initial.out l.at l.k l.i l.out l.p
 
--- proposed from the loop's first test
 abbrev pub decreases-loop-k : goal.decreases-loop-k
 decreases-loop-k l = l.n - l.k

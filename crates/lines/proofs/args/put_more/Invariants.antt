@@ -5,6 +5,5 @@ use Rattle.lines.proofs.args.put_more.Given as goal
 abbrev pub invariant-loop-left : goal.invariant-loop-left
 invariant-loop-left l = Further l.t l.text l.at l.n l.initial.out l.to l.i l.left l.out l.p
 
--- proposed from the loop's first test
 abbrev pub decreases-loop-left : goal.decreases-loop-left
 decreases-loop-left l = l.left

@@ -2,6 +2,5 @@
 use Rattle.lines.proofs.Plainly.{plain_ways}
 use Rattle.lines.proofs.args.put_next.Goals as goal
 
--- src/args.rt:8:1
 pub returns : goal.returns
 returns c = search plain_ways

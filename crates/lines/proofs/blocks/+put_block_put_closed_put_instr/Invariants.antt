@@ -15,6 +15,5 @@ decreases-put_instr l = 3 * l.depth + 2
 abbrev pub invariant-put_block-loop-i : goal.invariant-put_block-loop-i
 invariant-put_block-loop-i l = Later l.t l.text l.at l.depth l.spaces l.initial.out l.to l.i l.out l.p
 
--- proposed from the loop's first test
 abbrev pub decreases-put_block-loop-i : goal.decreases-put_block-loop-i
 decreases-put_block-loop-i l = length l.t - l.i

@@ -2,6 +2,5 @@
 use Rattle.lines.proofs.Nested.{nested_ways}
 use Rattle.lines.proofs.blocks.put_test.Goals as goal
 
--- src/blocks.rt:11:1
 pub returns : goal.returns
 returns c = search nested_ways

@@ -2,6 +2,5 @@
 use Rattle.lines.proofs.Plainly.{plain_ways}
 use Rattle.lines.proofs.plain.put_call.Goals as goal
 
--- src/plain.rt:74:1
 pub returns : goal.returns
 returns c = search plain_ways

@@ -2,6 +2,5 @@
 use Rattle.lines.proofs.Plainly.{plain_ways}
 use Rattle.lines.proofs.plain.put_write.Goals as goal
 
--- src/plain.rt:53:1
 pub returns : goal.returns
 returns c = search plain_ways

@@ -2,22 +2,17 @@
 use Rattle.phrases.proofs.Leaves.{leaf_ways}
 use Rattle.phrases.proofs.exprs.+put_levels.Goals as goal
 
--- src/exprs.rt:130:9
 pub returns-then-depth-eq0 : goal.returns-then-depth-eq0
 returns-then-depth-eq0 t c = search leaf_ways
 
--- src/exprs.rt:133:9
 pub returns-then-t-at : goal.returns-then-t-at
 returns-then-t-at t c = search leaf_ways
 
--- src/exprs.rt:137:9
 pub returns-then-mark-lt-ADD : goal.returns-then-mark-lt-ADD
 returns-then-mark-lt-ADD t c = search leaf_ways
 
--- src/exprs.rt:145:9
 pub returns-then-mark-gt-AND : goal.returns-then-mark-gt-AND
 returns-then-mark-gt-AND t c = search leaf_ways
 
--- src/exprs.rt:118:1
 pub returns : goal.returns
 returns t c = search leaf_ways

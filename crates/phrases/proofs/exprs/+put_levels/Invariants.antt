@@ -1,6 +1,5 @@
 -- The text of an expression meets its contract.
 use Rattle.phrases.proofs.exprs.+put_levels.Given as goal
 
--- proposed from what the function passes where it calls itself
 abbrev pub decreases-put_levels : goal.decreases-put_levels
 decreases-put_levels l = l.depth

@@ -2,34 +2,26 @@
 use Rattle.phrases.proofs.Leaves.{leaf_ways}
 use Rattle.phrases.proofs.exprs.put_name.Goals as goal
 
--- src/exprs.rt:27:9
 pub returns-then-mark-eq-EQUAL : goal.returns-then-mark-eq-EQUAL
 returns-then-mark-eq-EQUAL c = search leaf_ways
 
--- src/exprs.rt:30:9
 pub returns-then-mark-eq-ADD : goal.returns-then-mark-eq-ADD
 returns-then-mark-eq-ADD c = search leaf_ways
 
--- src/exprs.rt:33:9
 pub returns-then-mark-eq-AND : goal.returns-then-mark-eq-AND
 returns-then-mark-eq-AND c = search leaf_ways
 
--- src/exprs.rt:36:9
 pub returns-then-mark-eq-NOT : goal.returns-then-mark-eq-NOT
 returns-then-mark-eq-NOT c = search leaf_ways
 
--- src/exprs.rt:39:9
 pub returns-then-mark-eq-LESS : goal.returns-then-mark-eq-LESS
 returns-then-mark-eq-LESS c = search leaf_ways
 
--- src/exprs.rt:42:9
 pub returns-then-mark-eq-SUBTRACT : goal.returns-then-mark-eq-SUBTRACT
 returns-then-mark-eq-SUBTRACT c = search leaf_ways
 
--- src/exprs.rt:45:9
 pub returns-then-mark-eq-MULTIPLY : goal.returns-then-mark-eq-MULTIPLY
 returns-then-mark-eq-MULTIPLY c = search leaf_ways
 
--- src/exprs.rt:23:1
 pub returns : goal.returns
 returns c = search leaf_ways

@@ -15,6 +15,5 @@ decreases-parse_instr l = l.depth * 3 + 2
 abbrev pub invariant-parse_block-loop-i : goal.invariant-parse_block-loop-i
 invariant-parse_block-loop-i l = BlockFrom l.x l.at l.depth l.width l.initial.out l.to l.i l.out l.p
 
--- proposed from the loop's first test
 abbrev pub decreases-parse_block-loop-i : goal.decreases-parse_block-loop-i
 decreases-parse_block-loop-i l = length l.x - l.i

@@ -2,6 +2,5 @@
 use Rattle.retable.proofs.Leaves.{leaf_ways}
 use Rattle.retable.proofs.exprs.parse_whole.Goals as goal
 
--- src/exprs.rt:56:9
 pub returns-then-peek-eq45 : goal.returns-then-peek-eq45
 returns-then-peek-eq45 c = search leaf_ways

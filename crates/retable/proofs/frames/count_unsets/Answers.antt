@@ -2,10 +2,8 @@
 use Rattle.retable.proofs.Heading.{unsets_ways}
 use Rattle.retable.proofs.frames.count_unsets.Goals as goal
 
--- src/frames.rt:201:13
 pub returns-then-body_begins : goal.returns-then-body_begins
 returns-then-body_begins c = search unsets_ways
 
--- src/frames.rt:199:5
 pub loop-count-preserved : goal.loop-count-preserved
 loop-count-preserved c = search unsets_ways

@@ -6,6 +6,5 @@ use Rattle.retable.proofs.frames.count_unsets.Given as goal
 abbrev pub invariant-loop-count : goal.invariant-loop-count
 invariant-loop-count l = UnsetsFrom l.x l.at l.params l.i l.count
 
--- proposed from the loop's first test
 abbrev pub decreases-loop-count : goal.decreases-loop-count
 decreases-loop-count l = 255 - l.count

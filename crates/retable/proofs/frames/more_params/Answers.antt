@@ -2,10 +2,8 @@
 use Rattle.retable.proofs.Heading.{params_ways}
 use Rattle.retable.proofs.frames.more_params.Goals as goal
 
--- src/frames.rt:111:13
 pub returns-then-peek-ne44 : goal.returns-then-peek-ne44
 returns-then-peek-ne44 c = search params_ways
 
--- src/frames.rt:109:5
 pub loop-count-preserved : goal.loop-count-preserved
 loop-count-preserved c = search params_ways

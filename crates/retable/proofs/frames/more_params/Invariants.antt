@@ -6,6 +6,5 @@ use Rattle.retable.proofs.frames.more_params.Given as goal
 abbrev pub invariant-loop-count : goal.invariant-loop-count
 invariant-loop-count l = ParamsFrom l.x l.at 1 l.i l.count
 
--- proposed from the loop's first test
 abbrev pub decreases-loop-count : goal.decreases-loop-count
 decreases-loop-count l = 255 - l.count

@@ -2,6 +2,5 @@
 use Rattle.retable.proofs.Heading.{locals_ways}
 use Rattle.retable.proofs.frames.parse_locals.Goals as goal
 
--- src/frames.rt:216:1
 pub returns : goal.returns
 returns c = search locals_ways

@@ -2,10 +2,8 @@
 use Rattle.retable.proofs.Framing.{sizes_ways}
 use Rattle.retable.proofs.frames.parse_sizes.Goals as goal
 
--- src/frames.rt:72:13
 pub returns-then-peek-ne122 : goal.returns-then-peek-ne122
 returns-then-peek-ne122 c = search sizes_ways
 
--- src/frames.rt:70:5
 pub loop-count-preserved : goal.loop-count-preserved
 loop-count-preserved c = search sizes_ways

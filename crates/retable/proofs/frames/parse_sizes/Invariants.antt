@@ -8,6 +8,5 @@ use Rattle.retable.proofs.frames.parse_sizes.Given as goal
 abbrev pub invariant-loop-count : goal.invariant-loop-count
 invariant-loop-count l = SizesFrom l.x l.at 0 l.initial.out l.to l.i l.count l.out l.p
 
--- proposed from the loop's first test
 abbrev pub decreases-loop-count : goal.decreases-loop-count
 decreases-loop-count l = (limits sequential).places - l.count

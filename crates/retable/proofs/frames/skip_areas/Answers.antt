@@ -2,6 +2,5 @@
 use Rattle.retable.proofs.Framing.{areas_ways}
 use Rattle.retable.proofs.frames.skip_areas.Goals as goal
 
--- src/frames.rt:96:5
 pub loop-left-preserved : goal.loop-left-preserved
 loop-left-preserved c = search areas_ways

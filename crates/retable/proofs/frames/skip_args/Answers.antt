@@ -2,6 +2,5 @@
 use Rattle.retable.proofs.Heading.{lines_ways}
 use Rattle.retable.proofs.frames.skip_args.Goals as goal
 
--- src/frames.rt:176:5
 pub loop-left-preserved : goal.loop-left-preserved
 loop-left-preserved c = search lines_ways

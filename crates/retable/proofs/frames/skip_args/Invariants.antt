@@ -5,6 +5,5 @@ use Rattle.retable.proofs.frames.skip_args.Given as goal
 abbrev pub invariant-loop-left : goal.invariant-loop-left
 invariant-loop-left l = ArgsFrom l.x l.at l.count l.i l.left
 
--- proposed from the loop's first test
 abbrev pub decreases-loop-left : goal.decreases-loop-left
 decreases-loop-left l = l.left

@@ -8,6 +8,5 @@ use Rattle.retable.proofs.frames.skip_declarations.Given as goal
 abbrev pub invariant-loop-count : goal.invariant-loop-count
 invariant-loop-count l = DeclaredFrom l.x l.at 0 l.i l.count
 
--- proposed from the loop's first test
 abbrev pub decreases-loop-count : goal.decreases-loop-count
 decreases-loop-count l = (limits sequential).procs - l.count

@@ -6,6 +6,5 @@ use Rattle.retable.proofs.pieces.number.Given as goal
 abbrev pub invariant-loop-i : goal.invariant-loop-i
 invariant-loop-i l = DigitsFrom l.x l.at l.i l.n
 
--- proposed from the loop's first test
 abbrev pub decreases-loop-i : goal.decreases-loop-i
 decreases-loop-i l = length l.x - l.i

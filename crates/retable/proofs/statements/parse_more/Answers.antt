@@ -2,10 +2,8 @@
 use Rattle.retable.proofs.Arguing.{more_ways}
 use Rattle.retable.proofs.statements.parse_more.Goals as goal
 
--- src/statements.rt:85:13
 pub returns-then-peek-ne44 : goal.returns-then-peek-ne44
 returns-then-peek-ne44 c = search more_ways
 
--- src/statements.rt:83:5
 pub loop-count-preserved : goal.loop-count-preserved
 loop-count-preserved c = search more_ways

@@ -6,6 +6,5 @@ use Rattle.retable.proofs.statements.parse_more.Given as goal
 abbrev pub invariant-loop-count : goal.invariant-loop-count
 invariant-loop-count l = MoreFrom l.x l.at 1 l.initial.out l.to l.i l.count l.out l.p
 
--- proposed from the loop's first test
 abbrev pub decreases-loop-count : goal.decreases-loop-count
 decreases-loop-count l = 255 - l.count

@@ -2,6 +2,5 @@
 use Rattle.retable.proofs.Arguing.{target_ways}
 use Rattle.retable.proofs.statements.parse_target.Goals as goal
 
--- src/statements.rt:26:1
 pub returns : goal.returns
 returns c = search target_ways

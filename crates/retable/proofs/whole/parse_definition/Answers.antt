@@ -2,6 +2,5 @@
 use Rattle.retable.proofs.Assembling.{definition_ways}
 use Rattle.retable.proofs.whole.parse_definition.Goals as goal
 
--- src/whole.rt:54:1
 pub returns : goal.returns
 returns c = search definition_ways

@@ -5,6 +5,5 @@ use Rattle.retable.proofs.whole.parse_definitions.Given as goal
 abbrev pub invariant-loop-left : goal.invariant-loop-left
 invariant-loop-left l = DefinedFrom l.x l.at l.count l.initial.out 0 l.initial.records 0 l.i l.left l.out l.p l.records l.q
 
--- proposed from the loop's first test
 abbrev pub decreases-loop-left : goal.decreases-loop-left
 decreases-loop-left l = l.left

@@ -2,6 +2,5 @@
 use Rattle.retable.proofs.Assembling.{middle_ways}
 use Rattle.retable.proofs.whole.put_middle.Goals as goal
 
--- src/whole.rt:108:1
 pub returns : goal.returns
 returns c = search middle_ways

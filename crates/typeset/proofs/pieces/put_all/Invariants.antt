@@ -7,6 +7,5 @@ use Rattle.typeset.proofs.pieces.put_all.Given as goal
 abbrev pub invariant-loop-i : goal.invariant-loop-i
 invariant-loop-i l = Onto l.text l.initial.out l.at l.piece l.out l.p (drop l.i l.piece)
 
--- proposed from the loop's first test
 abbrev pub decreases-loop-i : goal.decreases-loop-i
 decreases-loop-i l = l.n - l.i

@@ -2,10 +2,8 @@
 use Rattle.typeset.proofs.Setting.{set_ways}
 use Rattle.typeset.proofs.pieces.put_spaces.Goals as goal
 
--- src/pieces.rt:75:5
 pub loop-left-preserved : goal.loop-left-preserved
 loop-left-preserved c = search set_ways
 
--- src/pieces.rt:70:1
 pub returns : goal.returns
 returns c = search set_ways

@@ -7,6 +7,5 @@ use Rattle.writer.proofs.bytes.put_part.Given as goal
 abbrev pub invariant-loop-i : goal.invariant-loop-i
 invariant-loop-i l = Onto l.initial.out l.at (slice l.from l.until l.t) l.out l.p (slice l.i l.until l.t)
 
--- proposed from the loop's first test
 abbrev pub decreases-loop-i : goal.decreases-loop-i
 decreases-loop-i l = l.until - l.i
