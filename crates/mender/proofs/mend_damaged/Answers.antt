@@ -2,14 +2,11 @@
 use Rattle.mender.proofs.Answering.{answer_ways}
 use Rattle.mender.proofs.mend_damaged.Goals as goal
 
--- src/lib.rt:87:1
 pub returns-in-None : goal.returns-in-None
 returns-in-None c = search answer_ways
 
--- src/lib.rt:87:1
 pub returns-in-One : goal.returns-in-One
 returns-in-One c = search answer_ways
 
--- src/lib.rt:87:1
 pub returns-in-Several : goal.returns-in-Several
 returns-in-Several c = search answer_ways

@@ -2,10 +2,8 @@
 use Rattle.places.specs.Laws.Raising.{raise_ways}
 use Rattle.places.proofs.in_order.Goals as goal
 
--- src/lib.rt:44:5
 pub loop-m-init : goal.loop-m-init
 loop-m-init c = search raise_ways
 
--- src/lib.rt:44:5
 pub loop-m-preserved : goal.loop-m-preserved
 loop-m-preserved c = search raise_ways

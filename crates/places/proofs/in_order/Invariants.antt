@@ -6,6 +6,5 @@ use Rattle.places.proofs.in_order.Given as goal
 abbrev pub invariant-loop-m : goal.invariant-loop-m
 invariant-loop-m l = InOrder l.t l.procedures l.records l.m l.starts l.row
 
--- proposed from the loop's first test
 abbrev pub decreases-loop-m : goal.decreases-loop-m
 decreases-loop-m l = l.procedures - l.m

@@ -6,6 +6,5 @@ use Rattle.places.proofs.longest.Given as goal
 abbrev pub invariant-loop-m : goal.invariant-loop-m
 invariant-loop-m l = LongestTo l.t l.procedures l.records l.starts l.m l.row
 
--- proposed from the loop's first test
 abbrev pub decreases-loop-m : goal.decreases-loop-m
 decreases-loop-m l = l.procedures - l.m

@@ -2,6 +2,5 @@
 use Rattle.places.specs.Laws.Raising.{raise_ways}
 use Rattle.places.proofs.raise_callees.Goals as goal
 
--- src/lib.rt:95:5
 pub loop-m-preserved : goal.loop-m-preserved
 loop-m-preserved c = search raise_ways

@@ -6,6 +6,5 @@ use Rattle.places.proofs.raise_callees.Given as goal
 abbrev pub invariant-loop-m : goal.invariant-loop-m
 invariant-loop-m l = Raising l.marks l.procedures l.q l.end l.initial.starts l.m l.starts
 
--- proposed from the loop's first test
 abbrev pub decreases-loop-m : goal.decreases-loop-m
 decreases-loop-m l = l.procedures - l.m

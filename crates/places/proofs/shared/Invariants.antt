@@ -6,6 +6,5 @@ use Rattle.places.proofs.shared.Given as goal
 abbrev pub invariant-loop-round : goal.invariant-loop-round
 invariant-loop-round l = Rounds l.t l.procedures l.records l.round l.starts
 
--- proposed from the loop's first test
 abbrev pub decreases-loop-round : goal.decreases-loop-round
 decreases-loop-round l = l.procedures - l.round

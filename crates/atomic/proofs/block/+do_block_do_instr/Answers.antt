@@ -4,75 +4,58 @@ use Rattle.atomic.proofs.Inside.{instr_carrying, does_carried, doing_then, doing
 use Rattle.atomic.proofs.InsideBlock.{going_deep, going_one, block_ways}
 use Rattle.atomic.proofs.block.+do_block_do_instr.Goals as goal
 
--- src/block.rt:122:11
 pub do_block-bounds-t-i : goal.do_block-bounds-t-i
 do_block-bounds-t-i t c = first_of (search instr_ways, search block_ways)
 
--- src/block.rt:126:13
 pub do_block-overflow_sub-depth : goal.do_block-overflow_sub-depth
 do_block-overflow_sub-depth t c = first_of (search instr_ways, search block_ways)
 
--- src/block.rt:123:13
 pub do_block-do_instr-done-requires : goal.do_block-do_instr-done-requires
 do_block-do_instr-done-requires t c =
     (omega (arith, going_deep c.loop-i.invariant.0, c.decreases), going_one c.loop-i.invariant.0 c.loop-i-test.true)
 
--- src/block.rt:137:13
 pub do_block-returns-in_default : goal.do_block-returns-in_default
 do_block-returns-in_default t c = first_of (search instr_ways, search block_ways)
 
--- src/block.rt:122:5
 pub do_block-loop-i-smaller : goal.do_block-loop-i-smaller
 do_block-loop-i-smaller t c = first_of (search instr_ways, search block_ways)
 
--- src/block.rt:122:5
 pub do_block-loop-i-preserved : goal.do_block-loop-i-preserved
 do_block-loop-i-preserved t c = first_of (search instr_ways, search block_ways)
 
--- src/block.rt:101:1
 pub do_block-returns : goal.do_block-returns
 do_block-returns t c = first_of (search instr_ways, search block_ways)
 
--- src/block.rt:168:9
 pub do_instr-decide-step-requires : goal.do_instr-decide-step-requires
 do_instr-decide-step-requires t c = first_of (search instr_ways, search block_ways)
 
--- src/block.rt:171:17
 pub do_instr-do_block-done-requires : goal.do_instr-do_block-done-requires
 do_instr-do_block-done-requires t c =
     (omega (arith, c.decreases), doing_then c.decide-step.ensures c.in-Test.is c.if-truth.true c.requires)
 
--- src/block.rt:179:17
 pub do_instr-returns-in_default-done : goal.do_instr-returns-in_default-done
 do_instr-returns-in_default-done t c = first_of (search instr_ways, search block_ways)
 
--- src/block.rt:182:23
 pub do_instr-count_block-requires : goal.do_instr-count_block-requires
 do_instr-count_block-requires t c = first_of (search instr_ways, search block_ways)
 
--- src/block.rt:181:13
 pub do_instr-returns-then-truth : goal.do_instr-returns-then-truth
 do_instr-returns-then-truth t c = first_of (search instr_ways, search block_ways)
 
--- src/block.rt:186:18
 pub do_instr-count_block-no-requires : goal.do_instr-count_block-no-requires
 do_instr-count_block-no-requires t c = first_of (search instr_ways, search block_ways)
 
--- src/block.rt:187:9
 pub do_instr-do_block-requires : goal.do_instr-do_block-requires
 do_instr-do_block-requires t c =
     (omega (arith, c.decreases), doing_else c.decide-step.ensures c.in-Test.is c.if-truth.false c.count_block-no.ensures c.requires)
 
--- src/block.rt:187:9
 pub do_instr-returns-in-Test : goal.do_instr-returns-in-Test
 do_instr-returns-in-Test t c = first_of (search instr_ways, search block_ways)
 
--- src/block.rt:191:5
 pub do_instr-carry_out-requires : goal.do_instr-carry_out-requires
 do_instr-carry_out-requires t c =
     instr_carrying c.decide-step.ensures c.in_default.not-Test c.requires
 
--- src/block.rt:149:1
 pub do_instr-returns : goal.do_instr-returns
 do_instr-returns t c =
     does_carried c.decide-step.ensures c.in_default.not-Test c.carry_out.ensures

@@ -7,6 +7,5 @@ use Rattle.atomic.proofs.block.copy_frame.Given as goal
 abbrev pub invariant-loop-i : goal.invariant-loop-i
 invariant-loop-i l = (l.i ≤ frame_words) × (length l.copy ≡ length l.initial.copy) × Copies l.words l.base l.i l.copy
 
--- proposed from the loop's first test
 abbrev pub decreases-loop-i : goal.decreases-loop-i
 decreases-loop-i l = frame_words - l.i

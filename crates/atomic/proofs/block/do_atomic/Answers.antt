@@ -3,14 +3,11 @@ use Rattle.std.proofs.Common.{rules}
 use Rattle.atomic.proofs.InsideBlock.{doing_tried, whole_blocked, whole_done}
 use Rattle.atomic.proofs.block.do_atomic.Goals as goal
 
--- src/block.rt:255:9
 pub do_all-tried-requires : goal.do_all-tried-requires
 do_all-tried-requires c = doing_tried c.copy_frame.ensures c.copy_frame.auto.copy _ c.requires
 
--- src/block.rt:268:9
 pub returns-in-Blocked : goal.returns-in-Blocked
 returns-in-Blocked c = whole_blocked c.copy_frame.ensures c.copy_frame.auto.copy c.do_all-tried.ensures (search rules)
 
--- src/block.rt:234:1
 pub returns : goal.returns
 returns c = whole_done c.copy_frame.ensures c.copy_frame.auto.copy c.do_all-tried.ensures c.in_default.not-Blocked c.do_all.ensures

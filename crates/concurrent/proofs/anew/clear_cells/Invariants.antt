@@ -6,6 +6,5 @@ use Rattle.concurrent.proofs.anew.clear_cells.Given as goal
 abbrev pub invariant-loop-i : goal.invariant-loop-i
 invariant-loop-i l = Clearing l.count l.i l.cells
 
--- proposed from the loop's first test
 abbrev pub decreases-loop-i : goal.decreases-loop-i
 decreases-loop-i l = l.count - l.i

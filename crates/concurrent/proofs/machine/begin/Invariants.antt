@@ -6,6 +6,5 @@ use Rattle.concurrent.proofs.machine.begin.Given as goal
 abbrev pub invariant-loop-i : goal.invariant-loop-i
 invariant-loop-i l = Begins l.t l.at l.i l.bounds l.labels l.depths × (l.i ≤ l.threads)
 
--- proposed from the loop's first test
 abbrev pub decreases-loop-i : goal.decreases-loop-i
 decreases-loop-i l = l.threads - l.i

@@ -2,26 +2,20 @@
 use Rattle.concurrent.proofs.ConcurrentRun.{going_ways}
 use Rattle.concurrent.proofs.machine.go.Goals as goal
 
--- src/machine.rt:96:5
 pub loop-threads-init : goal.loop-threads-init
 loop-threads-init c = search going_ways
 
--- src/machine.rt:98:13
 pub returns-then-finished : goal.returns-then-finished
 returns-then-finished c = search going_ways
 
--- src/machine.rt:101:13
 pub returns-then-taken-schedule : goal.returns-then-taken-schedule
 returns-then-taken-schedule c = search going_ways
 
--- src/machine.rt:103:15
 pub step-requires : goal.step-requires
 step-requires c = search going_ways
 
--- src/machine.rt:118:17
 pub returns-in-Blocked : goal.returns-in-Blocked
 returns-in-Blocked c = search going_ways
 
--- src/machine.rt:96:5
 pub loop-threads-preserved : goal.loop-threads-preserved
 loop-threads-preserved c = search going_ways

@@ -3,24 +3,19 @@ use Rattle.std.proofs.Common.{refl}
 use Rattle.concurrent.proofs.ConcurrentCall.{accepted_bodies, accepted_mains, accepted_starting, run_taken, run_outcome}
 use Rattle.concurrent.proofs.machine.run.Goals as goal
 
--- src/machine.rt:156:5
 pub fill_labels-requires-clause-bodies_in : goal.fill_labels-requires-clause-bodies_in
 fill_labels-requires-clause-bodies_in c = accepted_bodies c.requires.0
 
--- src/machine.rt:158:5
 pub begin-requires : goal.begin-requires
 begin-requires c = (accepted_mains c.requires.0, refl, refl)
 
--- src/machine.rt:159:9
 pub go-ran-requires : goal.go-ran-requires
 go-ran-requires c = accepted_starting c.requires.0 c.requires.1 c.fill_labels.ensures c.set_starts.ensures c.begin.ensures
 
--- src/machine.rt:177:17
 pub overflow_sub-result : goal.overflow_sub-result
 overflow_sub-result c = run_taken
     (accepted_starting c.requires.0 c.requires.1 c.fill_labels.ensures c.set_starts.ensures c.begin.ensures)
     c.go-ran.ensures
 
--- src/machine.rt:134:1
 pub returns : goal.returns
 returns c = run_outcome c.fill_labels.ensures c.set_starts.ensures c.begin.ensures c.go-ran.ensures c.write_out.ensures

@@ -3,46 +3,35 @@ use Rattle.std.proofs.Common.{arith}
 use Rattle.concurrent.proofs.Stepping.{step_small, step_moving, step_moves, step_ways}
 use Rattle.concurrent.proofs.threads.step.Goals as goal
 
--- src/threads.rt:160:9
 pub returns-then-depths-i-eq0 : goal.returns-then-depths-i-eq0
 returns-then-depths-i-eq0 c = search step_ways
 
--- src/threads.rt:162:15
 pub overflow_add-top : goal.overflow_add-top
 overflow_add-top c = record { fits = omega (arith, step_small c.requires c.if-depths-i-eq0.false) }
 
--- src/threads.rt:163:17
 pub offset_bounds-labels-top : goal.offset_bounds-labels-top
 offset_bounds-labels-top c = record { fits = omega (arith, step_small c.requires c.if-depths-i-eq0.false) }
 
--- src/threads.rt:163:17
 pub bounds-labels-top : goal.bounds-labels-top
 bounds-labels-top c = omega (arith, step_small c.requires c.if-depths-i-eq0.false)
 
--- src/threads.rt:164:18
 pub overflow_mul-at : goal.overflow_mul-at
 overflow_mul-at c = record { fits = omega (arith, step_small c.requires c.if-depths-i-eq0.false) }
 
--- src/threads.rt:164:14
 pub offset_bounds-map-label : goal.offset_bounds-map-label
 offset_bounds-map-label c = record { fits = omega (arith, step_small c.requires c.if-depths-i-eq0.false) }
 
--- src/threads.rt:164:14
 pub bounds-map-label : goal.bounds-map-label
 bounds-map-label c = omega (arith, step_small c.requires c.if-depths-i-eq0.false)
 
--- src/threads.rt:170:9
 pub overflow_mul-top-2 : goal.overflow_mul-top-2
 overflow_mul-top-2 c = record { fits = omega (arith, step_small c.requires c.if-depths-i-eq0.false) }
 
--- src/threads.rt:165:9
 pub take_turn-turn-requires : goal.take_turn-turn-requires
 take_turn-turn-requires c = search step_ways
 
--- src/threads.rt:177:5
 pub move_on-requires : goal.move_on-requires
 move_on-requires c = step_moving c.if-depths-i-eq0.false c.take_turn-turn.ensures c.requires
 
--- src/threads.rt:139:1
 pub returns : goal.returns
 returns c = step_moves c.if-depths-i-eq0.false c.take_turn-turn.ensures c.move_on.ensures

@@ -1,6 +1,5 @@
 -- `engine::evaluate::operation` meets its contract; the allowed depth falls.
 use Rattle.engine.proofs.evaluate.+operation.Given as goal
 
--- proposed from what the function passes where it calls itself
 abbrev pub decreases-operation : goal.decreases-operation
 decreases-operation l = l.depth

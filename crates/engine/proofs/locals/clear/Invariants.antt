@@ -6,6 +6,5 @@ use Rattle.engine.proofs.locals.clear.Given as goal
 abbrev pub invariant-loop-i : goal.invariant-loop-i
 invariant-loop-i l = (l.from ≤ l.i) × (l.i ≤ l.to) × Clears l.initial.locals l.locals l.from l.i
 
--- proposed from the loop's first test
 abbrev pub decreases-loop-i : goal.decreases-loop-i
 decreases-loop-i l = l.to - l.i

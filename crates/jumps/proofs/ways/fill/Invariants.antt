@@ -6,6 +6,5 @@ use Rattle.jumps.proofs.ways.fill.Given as goal
 abbrev pub invariant-loop-m : goal.invariant-loop-m
 invariant-loop-m l = Filled l.t l.procedures l.initial.jumps l.m l.at l.jumps
 
--- proposed from the loop's first test
 abbrev pub decreases-loop-m : goal.decreases-loop-m
 decreases-loop-m l = l.procedures - l.m

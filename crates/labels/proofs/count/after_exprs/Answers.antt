@@ -2,6 +2,5 @@
 use Rattle.labels.proofs.Counting.{skip_ways}
 use Rattle.labels.proofs.count.after_exprs.Goals as goal
 
--- src/count.rt:32:5
 pub loop-left-preserved : goal.loop-left-preserved
 loop-left-preserved c = search skip_ways

@@ -3,44 +3,34 @@ use Rattle.std.proofs.Common.{rules}
 use Rattle.labels.proofs.Filling.{fill_ways}
 use Rattle.labels.proofs.label_map.+fill_block_fill_instr.Goals as goal
 
--- src/label_map.rt:83:13
 pub fill_block-count_instr-one-requires : goal.fill_block-count_instr-one-requires
 fill_block-count_instr-one-requires t c = search fill_ways
 
--- src/label_map.rt:87:9
 pub fill_block-fill_instr-requires : goal.fill_block-fill_instr-requires
 fill_block-fill_instr-requires t c = (search rules, (search fill_ways, search rules))
 
--- src/label_map.rt:82:5
 pub fill_block-loop-i-preserved : goal.fill_block-loop-i-preserved
 fill_block-loop-i-preserved t c = search fill_ways
 
--- src/label_map.rt:66:1
 pub fill_block-returns : goal.fill_block-returns
 fill_block-returns t c = search fill_ways
 
--- src/label_map.rt:114:9
 pub fill_instr-fill_block-requires : goal.fill_instr-fill_block-requires
 fill_instr-fill_block-requires t c = (search rules, (search fill_ways, search rules))
 
--- src/label_map.rt:115:9
 pub fill_instr-returns-then-form-eq-WHILE : goal.fill_instr-returns-then-form-eq-WHILE
 fill_instr-returns-then-form-eq-WHILE t c = search fill_ways
 
--- src/label_map.rt:119:13
 pub fill_instr-count_block-counted-requires : goal.fill_instr-count_block-counted-requires
 fill_instr-count_block-counted-requires t c = search fill_ways
 
--- src/label_map.rt:125:9
 pub fill_instr-fill_block-requires-then-form-eq-IF :
     goal.fill_instr-fill_block-requires-then-form-eq-IF
 fill_instr-fill_block-requires-then-form-eq-IF t c = (search rules, (search fill_ways, search rules))
 
--- src/label_map.rt:126:9
 pub fill_instr-fill_block-requires-then-form-eq-IF-2 :
     goal.fill_instr-fill_block-requires-then-form-eq-IF-2
 fill_instr-fill_block-requires-then-form-eq-IF-2 t c = (search rules, (search fill_ways, search rules))
 
--- src/label_map.rt:127:9
 pub fill_instr-returns-then-form-eq-IF : goal.fill_instr-returns-then-form-eq-IF
 fill_instr-returns-then-form-eq-IF t c = search fill_ways

@@ -2,18 +2,14 @@
 use Rattle.labels.proofs.Mapping.{map_ways}
 use Rattle.labels.proofs.label_map.fill_labels.Goals as goal
 
--- src/label_map.rt:148:13
 pub count_block-body-requires : goal.count_block-body-requires
 count_block-body-requires c = search map_ways
 
--- src/label_map.rt:151:9
 pub fill_block-requires-clause-block_in : goal.fill_block-requires-clause-block_in
 fill_block-requires-clause-block_in c = search map_ways
 
--- src/label_map.rt:147:5
 pub loop-m-preserved : goal.loop-m-preserved
 loop-m-preserved c = search map_ways
 
--- src/label_map.rt:134:1
 pub returns : goal.returns
 returns c = search map_ways

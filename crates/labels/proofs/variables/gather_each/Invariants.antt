@@ -5,6 +5,5 @@ use Rattle.labels.proofs.variables.gather_each.Given as goal
 abbrev pub invariant-loop-left : goal.invariant-loop-left
 invariant-loop-left l = Gathering l.code l.at l.count l.set l.i l.left
 
--- proposed from the loop's first test
 abbrev pub decreases-loop-left : goal.decreases-loop-left
 decreases-loop-left l = l.left

@@ -7,6 +7,5 @@ use Rattle.mender.proofs.changes.put_changes.Given as goal
 abbrev pub invariant-loop-i : goal.invariant-loop-i
 invariant-loop-i l = Listing l.old l.table l.initial.list l.list l.i l.p
 
--- proposed from the loop's first test
 abbrev pub decreases-loop-i : goal.decreases-loop-i
 decreases-loop-i l = trailer_size - l.i

@@ -7,6 +7,5 @@ use Rattle.mender.proofs.search.find.Given as goal
 abbrev pub invariant-loop-procedures : goal.invariant-loop-procedures
 invariant-loop-procedures l = Finding (kind_of l.kind) l.initial.table l.table l.found l.procedures l.position
 
--- proposed from the loop's first test
 abbrev pub decreases-loop-procedures : goal.decreases-loop-procedures
 decreases-loop-procedures l = l.most.procedures - l.procedures

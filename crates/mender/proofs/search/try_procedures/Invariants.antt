@@ -8,6 +8,5 @@ use Rattle.mender.proofs.search.try_procedures.Given as goal
 abbrev pub invariant-loop-threads : goal.invariant-loop-threads
 invariant-loop-threads l = Trying (kind_of l.kind) l.initial.table l.initial.found l.procedures l.at l.table l.found (l.rest / 2) l.threads
 
--- proposed from the loop's first test
 abbrev pub decreases-loop-threads : goal.decreases-loop-threads
 decreases-loop-threads l = suc l.most.threads - l.threads

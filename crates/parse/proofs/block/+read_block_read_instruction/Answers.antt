@@ -2,36 +2,28 @@
 use Rattle.parse.proofs.Blocks.{block_ways}
 use Rattle.parse.proofs.block.+read_block_read_instruction.Goals as goal
 
--- src/block.rt:110:13
 pub read_block-returns-then-code-position-eq-END :
     goal.read_block-returns-then-code-position-eq-END
 read_block-returns-then-code-position-eq-END t c = search block_ways
 
--- src/block.rt:113:13
 pub read_block-returns-in_default : goal.read_block-returns-in_default
 read_block-returns-in_default t c = search block_ways
 
--- src/block.rt:108:5
 pub read_block-loop-position-smaller : goal.read_block-loop-position-smaller
 read_block-loop-position-smaller t c = search block_ways
 
--- src/block.rt:108:5
 pub read_block-loop-position-preserved : goal.read_block-loop-position-preserved
 read_block-loop-position-preserved t c = search block_ways
 
--- src/block.rt:100:1
 pub read_block-returns : goal.read_block-returns
 read_block-returns t c = search block_ways
 
--- src/block.rt:136:9
 pub read_instruction-returns-then-byte-eq-WHILE : goal.read_instruction-returns-then-byte-eq-WHILE
 read_instruction-returns-then-byte-eq-WHILE t c = search block_ways
 
--- src/block.rt:143:13
 pub read_instruction-returns-in_default-read_block :
     goal.read_instruction-returns-in_default-read_block
 read_instruction-returns-in_default-read_block t c = search block_ways
 
--- src/block.rt:145:9
 pub read_instruction-returns-then-byte-eq-IF : goal.read_instruction-returns-then-byte-eq-IF
 read_instruction-returns-then-byte-eq-IF t c = search block_ways

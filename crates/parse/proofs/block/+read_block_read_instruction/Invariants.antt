@@ -13,6 +13,5 @@ decreases-read_instruction l = l.depth + l.depth + 1
 abbrev pub invariant-read_block-loop-position : goal.invariant-read_block-loop-position
 invariant-read_block-loop-position l = BlockFrom l.code l.depth (here_of l.context) l.at l.position
 
--- proposed from the loop's first test
 abbrev pub decreases-read_block-loop-position : goal.decreases-read_block-loop-position
 decreases-read_block-loop-position l = length l.code - l.position

@@ -5,6 +5,5 @@ use Rattle.parse.proofs.block.read_values.Given as goal
 abbrev pub invariant-loop-left : goal.invariant-loop-left
 invariant-loop-left l = ValuesFrom l.code l.at l.count l.position l.left
 
--- proposed from the loop's first test
 abbrev pub decreases-loop-left : goal.decreases-loop-left
 decreases-loop-left l = l.left

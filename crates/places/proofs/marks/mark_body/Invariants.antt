@@ -7,6 +7,5 @@ use Rattle.places.proofs.marks.mark_body.Given as goal
 abbrev pub invariant-loop-i : goal.invariant-loop-i
 invariant-loop-i l = From l.t l.end (marked_by l.q l.initial.marks) l.at (marked_by l.q l.marks) l.i
 
--- proposed from the loop's first test
 abbrev pub decreases-loop-i : goal.decreases-loop-i
 decreases-loop-i l = l.end - l.i

@@ -2,6 +2,5 @@
 use Rattle.places.specs.Laws.Marking.{mark_ways}
 use Rattle.places.proofs.marks.mark_calls.Goals as goal
 
--- src/marks.rt:47:5
 pub loop-q-preserved : goal.loop-q-preserved
 loop-q-preserved c = search mark_ways

@@ -3,30 +3,23 @@ use Rattle.std.proofs.Common.{rules}
 use Rattle.prices.proofs.Costing.{inside_ways}
 use Rattle.prices.proofs.costs.+inner_costs_inside_costs.Goals as goal
 
--- src/costs.rt:86:13
 pub inner_costs-inside_costs-yes-requires : goal.inner_costs-inside_costs-yes-requires
 inner_costs-inside_costs-yes-requires t c = (search rules, search inside_ways)
 
--- src/costs.rt:87:13
 pub inner_costs-inside_costs-no-requires : goal.inner_costs-inside_costs-no-requires
 inner_costs-inside_costs-no-requires t c = (search rules, search inside_ways)
 
--- src/costs.rt:89:9
 pub inner_costs-returns-then-t-at-eq-IF : goal.inner_costs-returns-then-t-at-eq-IF
 inner_costs-returns-then-t-at-eq-IF t c = search inside_ways
 
--- src/costs.rt:79:1
 pub inner_costs-returns : goal.inner_costs-returns
 inner_costs-returns t c = search inside_ways
 
--- src/costs.rt:108:13
 pub inside_costs-inner_costs-one-requires : goal.inside_costs-inner_costs-one-requires
 inside_costs-inner_costs-one-requires t c = (search rules, search inside_ways)
 
--- src/costs.rt:107:5
 pub inside_costs-loop-i-preserved : goal.inside_costs-loop-i-preserved
 inside_costs-loop-i-preserved t c = search inside_ways
 
--- src/costs.rt:99:1
 pub inside_costs-returns : goal.inside_costs-returns
 inside_costs-returns t c = search inside_ways

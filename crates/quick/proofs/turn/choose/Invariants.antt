@@ -6,6 +6,5 @@ use Rattle.quick.proofs.turn.choose.Given as goal
 abbrev pub invariant-loop-steps : goal.invariant-loop-steps
 invariant-loop-steps l = Choosing l.t l.jumps l.words l.base l.at l.left l.head l.v l.to l.steps
 
--- proposed from the loop's first test
 abbrev pub decreases-loop-steps : goal.decreases-loop-steps
 decreases-loop-steps l = l.left - l.steps

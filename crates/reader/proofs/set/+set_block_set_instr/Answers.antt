@@ -2,54 +2,41 @@
 use Rattle.reader.specs.Laws.SetScans.{ways}
 use Rattle.reader.proofs.set.+set_block_set_instr.Goals as goal
 
--- src/set.rt:166:9
 pub set_block-returns-then-depth-eq0 : goal.set_block-returns-then-depth-eq0
 set_block-returns-then-depth-eq0 t c = search ways
 
--- src/set.rt:172:13
 pub set_block-returns-then-t-i-eq-END : goal.set_block-returns-then-t-i-eq-END
 set_block-returns-then-t-i-eq-END t c = search ways
 
--- src/set.rt:175:13
 pub set_block-returns-in_default : goal.set_block-returns-in_default
 set_block-returns-in_default t c = search ways
 
--- src/set.rt:170:5
 pub set_block-loop-i-preserved : goal.set_block-loop-i-preserved
 set_block-loop-i-preserved t c = search ways
 
--- src/set.rt:161:1
 pub set_block-returns : goal.set_block-returns
 set_block-returns t c = search ways
 
--- src/set.rt:135:13
 pub set_instr-returns-in_default : goal.set_instr-returns-in_default
 set_instr-returns-in_default t c = search ways
 
--- src/set.rt:138:13
 pub set_instr-returns-in_default-set_block : goal.set_instr-returns-in_default-set_block
 set_instr-returns-in_default-set_block t c = search ways
 
--- src/set.rt:140:9
 pub set_instr-returns-then-mark-eq-WHILE : goal.set_instr-returns-then-mark-eq-WHILE
 set_instr-returns-then-mark-eq-WHILE t c = search ways
 
--- src/set.rt:144:13
 pub set_instr-returns-in_default-known_exprs : goal.set_instr-returns-in_default-known_exprs
 set_instr-returns-in_default-known_exprs t c = search ways
 
--- src/set.rt:147:13
 pub set_instr-returns-in_default-set_block-2 : goal.set_instr-returns-in_default-set_block-2
 set_instr-returns-in_default-set_block-2 t c = search ways
 
--- src/set.rt:150:13
 pub set_instr-returns-in_default-set_block-3 : goal.set_instr-returns-in_default-set_block-3
 set_instr-returns-in_default-set_block-3 t c = search ways
 
--- src/set.rt:152:9
 pub set_instr-returns-then-mark-eq-IF : goal.set_instr-returns-then-mark-eq-IF
 set_instr-returns-then-mark-eq-IF t c = search ways
 
--- src/set.rt:155:9
 pub set_instr-returns-then-mark-eq-ATOMIC : goal.set_instr-returns-then-mark-eq-ATOMIC
 set_instr-returns-then-mark-eq-ATOMIC t c = search ways

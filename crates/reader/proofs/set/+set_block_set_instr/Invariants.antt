@@ -12,6 +12,5 @@ decreases-set_instr l = l.depth + l.depth + 1
 abbrev pub invariant-set_block-loop-i : goal.invariant-set_block-loop-i
 invariant-set_block-loop-i l = SetsFrom l.t l.at l.depth l.set l.i l.known
 
--- proposed from the loop's first test
 abbrev pub decreases-set_block-loop-i : goal.decreases-set_block-loop-i
 decreases-set_block-loop-i l = length l.t - l.i

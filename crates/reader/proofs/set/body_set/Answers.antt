@@ -2,10 +2,8 @@
 use Rattle.reader.specs.Laws.SetScans.{proc_ways}
 use Rattle.reader.proofs.set.body_set.Goals as goal
 
--- src/set.rt:201:9
 pub returns-in_default : goal.returns-in_default
 returns-in_default c = search proc_ways
 
--- src/set.rt:194:1
 pub returns : goal.returns
 returns c = search proc_ways

@@ -6,6 +6,5 @@ use Rattle.reader.proofs.set.known_exprs.Given as goal
 abbrev pub invariant-loop-left : goal.invariant-loop-left
 invariant-loop-left l = KnowsFrom l.t l.at l.count l.set l.i l.left
 
--- proposed from the loop's first test
 abbrev pub decreases-loop-left : goal.decreases-loop-left
 decreases-loop-left l = length l.t - l.i

@@ -2,10 +2,8 @@
 use Rattle.reader.specs.Laws.SetScans.{proc_ways}
 use Rattle.reader.proofs.set.set_before_read.Goals as goal
 
--- src/set.rt:214:13
 pub returns-then-not-body_set : goal.returns-then-not-body_set
 returns-then-not-body_set c = search proc_ways
 
--- src/set.rt:207:1
 pub returns : goal.returns
 returns c = search proc_ways

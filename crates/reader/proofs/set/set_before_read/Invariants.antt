@@ -6,6 +6,5 @@ use Rattle.reader.proofs.set.set_before_read.Given as goal
 abbrev pub invariant-loop-m : goal.invariant-loop-m
 invariant-loop-m l = Before l.t l.procedures l.records l.m
 
--- proposed from the loop's first test
 abbrev pub decreases-loop-m : goal.decreases-loop-m
 decreases-loop-m l = l.procedures - l.m

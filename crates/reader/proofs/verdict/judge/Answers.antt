@@ -2,14 +2,11 @@
 use Rattle.reader.proofs.Verdicts.{verdict_ways}
 use Rattle.reader.proofs.verdict.judge.Goals as goal
 
--- src/verdict.rt:59:8
 pub names_right-requires : goal.names_right-requires
 names_right-requires c = search verdict_ways
 
--- src/verdict.rt:65:12
 pub no_cycle-requires : goal.no_cycle-requires
 no_cycle-requires c = search verdict_ways
 
--- src/verdict.rt:66:16
 pub set_before_read-requires : goal.set_before_read-requires
 set_before_read-requires c = search verdict_ways

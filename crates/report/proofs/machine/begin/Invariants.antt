@@ -6,6 +6,5 @@ use Rattle.report.proofs.machine.begin.Given as goal
 abbrev pub invariant-loop-i : goal.invariant-loop-i
 invariant-loop-i l = Begins l.t l.at l.records l.i l.depths l.heights l.rows × (l.i ≤ l.threads)
 
--- proposed from the loop's first test
 abbrev pub decreases-loop-i : goal.decreases-loop-i
 decreases-loop-i l = l.threads - l.i

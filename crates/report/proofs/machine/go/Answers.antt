@@ -2,26 +2,20 @@
 use Rattle.report.proofs.Going.{going_ways}
 use Rattle.report.proofs.machine.go.Goals as goal
 
--- src/machine.rt:87:5
 pub loop-ends-init : goal.loop-ends-init
 loop-ends-init c = search going_ways
 
--- src/machine.rt:89:13
 pub returns-then-finished : goal.returns-then-finished
 returns-then-finished c = search going_ways
 
--- src/machine.rt:92:13
 pub returns-then-taken-schedule : goal.returns-then-taken-schedule
 returns-then-taken-schedule c = search going_ways
 
--- src/machine.rt:94:15
 pub step-requires : goal.step-requires
 step-requires c = search going_ways
 
--- src/machine.rt:110:17
 pub returns-in-Blocked : goal.returns-in-Blocked
 returns-in-Blocked c = search going_ways
 
--- src/machine.rt:87:5
 pub loop-ends-preserved : goal.loop-ends-preserved
 loop-ends-preserved c = search going_ways

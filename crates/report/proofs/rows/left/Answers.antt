@@ -2,6 +2,5 @@
 use Rattle.report.proofs.Rowing.{left_ways}
 use Rattle.report.proofs.rows.left.Goals as goal
 
--- src/rows.rt:64:12
 pub bounds-t-rows : goal.bounds-t-rows
 bounds-t-rows c = search left_ways

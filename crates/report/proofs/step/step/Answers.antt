@@ -3,58 +3,44 @@ use Rattle.std.proofs.Common.{arith}
 use Rattle.report.proofs.Settling.{step_small, step_within, settled, step_ready, step_returns, step_rules, step_ways}
 use Rattle.report.proofs.step.step.Goals as goal
 
--- src/step.rt:206:9
 pub returns-then-depths-i-eq0 : goal.returns-then-depths-i-eq0
 returns-then-depths-i-eq0 c = search step_ways
 
--- src/step.rt:208:15
 pub overflow_add-top : goal.overflow_add-top
 overflow_add-top c = record { fits = omega (arith, step_small c.requires c.if-depths-i-eq0.false) }
 
--- src/step.rt:210:34
 pub overflow_mul-top-2 : goal.overflow_mul-top-2
 overflow_mul-top-2 c = record { fits = omega (arith, step_small c.requires c.if-depths-i-eq0.false) }
 
--- src/step.rt:210:46
 pub offset_bounds-heights-top : goal.offset_bounds-heights-top
 offset_bounds-heights-top c = record { fits = omega (arith, step_small c.requires c.if-depths-i-eq0.false) }
 
--- src/step.rt:210:46
 pub bounds-heights-top : goal.bounds-heights-top
 bounds-heights-top c = omega (arith, step_small c.requires c.if-depths-i-eq0.false)
 
--- src/step.rt:210:20
 pub left-requires : goal.left-requires
 left-requires c = step_within c.requires c.if-depths-i-eq0.false
 
--- src/step.rt:210:5
 pub offset_bounds-heights-top-2 : goal.offset_bounds-heights-top-2
 offset_bounds-heights-top-2 c = record { fits = omega (arith, step_small c.requires c.if-depths-i-eq0.false) }
 
--- src/step.rt:210:5
 pub bounds-heights-top-2 : goal.bounds-heights-top-2
 bounds-heights-top-2 c = omega (arith, step_small c.requires c.if-depths-i-eq0.false)
 
--- src/step.rt:212:8
 pub offset_bounds-heights-top-3 : goal.offset_bounds-heights-top-3
 offset_bounds-heights-top-3 c = record { fits = omega (arith, step_small c.requires c.if-depths-i-eq0.false) }
 
--- src/step.rt:212:8
 pub bounds-heights-top-3 : goal.bounds-heights-top-3
 bounds-heights-top-3 c = omega (arith, step_small c.requires c.if-depths-i-eq0.false)
 
--- src/step.rt:214:9
 pub returns-then-heights-top-eq0 : goal.returns-then-heights-top-eq0
 returns-then-heights-top-eq0 c = step_returns c.if-depths-i-eq0.false c.left.ensures c.if-heights-top-eq0.true
 
--- src/step.rt:216:5
 pub rule-requires-clause-stepping : goal.rule-requires-clause-stepping
 rule-requires-clause-stepping c = settled c.if-depths-i-eq0.false c.left.ensures c.requires
 
--- src/step.rt:216:5
 pub rule-requires-clause-ready : goal.rule-requires-clause-ready
 rule-requires-clause-ready c = step_ready c.if-depths-i-eq0.false c.left.ensures c.requires c.if-heights-top-eq0.false
 
--- src/step.rt:184:1
 pub returns : goal.returns
 returns c = step_rules c.if-depths-i-eq0.false c.left.ensures c.if-heights-top-eq0.false c.rule.ensures

@@ -21,14 +21,11 @@ no_call marks (T.Call m n) h = absurd (h m n refl)
 no_call marks T.Atomic h = refl
 no_call marks (T.Select a b) h = refl
 
--- src/calls.rt:23:9
 pub returns-in_default : goal.returns-in_default
 returns-in_default c = no_call c.args.marks.now c.args.k c.in_default.not-Call
 
--- src/calls.rt:26:9
 pub returns-then-m-lt-MOST_PROCEDURES : goal.returns-then-m-lt-MOST_PROCEDURES
 returns-then-m-lt-MOST_PROCEDURES c = search pass_ways
 
--- src/calls.rt:19:1
 pub returns : goal.returns
 returns c = search pass_ways

@@ -2,14 +2,11 @@
 use Rattle.scan.specs.Laws.CallScans.{pass_ways}
 use Rattle.scan.proofs.calls.next_call.Goals as goal
 
--- src/calls.rt:37:5
 pub loop-i-smaller : goal.loop-i-smaller
 loop-i-smaller c = search pass_ways
 
--- src/calls.rt:37:5
 pub loop-i-preserved : goal.loop-i-preserved
 loop-i-preserved c = search pass_ways
 
--- src/calls.rt:32:1
 pub returns : goal.returns
 returns c = search pass_ways

@@ -6,6 +6,5 @@ use Rattle.scan.proofs.calls.next_call.Given as goal
 abbrev pub invariant-loop-i : goal.invariant-loop-i
 invariant-loop-i l = Passing l.t l.end l.marks l.at l.i
 
--- proposed from the loop's first test
 abbrev pub decreases-loop-i : goal.decreases-loop-i
 decreases-loop-i l = l.end - l.i

@@ -21,22 +21,17 @@ other (T.Call n m) s p l x = refl
 other T.Atomic s p l x = refl
 other (T.Select n m) s p l x = refl
 
--- src/label_count.rt:10:1
 pub returns-in-Stop : goal.returns-in-Stop
 returns-in-Stop c = search ways
 
--- src/label_count.rt:10:1
 pub returns-in-Plain : goal.returns-in-Plain
 returns-in-Plain c = search ways
 
--- src/label_count.rt:10:1
 pub returns-in-Location : goal.returns-in-Location
 returns-in-Location c = search ways
 
--- src/label_count.rt:10:1
 pub returns-in-Local : goal.returns-in-Local
 returns-in-Local c = search ways
 
--- src/label_count.rt:10:1
 pub returns-in_default : goal.returns-in_default
 returns-in_default c = other c.args.k c.in_default.not-Stop c.in_default.not-Plain c.in_default.not-Location c.in_default.not-Local

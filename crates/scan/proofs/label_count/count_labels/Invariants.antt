@@ -6,6 +6,5 @@ use Rattle.scan.proofs.label_count.count_labels.Given as goal
 abbrev pub invariant-loop-i : goal.invariant-loop-i
 invariant-loop-i l = Counting l.t l.procedures l.records l.i l.labels l.within
 
--- proposed from the loop's first test
 abbrev pub decreases-loop-i : goal.decreases-loop-i
 decreases-loop-i l = l.records - l.i

@@ -21,10 +21,8 @@ other (T.Call m n) a = refl
 other T.Atomic a = absurd (a refl)
 other (T.Select x y) a = refl
 
--- src/label_count.rt:33:1
 pub returns-in-Atomic : goal.returns-in-Atomic
 returns-in-Atomic c = search ways
 
--- src/label_count.rt:33:1
 pub returns-in_default : goal.returns-in_default
 returns-in_default c = other c.args.k c.in_default.not-Atomic

@@ -21,22 +21,17 @@ other n l (T.Call m x) s w i a = omega arith
 other n l T.Atomic s w i a = absurd (a refl)
 other n l (T.Select x y) s w i a = omega arith
 
--- src/label_count.rt:43:1
 pub returns-in-Stop : goal.returns-in-Stop
 returns-in-Stop c = search ways
 
--- src/label_count.rt:43:1
 pub returns-in-While : goal.returns-in-While
 returns-in-While c = search ways
 
--- src/label_count.rt:43:1
 pub returns-in-If : goal.returns-in-If
 returns-in-If c = search ways
 
--- src/label_count.rt:43:1
 pub returns-in-Atomic : goal.returns-in-Atomic
 returns-in-Atomic c = search ways
 
--- src/label_count.rt:43:1
 pub returns-in_default : goal.returns-in_default
 returns-in_default c = other c.args.within c.requires.0 c.args.k c.in_default.not-Stop c.in_default.not-While c.in_default.not-If c.in_default.not-Atomic

@@ -2,6 +2,5 @@
 use Rattle.scan.specs.Laws.NameScans.{ways}
 use Rattle.scan.proofs.names.body_named.Goals as goal
 
--- src/names.rt:85:1
 pub returns : goal.returns
 returns c = search ways

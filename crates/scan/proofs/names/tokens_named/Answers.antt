@@ -2,18 +2,14 @@
 use Rattle.scan.specs.Laws.NameScans.{ways}
 use Rattle.scan.proofs.names.tokens_named.Goals as goal
 
--- src/names.rt:77:13
 pub returns-then-not-token_named : goal.returns-then-not-token_named
 returns-then-not-token_named c = search ways
 
--- src/names.rt:75:5
 pub loop-i-smaller : goal.loop-i-smaller
 loop-i-smaller c = search ways
 
--- src/names.rt:75:5
 pub loop-i-preserved : goal.loop-i-preserved
 loop-i-preserved c = search ways
 
--- src/names.rt:62:1
 pub returns : goal.returns
 returns c = search ways

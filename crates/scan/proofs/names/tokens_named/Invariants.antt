@@ -6,6 +6,5 @@ use Rattle.scan.proofs.names.tokens_named.Given as goal
 abbrev pub invariant-loop-i : goal.invariant-loop-i
 invariant-loop-i l = To l.t l.procedures l.locations l.records l.locals l.at l.end l.i
 
--- proposed from the loop's first test
 abbrev pub decreases-loop-i : goal.decreases-loop-i
 decreases-loop-i l = l.end - l.i

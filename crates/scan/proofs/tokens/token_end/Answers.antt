@@ -2,10 +2,8 @@
 use Rattle.scan.specs.Laws.Tokens.{size_listed, size_other}
 use Rattle.scan.proofs.tokens.token_end.Goals as goal
 
--- src/tokens.rt:100:9
 pub returns-then-mark-lt40 : goal.returns-then-mark-lt40
 returns-then-mark-lt40 c = size_listed c.args.t.now c.args.i c.if-mark-lt40.true
 
--- src/tokens.rt:94:1
 pub returns : goal.returns
 returns c = size_other c.args.t.now c.args.i c.if-mark-lt40.false

@@ -6,6 +6,5 @@ use Rattle.sequential.proofs.machine.go.Given as goal
 abbrev pub invariant-loop-state : goal.invariant-loop-state
 invariant-loop-state l = Going l.t l.records l.schedule l.jumps l.starts l.initial.words l.initial.back l.initial.cells l.h l.budget l.initial.events l.words l.back l.cells l.events l.state l.steps
 
--- proposed from the loop's first test
 abbrev pub decreases-loop-state : goal.decreases-loop-state
 decreases-loop-state l = l.budget - l.steps

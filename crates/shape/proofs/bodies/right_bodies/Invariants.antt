@@ -6,6 +6,5 @@ use Rattle.shape.proofs.bodies.right_bodies.Given as goal
 abbrev pub invariant-loop-left : goal.invariant-loop-left
 invariant-loop-left l = BodiesFrom (kind_of l.kind) l.code l.body l.records l.count l.position l.at l.procedure l.left
 
--- proposed from the loop's first test
 abbrev pub decreases-loop-left : goal.decreases-loop-left
 decreases-loop-left l = l.left

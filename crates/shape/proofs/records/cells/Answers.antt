@@ -2,6 +2,5 @@
 use Rattle.shape.proofs.Rule3.{cells_ways}
 use Rattle.shape.proofs.records.cells.Goals as goal
 
--- src/records.rt:62:5
 pub loop-left-preserved : goal.loop-left-preserved
 loop-left-preserved c = search cells_ways

@@ -2,14 +2,11 @@
 use Rattle.shape.proofs.Rule3.{locals_ways}
 use Rattle.shape.proofs.records.right_locals.Goals as goal
 
--- src/records.rt:22:13
 pub returns-then-locals-body : goal.returns-then-locals-body
 returns-then-locals-body c = search locals_ways
 
--- src/records.rt:25:13
 pub returns-then-most-locals : goal.returns-then-most-locals
 returns-then-most-locals c = search locals_ways
 
--- src/records.rt:19:5
 pub loop-left-preserved : goal.loop-left-preserved
 loop-left-preserved c = search locals_ways

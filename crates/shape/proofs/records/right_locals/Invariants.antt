@@ -5,6 +5,5 @@ use Rattle.shape.proofs.records.right_locals.Given as goal
 abbrev pub invariant-loop-left : goal.invariant-loop-left
 invariant-loop-left l = LocalsFrom l.body l.at l.count l.most l.position l.left
 
--- proposed from the loop's first test
 abbrev pub decreases-loop-left : goal.decreases-loop-left
 decreases-loop-left l = l.left

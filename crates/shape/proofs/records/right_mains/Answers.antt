@@ -2,10 +2,8 @@
 use Rattle.shape.proofs.Rule3.{mains_ways}
 use Rattle.shape.proofs.records.right_mains.Goals as goal
 
--- src/records.rt:88:5
 pub loop-left-preserved : goal.loop-left-preserved
 loop-left-preserved c = search mains_ways
 
--- src/records.rt:94:13
 pub returns-else-begun : goal.returns-else-begun
 returns-else-begun c = search mains_ways

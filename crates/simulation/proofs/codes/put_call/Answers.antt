@@ -2,6 +2,5 @@
 use Rattle.simulation.proofs.Labels.{label_ways}
 use Rattle.simulation.proofs.codes.put_call.Goals as goal
 
--- src/codes.rt:80:1
 pub returns : goal.returns
 returns c = search label_ways

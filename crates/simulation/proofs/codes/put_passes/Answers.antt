@@ -2,6 +2,5 @@
 use Rattle.simulation.proofs.Labels.{label_ways}
 use Rattle.simulation.proofs.codes.put_passes.Goals as goal
 
--- src/codes.rt:62:5
 pub loop-x-preserved : goal.loop-x-preserved
 loop-x-preserved c = search label_ways

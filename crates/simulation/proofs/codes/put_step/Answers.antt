@@ -2,10 +2,8 @@
 use Rattle.simulation.proofs.Labels.{label_ways}
 use Rattle.simulation.proofs.codes.put_step.Goals as goal
 
--- src/codes.rt:106:9
 pub returns-then-t-at-eq-ATOMIC : goal.returns-then-t-at-eq-ATOMIC
 returns-then-t-at-eq-ATOMIC c = search label_ways
 
--- src/codes.rt:100:1
 pub returns : goal.returns
 returns c = search label_ways

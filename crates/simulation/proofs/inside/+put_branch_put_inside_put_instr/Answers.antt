@@ -2,30 +2,23 @@
 use Rattle.simulation.proofs.Blocks.{block_ways}
 use Rattle.simulation.proofs.inside.+put_branch_put_inside_put_instr.Goals as goal
 
--- src/inside.rt:56:1
 pub put_branch-returns : goal.put_branch-returns
 put_branch-returns t c = search block_ways
 
--- src/inside.rt:25:9
 pub put_inside-returns-then-depth-eq0 : goal.put_inside-returns-then-depth-eq0
 put_inside-returns-then-depth-eq0 t c = search block_ways
 
--- src/inside.rt:31:13
 pub put_inside-returns-then-t-i-eq-END : goal.put_inside-returns-then-t-i-eq-END
 put_inside-returns-then-t-i-eq-END t c = search block_ways
 
--- src/inside.rt:29:5
 pub put_inside-loop-i-preserved : goal.put_inside-loop-i-preserved
 put_inside-loop-i-preserved t c = search block_ways
 
--- src/inside.rt:20:1
 pub put_inside-returns : goal.put_inside-returns
 put_inside-returns t c = search block_ways
 
--- src/inside.rt:50:9
 pub put_instr-returns-then-t-at-eq-IF : goal.put_instr-returns-then-t-at-eq-IF
 put_instr-returns-then-t-at-eq-IF t c = search block_ways
 
--- src/inside.rt:41:1
 pub put_instr-returns : goal.put_instr-returns
 put_instr-returns t c = search block_ways

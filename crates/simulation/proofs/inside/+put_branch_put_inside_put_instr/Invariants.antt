@@ -15,6 +15,5 @@ decreases-put_instr l = 3 * l.depth + 2
 abbrev pub invariant-put_inside-loop-i : goal.invariant-put_inside-loop-i
 invariant-put_inside-loop-i l = From l.t l.at l.depth l.s l.initial.out l.to l.i l.out l.p
 
--- proposed from the loop's first test
 abbrev pub decreases-put_inside-loop-i : goal.decreases-put_inside-loop-i
 decreases-put_inside-loop-i l = length l.t - l.i

@@ -6,6 +6,5 @@ use Rattle.simulation.proofs.simulate.put_bodies.Given as goal
 abbrev pub invariant-loop-done : goal.invariant-loop-done
 invariant-loop-done l = Simulating l.t l.shape l.map l.bounds l.offsets l.done l.initial.out l.to l.out l.p
 
--- proposed from the loop's first test
 abbrev pub decreases-loop-done : goal.decreases-loop-done
 decreases-loop-done l = l.labels - l.done

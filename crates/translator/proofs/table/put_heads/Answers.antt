@@ -2,10 +2,8 @@
 use Rattle.translator.proofs.Tabling.{table_ways}
 use Rattle.translator.proofs.table.put_heads.Goals as goal
 
--- src/table.rt:68:5
 pub loop-k-preserved : goal.loop-k-preserved
 loop-k-preserved c = search table_ways
 
--- src/table.rt:54:1
 pub returns : goal.returns
 returns c = search table_ways

@@ -6,6 +6,5 @@ use Rattle.translator.proofs.table.put_heads.Given as goal
 abbrev pub invariant-loop-k : goal.invariant-loop-k
 invariant-loop-k l = Heading l.t l.shape l.map l.offsets l.k l.initial.out l.at l.out l.p
 
--- proposed from the loop's first test
 abbrev pub decreases-loop-k : goal.decreases-loop-k
 decreases-loop-k l = l.labels - l.k

@@ -2,6 +2,5 @@
 use Rattle.translator.proofs.Tabling.{table_ways}
 use Rattle.translator.proofs.table.put_middle.Goals as goal
 
--- src/table.rt:103:1
 pub returns : goal.returns
 returns c = search table_ways

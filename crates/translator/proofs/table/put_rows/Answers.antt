@@ -2,10 +2,8 @@
 use Rattle.translator.proofs.Tabling.{table_ways}
 use Rattle.translator.proofs.table.put_rows.Goals as goal
 
--- src/table.rt:81:5
 pub loop-k-preserved : goal.loop-k-preserved
 loop-k-preserved c = search table_ways
 
--- src/table.rt:76:1
 pub returns : goal.returns
 returns c = search table_ways

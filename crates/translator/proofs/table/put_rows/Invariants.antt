@@ -8,6 +8,5 @@ use Rattle.translator.proofs.table.put_rows.Given as goal
 abbrev pub invariant-loop-k : goal.invariant-loop-k
 invariant-loop-k l = Onto l.initial.out l.at (each (bytes 2) (replicate l.n l.size)) l.out l.p (each (bytes 2) (replicate l.k l.size))
 
--- proposed from the loop's first test
 abbrev pub decreases-loop-k : goal.decreases-loop-k
 decreases-loop-k l = l.k

@@ -2,10 +2,8 @@
 use Rattle.translator.proofs.Tabling.{table_ways}
 use Rattle.translator.proofs.table.put_sizes.Goals as goal
 
--- src/table.rt:95:9
 pub returns-then-t-until : goal.returns-then-t-until
 returns-then-t-until c = search table_ways
 
--- src/table.rt:89:1
 pub returns : goal.returns
 returns c = search table_ways

@@ -2,6 +2,5 @@
 use Rattle.zeroth.proofs.Rounding.{round_ways}
 use Rattle.zeroth.proofs.procedure.put_closing.Goals as goal
 
--- src/procedure.rt:175:1
 pub returns : goal.returns
 returns c = search round_ways

@@ -6,6 +6,5 @@ use Rattle.zeroth.proofs.procedure.put_switch.Given as goal
 abbrev pub invariant-loop-k : goal.invariant-loop-k
 invariant-loop-k l = SwitchLeft l.labels l.k l.initial.out l.at l.out l.p
 
--- proposed from the loop's first test
 abbrev pub decreases-loop-k : goal.decreases-loop-k
 decreases-loop-k l = l.labels - l.k

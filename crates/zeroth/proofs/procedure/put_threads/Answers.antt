@@ -2,10 +2,8 @@
 use Rattle.zeroth.proofs.Rounding.{round_ways}
 use Rattle.zeroth.proofs.procedure.put_threads.Goals as goal
 
--- src/procedure.rt:115:5
 pub loop-k-preserved : goal.loop-k-preserved
 loop-k-preserved c = search round_ways
 
--- src/procedure.rt:102:1
 pub returns : goal.returns
 returns c = search round_ways

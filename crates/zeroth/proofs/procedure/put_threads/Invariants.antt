@@ -6,6 +6,5 @@ use Rattle.zeroth.proofs.procedure.put_threads.Given as goal
 abbrev pub invariant-loop-k : goal.invariant-loop-k
 invariant-loop-k l = ThreadsLeft l.part l.t l.shape l.bounds l.k l.initial.out l.at l.out l.p
 
--- proposed from the loop's first test
 abbrev pub decreases-loop-k : goal.decreases-loop-k
 decreases-loop-k l = l.threads - l.k
