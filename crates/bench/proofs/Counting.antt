@@ -1,19 +1,18 @@
 -- How many allotments there are, and the counts of one, way by way.
-use Prim.Native.Nat.{ℕ, zero, suc, ◌+◌, ◌*◌, ◌-◌, ◌/◌, ◌%◌, ◌^◌, ◌≤◌, ◌<◌}
+use Prim.Native.Nat.{ℕ, suc, ◌+◌, ◌*◌, ◌-◌, ◌/◌, ◌%◌, ◌^◌, ◌≤◌, ◌<◌}
 use native.Mathlib.Nat.{pow-zero, pow-suc, pow-le-pow_left, pow-le-pow_right, one-le-pow, mul-le-mul, mul-le-mul_left, mod-lt}
 use native.Mathlib.Omega.{arith}
 use mathlib.Core.Path.{◌≡◌, refl, sym, ap, subst, ◌∙◌}
 use mathlib.Core.List.{List, [], ◌∷◌, ◌++◌, append_assoc}
 use mathlib.Core.Bool.{true, false}
-use lib.ListN.{length, drop, get_or, set, length-set}
+use lib.ListN.{length, drop, set, length-set}
 use lib.Seq.{drop-cons, drop-set-lt, get_or-set_same}
 use lib.Dec.{leb}
 use borrow.Author.Tests.{le-leb, lt-leb}
-use Rattle.value.specs.Maybe.{both}
 use Rattle.basics.specs.Sizes.{most_threads}
 use Rattle.allotments.specs.Allotments.{counts}
 use Rattle.allotments.specs.Bench.{most_steps, most_allotments, places, allotments, benched}
-use Rattle.bench.specs.Counting.{Based, SaysPower, Threads, Benched, SaysAllotments, Filling, Fills}
+use Rattle.bench.specs.Counting.{Based, SaysPower, Threads, SaysAllotments, Filling, Fills}
 
 -- ---- a power
 

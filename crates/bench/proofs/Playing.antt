@@ -1,9 +1,9 @@
 -- The rounds of an allotment, way by way.
-use Prim.Native.Nat.{ℕ, zero, suc, ◌+◌, ◌*◌, ◌-◌, ◌≤◌, ◌<◌}
+use Prim.Native.Nat.{ℕ, suc, ◌+◌, ◌*◌, ◌-◌, ◌≤◌, ◌<◌}
 use native.Mathlib.Nat.{suc-mul}
 use native.Mathlib.Omega.{arith}
 use mathlib.Core.Path.{◌≡◌, refl, sym, ap, subst, ◌∙◌}
-use mathlib.Core.List.{List, [], ◌∷◌, ◌++◌}
+use mathlib.Core.List.{List, [], ◌++◌}
 use mathlib.Core.Bool.{Bool, true, false}
 use lib.ListN.{length, get_or, drop, replicate, get_or-append}
 use lib.Seq.{drop-cons, drop-length}
@@ -15,10 +15,10 @@ use Rattle.format.specs.Labels.{labelled}
 use Rattle.semantics.specs.Threads as P
 use Rattle.concurrent.specs.Stepping.{Present}
 use Rattle.atomic.specs.Threaded.{most_threads}
-use Rattle.allotments.specs.Allotments.{next, allotted}
+use Rattle.allotments.specs.Allotments.{allotted}
 use Rattle.allotments.specs.Bench.{places}
 use Rattle.allotments.proofs.Laws.Trials.{tries}
-use Rattle.bench.specs.Trying.{Ready, Taking, Led, Takes, Playing, Ends, Plays}
+use Rattle.bench.specs.Trying.{Taking, Led, Takes, Playing, Plays}
 
 -- ---- the states of the loops
 

@@ -4,11 +4,11 @@ use native.Mathlib.Nat.{one-le-pow}
 use native.Mathlib.Omega.{arith}
 use mathlib.Core.Path.{◌≡◌, refl, sym, ap, subst, ◌∙◌}
 use mathlib.Core.List.{List}
-use mathlib.Core.Bool.{Bool, true, false}
-use lib.ListN.{length, drop, replicate, length-replicate}
+use mathlib.Core.Bool.{Bool, false}
+use lib.ListN.{length, replicate, length-replicate}
 use lib.Dec.{eqb}
 use borrow.Author.Tests.{eqb-true, eqb-false}
-use Rattle.value.specs.Maybe.{Maybe, is, nothing}
+use Rattle.value.specs.Maybe.{nothing}
 use Rattle.value.specs.Lists.{sum, over}
 use Rattle.value.specs.Values.{cell_size}
 use Rattle.value.proofs.Laws.Tests.{by_test}
@@ -20,11 +20,10 @@ use Rattle.semantics.specs.Buffers.{cells}
 use Rattle.engine.specs.Work.{thread_words, start_words, program_words, flat, Writes}
 use Rattle.engine.specs.Laws.Holding.{length_flat}
 use Rattle.atomic.specs.Threaded.{most_threads, all_frames}
-use Rattle.concurrent.specs.Concurrent.{Accepted}
 use Rattle.concurrent.specs.Anew.{Preparing, Prepares}
 use Rattle.concurrent.proofs.ConcurrentCall.{accepted_cells}
 use Rattle.allotments.specs.declared.BenchAnswer.{BenchAnswer}
-use Rattle.allotments.specs.Bench.{places, allotments, without, first_from, Outcome, counts_at, run_at, blocks_at, searched, search}
+use Rattle.allotments.specs.Bench.{places, allotments, without, first_from, run_at, blocks_at, searched}
 use Rattle.allotments.proofs.Laws.Searches.{Least, first_least, first_none}
 use Rattle.bench.specs.declared.trial.Tried.{Tried}
 use Rattle.bench.specs.declared.trial.Tried.TheVariants.{Blocks, Goes}

@@ -1,5 +1,5 @@
 -- The steps of a thread, way by way.
-use Prim.Native.Nat.{ℕ, zero, suc, ◌+◌, ◌-◌, ◌^◌, ◌<◌}
+use Prim.Native.Nat.{ℕ, suc, ◌-◌, ◌<◌}
 use native.Mathlib.Omega.{arith}
 use mathlib.Core.Path.{◌≡◌, refl, sym, ap, subst, ◌∙◌}
 use mathlib.Core.List.{List, [], ◌∷◌, ◌++◌}
@@ -20,7 +20,7 @@ use Rattle.concurrent.specs.declared.threads.Stepped.TheVariants.{To, Blocked}
 use Rattle.concurrent.specs.Stepping.{Present, Stepping, Went, Stays, Answers, Steps}
 use Rattle.allotments.specs.Allotments.{rests}
 use Rattle.allotments.proofs.Laws.Trials.{tries, tries_step, tries_stuck, tries_over}
-use Rattle.bench.specs.Trying.{Taking, Led, Takes}
+use Rattle.bench.specs.Trying.{Taking, Takes}
 
 -- ---- a finished thread
 

@@ -1,5 +1,5 @@
 -- One allotment is tried, way by way.
-use Prim.Native.Nat.{ℕ, suc, ◌+◌, ◌*◌, ◌-◌, ◌^◌, ◌≤◌, ◌<◌}
+use Prim.Native.Nat.{ℕ, suc, ◌+◌, ◌*◌, ◌^◌, ◌≤◌, ◌<◌}
 use native.Mathlib.Nat.{pow-le-pow_left, pow-le-pow_right}
 use native.Mathlib.Omega.{arith}
 use mathlib.Core.Path.{◌≡◌, refl, sym, ap, subst, ◌∙◌}
@@ -9,7 +9,7 @@ use lib.ListN.{length, drop, replicate, length-append, length-drop}
 use lib.Seq.{drop_at}
 use lib.Dec.{ltb}
 use borrow.Author.Tests.{ltb-true, ltb-false}
-use Rattle.value.specs.Lists.{sum, over}
+use Rattle.value.specs.Lists.{sum}
 use Rattle.value.proofs.Laws.Tests.{by_test}
 use Rattle.format.specs.Syntax.{Program, Plain}
 use Rattle.format.specs.Labels.{labelled}
@@ -23,7 +23,7 @@ use Rattle.concurrent.specs.Anew.{Renews}
 use Rattle.concurrent.proofs.ConcurrentCall.{accepted_cells, accepted_mains}
 use Rattle.concurrent.proofs.Renewing.{prepared, renewed}
 use Rattle.allotments.specs.Allotments.{counts, allotted}
-use Rattle.allotments.specs.Bench.{most_allotments, places, allotments, counts_at, run_at, blocks_at}
+use Rattle.allotments.specs.Bench.{places, counts_at, run_at}
 use Rattle.allotments.proofs.Laws.Trials.{Tried, tries, tried_by, run_tries}
 use Rattle.allotments.proofs.Laws.Digits.{length_counts}
 use Rattle.bench.specs.declared.trial.Tried.TheVariants.{Blocks, Goes}
