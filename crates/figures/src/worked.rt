@@ -17,7 +17,7 @@ use translator::translate;
 use value::{Answer, Value};
 
 // "25 bytes, one thread, empty body".
-const A: [u8; 25] = *b\x00\
+const A: [u8; 25] = *b"\x00\
       \x00\x00\x00\x00\x00\x00\
       \x00\x00\
       \x43\x50\x01\x00\x00\x00\x01\x00\x08\x00\x00\x00\x19\x00\x00\x00";
