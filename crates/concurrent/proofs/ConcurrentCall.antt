@@ -3,7 +3,7 @@ use Prim.Native.Nat.{ℕ, suc, ◌+◌, ◌*◌, ◌-◌, ◌^◌, ◌≤◌, �
 use native.Mathlib.Omega.{arith}
 use mathlib.Core.Path.{◌≡◌, refl, sym, ap, subst, ◌∙◌}
 use mathlib.Core.List.{List, ◌++◌}
-use mathlib.Core.Bool.{Bool, true, false, not}
+use mathlib.Core.Bool.{Bool, true, false}
 use lib.ListN.{length, get_or, drop, replicate, length-replicate, get_or-replicate, get_or-eq_default}
 use lib.Seq.{drop-length, drop-cons}
 use lib.Dec.{ltb, leb}
@@ -12,7 +12,7 @@ use Rattle.value.specs.Maybe.{is, both}
 use Rattle.value.specs.Lists.{at, all, sum, over}
 use Rattle.value.specs.Values.{bytes, cell_size}
 use Rattle.basics.specs.Places.{number_at}
-use Rattle.value.proofs.Laws.Tests.{by_test, both_passed, never}
+use Rattle.value.proofs.Laws.Tests.{by_test, both_passed}
 use Rattle.value.proofs.Laws.Lists.{Each, each_so, each_at, at_below, at_get_d, all_passed}
 use Rattle.value.proofs.Laws.Bytes.{Bytes}
 use Rattle.basics.specs.Laws.Places.{number_at_lem}
@@ -273,16 +273,6 @@ module _ (t : List ℕ) (h : Bytes t) {r : ReadAnswer} (q : r ≡ read_call conc
 
 -- ---- the call
 
--- its test, the other way round
-not_passed : (b : Bool) → not b ≡ true → b ≡ false
-not_passed true e = absurd (never e)
-not_passed false e = refl
-
--- and where that fails
-not_failed : (b : Bool) → not b ≡ false → b ≡ true
-not_failed true e = refl
-not_failed false e = absurd (never (sym e))
-
 module _ (ts cs es : List ℕ) (go : Program Plain → Outcome) (p : Program Plain) where
   -- no schedule of it
   as_unscheduled : scheduled concurrent p ts ≡ false → run_as concurrent (accepted p) go ts cs es ≡ untouched 11 cs es
@@ -316,22 +306,22 @@ module _ (t : List ℕ) (h : Bytes t) (ts cs es : List ℕ) (go : Program Plain 
     asked_of A = ap (λ n. scheduled_below n ts) (sym A.threads) ∙ sym s.same
 
     -- 11: "schedule over 4,096 entries, or (concurrent) an entry not below T"
-    pub call_unscheduled : {a : RunAnswer} → not b ≡ true → a ≡ refusal 11 → left a cs es ≡ call
+    pub call_unscheduled : {a : RunAnswer} → b ≡ false → a ≡ refusal 11 → left a cs es ≡ call
     call_unscheduled n e =
         let A = read_accepted t h q z in
-        rw (A.read, e) (sym (as_unscheduled ts cs es go A.program (asked_of A ∙ not_passed b n)))
+        rw (A.read, e) (sym (as_unscheduled ts cs es go A.program (asked_of A ∙ n)))
 
-    module _ (k : not b ≡ false) where
+    module _ (k : b ≡ true) where
       -- the entries of the schedule
       pub call_entries : Entries r.threads ts
-      call_entries = entries_of r.threads ts (sym s.same ∙ not_failed b k)
+      call_entries = entries_of r.threads ts (sym s.same ∙ k)
 
       -- 12: "cell buffer shorter than 5 bytes a cell"
       pub call_short : {a : RunAnswer} → length cs < cell_size * r.cells → a ≡ refusal 12 → left a cs es ≡ call
       call_short m e =
           let A = read_accepted t h q z in
           let short : roomy A.program cs ≡ false = rw (← A.cells) (lt-leb (cell_size * r.cells) (length cs) m) in
-          rw (A.read, e) (sym (as_short ts cs es go A.program (asked_of A ∙ not_failed b k) short))
+          rw (A.read, e) (sym (as_short ts cs es go A.program (asked_of A ∙ k) short))
 
       -- the run
       pub call_ran : {a : RunAnswer} {cs' es' : List ℕ} → cell_size * r.cells ≤ length cs
@@ -342,4 +332,4 @@ module _ (t : List ℕ) (h : Bytes t) (ts cs es : List ℕ) (go : Program Plain 
           let A = read_accepted t h q z in
           let room : roomy A.program cs ≡ true = rw (← A.cells) (le-leb (cell_size * r.cells) (length cs) m) in
           O A call_entries m
-          ∙ sym (ap (λ (v : Verdict). run_as concurrent v go ts cs es) A.read ∙ as_ran ts cs es go A.program (asked_of A ∙ not_failed b k) room)
+          ∙ sym (ap (λ (v : Verdict). run_as concurrent v go ts cs es) A.read ∙ as_ran ts cs es go A.program (asked_of A ∙ k) room)
