@@ -2,14 +2,11 @@
 use Rattle.engine.proofs.Evaluating.{eval_ways}
 use Rattle.engine.proofs.evaluate.evaluate.Goals as goal
 
--- src/evaluate.rt:232:8
 pub bounds-t-at : goal.bounds-t-at
 bounds-t-at c = search eval_ways
 
--- src/evaluate.rt:233:9
 pub leaf-requires : goal.leaf-requires
 leaf-requires c = search eval_ways
 
--- src/evaluate.rt:228:1
 pub returns-then-t-at-lt-LEAVES : goal.returns-then-t-at-lt-LEAVES
 returns-then-t-at-lt-LEAVES c = search eval_ways

@@ -3,14 +3,11 @@ use Rattle.std.proofs.Common.{rules}
 use Rattle.engine.specs.Laws.Starting.{starting_ways}
 use Rattle.engine.proofs.memory.set_starts.Goals as goal
 
--- src/memory.rt:38:5
 pub loop-i-preserved : goal.loop-i-preserved
 loop-i-preserved c = search (starting_ways, rules)
 
--- src/memory.rt:43:5
 pub loop-i-2-preserved : goal.loop-i-2-preserved
 loop-i-2-preserved c = search (starting_ways, rules)
 
--- src/memory.rt:32:1
 pub returns : goal.returns
 returns c = search (starting_ways, rules)

@@ -2,10 +2,8 @@
 use Rattle.engine.specs.Laws.Writing.{writing_ways}
 use Rattle.engine.proofs.memory.write_cells.Goals as goal
 
--- src/memory.rt:158:5
 pub loop-i-preserved : goal.loop-i-preserved
 loop-i-preserved c = search writing_ways
 
--- src/memory.rt:153:1
 pub returns : goal.returns
 returns c = search writing_ways

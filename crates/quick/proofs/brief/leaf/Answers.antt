@@ -1,5 +1,5 @@
 -- `quick::brief::leaf` meets its contract.
-use Rattle.std.proofs.Common.{rules, ◌-◌, ◌/◌}
+use Rattle.std.proofs.Common.{rules}
 use Rattle.quick.proofs.Wording.{brief_ways}
 use Rattle.quick.proofs.brief.leaf.Goals as goal
 

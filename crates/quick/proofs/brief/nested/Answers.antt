@@ -1,5 +1,5 @@
 -- `quick::brief::nested` meets its contract.
-use Rattle.std.proofs.Common.{rules, ◌-◌, ◌/◌}
+use Rattle.std.proofs.Common.{rules}
 use Rattle.quick.proofs.Wording.{brief_ways}
 use Rattle.quick.proofs.brief.nested.Goals as goal
 

@@ -1,5 +1,5 @@
 -- `quick::operate::wholes` meets its contract.
-use Rattle.std.proofs.Common.{rules, ◌-◌, ◌/◌}
+use Rattle.std.proofs.Common.{rules}
 use Rattle.quick.proofs.Operating.{operate_ways}
 use Rattle.quick.proofs.operate.wholes.Goals as goal
 

@@ -1,5 +1,5 @@
 -- `quick::turn::assign` meets its contract.
-use Rattle.std.proofs.Common.{rules, ◌-◌, ◌/◌}
+use Rattle.std.proofs.Common.{rules}
 use Rattle.quick.proofs.Turning.{part_ways}
 use Rattle.quick.proofs.turn.assign.Goals as goal
 

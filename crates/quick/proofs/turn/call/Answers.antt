@@ -5,23 +5,18 @@ use Rattle.quick.proofs.Deciding.{calling_more, calling_ways}
 use Rattle.quick.proofs.turn.call.Goals.{then-t-next-lt-LEAVES, else-t-next-lt-LEAVES}
 use Rattle.quick.proofs.turn.call.Goals as goal
 
--- src/turn.rt:324:5
 pub loop-i-init : goal.loop-i-init
 loop-i-init c = search (calling_ways, rules)
 
--- src/turn.rt:325:20
 pub bounds-t-next : goal.bounds-t-next
 bounds-t-next c = search (calling_ways, rules)
 
--- src/turn.rt:326:13
 pub leaf-e-requires : goal.leaf-e-requires
 leaf-e-requires c = search (calling_ways, rules)
 
--- src/turn.rt:328:13
 pub operation-e-requires : goal.operation-e-requires
 operation-e-requires c = search (calling_ways, rules)
 
--- src/turn.rt:324:5
 pub loop-i-preserved : goal.loop-i-preserved
 loop-i-preserved c =
     -- an argument, by either way
@@ -33,6 +28,5 @@ loop-i-preserved c =
     in
     calling_more c.loop-i.invariant c.loop-i-test.true argument c.if-e-eq-NOTHING.false
 
--- src/turn.rt:316:1
 pub returns : goal.returns
 returns c = search (calling_ways, rules)

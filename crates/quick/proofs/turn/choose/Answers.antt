@@ -11,22 +11,18 @@ chosen : {t ls : List ℕ} {fb i h w : ℕ} → Tests t i → Choice t i → h �
     → ((k : ℕ) → get_or t k 0 < 256) → Chosen t ls fb i h (w % 4294967296)
 chosen {w = w} m c q e k b = record { mark = m; choice = c; head = q; w = w; word = e; kind = k; same = refl; bytes = b }
 
--- src/turn.rt:274:9
 pub local-w-requires : goal.local-w-requires
 local-w-requires c = search (choice_ways, choosing_ways, rules)
 
--- src/turn.rt:280:9
 pub returns-then-four-v : goal.returns-then-four-v
 returns-then-four-v c =
     chooses_holds (chosen c.requires.0.mark c.requires.1 c.four-head.ensures c.local-w.ensures c.if-w-ne1.false (λ k. (c.type_inv.t k).fits))
     c.four.ensures (search rules) c.if-four-v.true
 
--- src/turn.rt:284:5
 pub loop-steps-init : goal.loop-steps-init
 loop-steps-init c =
     choosing_start (chosen c.requires.0.mark c.requires.1 c.four-head.ensures c.local-w.ensures c.if-w-ne1.false (λ k. (c.type_inv.t k).fits))
     c.four.ensures (search rules) c.if-four-v.false c.other-to.ensures.0 c.other-to.ensures.1 c.requires.4
 
--- src/turn.rt:284:5
 pub loop-steps-preserved : goal.loop-steps-preserved
 loop-steps-preserved c = search (choice_ways, choosing_ways, rules)

@@ -3,14 +3,11 @@ use Rattle.std.proofs.Common.{rules}
 use Rattle.quick.proofs.Choosing.{probe_ways}
 use Rattle.quick.proofs.turn.probe.Goals as goal
 
--- src/turn.rt:307:9
 pub choose-requires : goal.choose-requires
 choose-requires c = search (probe_ways, rules)
 
--- src/turn.rt:310:9
 pub returns-then-t-at-lt-LEAVES : goal.returns-then-t-at-lt-LEAVES
 returns-then-t-at-lt-LEAVES c = search (probe_ways, rules)
 
--- src/turn.rt:295:1
 pub returns : goal.returns
 returns c = search (probe_ways, rules)

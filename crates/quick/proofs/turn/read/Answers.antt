@@ -1,5 +1,5 @@
 -- `quick::turn::read` meets its contract.
-use Rattle.std.proofs.Common.{rules, ◌-◌, ◌/◌}
+use Rattle.std.proofs.Common.{rules}
 use Rattle.quick.proofs.Turning.{part_ways}
 use Rattle.quick.proofs.turn.read.Goals as goal
 

@@ -1,5 +1,5 @@
 -- `sequential::carry_out` meets its contract: one law for each step.
-use Rattle.std.proofs.Common.{rules, ◌-◌, ◌/◌}
+use Rattle.std.proofs.Common.{rules}
 use Rattle.sequential.proofs.CarryingOut.{carry_ways}
 use Rattle.sequential.proofs.machine.carry_out.Goals as goal
 

@@ -1,5 +1,5 @@
 -- `sequential::carry_words` meets its contract: one law for each quick step.
-use Rattle.std.proofs.Common.{rules, ◌-◌, ◌/◌}
+use Rattle.std.proofs.Common.{rules}
 use Rattle.sequential.proofs.Wording.{words_ways}
 use Rattle.sequential.proofs.machine.carry_words.Goals as goal
 

@@ -1,5 +1,5 @@
 -- `sequential::record_event` meets its contract.
-use Rattle.std.proofs.Common.{rules, ◌-◌, ◌/◌}
+use Rattle.std.proofs.Common.{rules}
 use Rattle.sequential.proofs.CarryingOut.{event_ways}
 use Rattle.sequential.proofs.machine.record_event.Goals as goal
 
