@@ -2,7 +2,7 @@
 use Prim.Native.Nat.{ℕ, ◌+◌, ◌≤◌, ◌<◌}
 use native.Mathlib.Omega.{arith}
 use mathlib.Core.Path.{◌≡◌, refl, sym, ap, ap₂, subst, ◌∙◌}
-use mathlib.Core.Logic.{⊎_elim, inl, inr}
+use mathlib.Core.Logic.{⊎_elim}
 use mathlib.Core.List.{List, [], ◌∷◌, map}
 use mathlib.Core.Bool.{Bool}
 use lib.ListN.{length, get_or}
@@ -45,12 +45,6 @@ use Rattle.decide.specs.Decided.{Act, assigns, writes, reads, tests, calls, retu
 use Rattle.decide.specs.Decided.{ReadHere, Tests, TestHere, CallHere, ActAt}
 use Rattle.decide.specs.Decided.{args_of, Poised, Passable, Writable, Readable, Laid, Lies, Kept, Any, AssignOf, TestOf, Decides}
 use Rattle.decide.specs.Decided.{PassedAs, PassesAll, Passes, DecidesAll}
-
--- an answer that is no value has none
-pub none_at : (a : Answer) → ((v : Value) → a ≡ A.Is v → ⊥) → None a
-none_at (A.Is v) h = absurd (h v refl)
-none_at A.OutOfRange h = inl refl
-none_at A.WrongKind h = inr refl
 
 -- ---- what stands there, by its mark
 

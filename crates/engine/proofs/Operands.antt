@@ -1,6 +1,7 @@
 -- One law for each way through an operator of the evaluator: an operand that has no value, or of the wrong kind, or both at hand.
 use Prim.Native.Nat.{ℕ}
 use native.Mathlib.Omega.{arith}
+use mathlib.Core.Logic.{inl, inr}
 use mathlib.Core.Path.{◌≡◌, refl, sym, ap, ◌∙◌}
 use mathlib.Core.List.{[], ◌∷◌}
 use mathlib.Core.Bool as B
@@ -38,14 +39,26 @@ use Rattle.basics.proofs.Ways as ops
 pub whole_read : {v : Value} {a : ℤ} → v ≡ Whole a → SFits w32 a → v ≡ Whole (to_z w32 (of_z w32 a))
 whole_read e f = e ∙ ap Whole (sym (to_z-of_z f))
 
+-- an answer that is no value has none
+pub none_at : (a : Answer) → ((v : Value) → a ≡ A.Is v → ⊥) → None a
+none_at (A.Is v) h = absurd (h v refl)
+none_at A.OutOfRange h = inl refl
+none_at A.WrongKind h = inr refl
+
 -- a value of another kind than whole numbers
-abbrev Other : Value → Type 0
+abbrev pub Other : Value → Type 0
 Other v = OneOf (1 ∷ 2 ∷ []) (tag_of the_type v)
 
 other : (v : Value) → Other v → of_kind 1 v ≡ false
 other (Whole a) h = absurd (miss (1 ∷ 2 ∷ []) 0 tt h)
 other (Location a) h = refl
 other (Truth a) h = refl
+
+-- what is no whole number is of another kind
+pub other_at : (v : Value) → ((a : ℤ) → v ≡ Whole a → ⊥) → Other v
+other_at (Whole a) h = absurd (h a refl)
+other_at (Location a) h = inl refl
+other_at (Truth a) h = inr refl
 
 -- no truth value
 untrue : (v : Value) → OneOf (0 ∷ 1 ∷ []) (tag_of the_type v) → of_kind 3 v ≡ false

@@ -1,6 +1,7 @@
 -- `decide::step::decide_read` meets its contract.
 use Rattle.std.proofs.Common.{rules}
-use Rattle.decide.proofs.Deciding.{none_at, read_ways}
+use Rattle.engine.proofs.Operands.{none_at}
+use Rattle.decide.proofs.Deciding.{read_ways}
 use Rattle.decide.proofs.step.decide_read.Goals as goal
 
 pub returns-in_default : goal.returns-in_default

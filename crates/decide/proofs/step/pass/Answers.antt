@@ -1,7 +1,7 @@
 -- `decide::step::pass` meets its contract.
 use Rattle.std.proofs.Common.{rules}
 use Rattle.decide.proofs.Passing.{passing_none, passing_ways}
-use Rattle.decide.proofs.Deciding.{none_at}
+use Rattle.engine.proofs.Operands.{none_at}
 use Rattle.decide.proofs.step.pass.Goals as goal
 
 pub loop-i-init : goal.loop-i-init
