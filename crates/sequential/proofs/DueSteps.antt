@@ -339,7 +339,7 @@ module _ {t : List ℕ} {records : ℕ} {js ls bs cs es : List ℕ} {s : State} 
   after_inside d (Test g n) (choosing a b b' b'' r o q z u) = code_inside d.loaded.same d.loaded.sound (code_then o z)
   after_inside d (Call m n) (calling as' b r vs o q z u) = code_inside d.loaded.same d.loaded.sound (code_after o z)
   after_inside d (Select j i n) (selecting a b us b' r v o q z u u' f) = code_inside d.loaded.same d.loaded.sound (code_after o z)
-  after_inside d (Blocked _) x3 = elim x3 [ ]
+  after_inside d (Blocked r) h = elim h [ ]
 
   -- by the step
   pub assign_after : {y n : ℕ} {v : Value} → Due t records js ls bs cs es s x → x ≡ Assign y v n → n < length t
