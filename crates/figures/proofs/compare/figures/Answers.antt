@@ -1,7 +1,8 @@
--- `figures::compare::figures` meets its contract.
-use Rattle.std.proofs.Common.{◌-◌, ◌/◌}
+-- `figures::compare::figures` meets its contract: both are run.
+use Rattle.figures.proofs.Compares.{figures_written}
 use Rattle.figures.proofs.compare.figures.Goals as goal
 
--- src/compare.rt:61:1
 pub returns : goal.returns
-returns c = ?
+returns c =
+    figures_written c.args.mode c.args.table.now c.args.schedule.now c.translate-written.ensures c.type_inv.table c.if-written-ne0.false
+    c.run_both.ensures

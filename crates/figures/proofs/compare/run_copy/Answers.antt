@@ -1,7 +1,6 @@
 -- `figures::compare::run_copy` meets its contract.
-use Rattle.std.proofs.Common.{◌-◌, ◌/◌}
+use Rattle.figures.proofs.Compares.{copy_ran}
 use Rattle.figures.proofs.compare.run_copy.Goals as goal
 
--- src/compare.rt:30:1
 pub returns : goal.returns
-returns c = ?
+returns c = copy_ran c.args.copy.now c.args.schedule.now c.type_inv.copy c.args.locations c.run_sequential.ensures

@@ -1,11 +1,13 @@
 -- `figures::input::figures_of_input` meets its contract.
-use Rattle.std.proofs.Common.{◌-◌, ◌/◌}
+use Rattle.figures.proofs.Inputs.{input_large, input_split}
 use Rattle.figures.proofs.input.figures_of_input.Goals as goal
 
--- src/input.rt:31:9
+-- the input is too long
 pub returns-then-end-gt-LONGEST_INPUT : goal.returns-then-end-gt-LONGEST_INPUT
-returns-then-end-gt-LONGEST_INPUT c = ?
+returns-then-end-gt-LONGEST_INPUT c = input_large c.args.input.now c.if-end-gt-LONGEST_INPUT.true c.refused.ensures
 
--- src/input.rt:25:1
+-- it is split
 pub returns : goal.returns
-returns c = ?
+returns c =
+    input_split c.args.input.now c.if-end-gt-LONGEST_INPUT.false c.at_most-start.ensures c.two_bytes-entries.ensures
+    c.at_most-stop.ensures c.figures.ensures
