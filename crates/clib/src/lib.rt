@@ -206,13 +206,7 @@ pub fn zaru_run_sequential(
 }
 
 // Tries a concurrent table's round-robin orders.
-pub fn zaru_bench(
-    table: &[u8],
-    rounds: u64,
-    most: u64,
-    cells: &mut [u8],
-    answer: &mut [u64],
-)
+pub fn zaru_bench(table: &[u8], rounds: u64, most: u64, cells: &mut [u8], answer: &mut [u64])
     ensures { ◌≡◌ {A = Benched} (record { cells = cells.exit.now; answer = answer.new })
         (benched (bench_call table.now rounds most cells.entry.now) answer.old) }
 {

@@ -6,6 +6,5 @@ use Rattle.clib.proofs.store_counts.Given as goal
 abbrev pub invariant-loop-i : goal.invariant-loop-i
 invariant-loop-i l = Storing l.initial.answer l.r.counts l.answer l.i
 
--- proposed from the loop's first test
 abbrev pub decreases-loop-i : goal.decreases-loop-i
 decreases-loop-i l = 19 - l.i
