@@ -207,9 +207,14 @@ fn write_table(request: Request, input: &[u8]) {
     lend_out(request, input, &mut out);
 }
 
+// Room for a text. It comes from a function of its own, so that only its length is looked at where it is lent.
+fn text_room() -> [u8; LONGEST_TEXT] {
+    [0; LONGEST_TEXT]
+}
+
 // With room for a text.
 fn write_text(request: Request, table: &[u8]) {
-    let mut out = [0u8; LONGEST_TEXT];
+    let mut out = text_room();
     lend_out(request, table, &mut out);
 }
 
@@ -360,7 +365,7 @@ fn take_request(header: &[u8; HEADER], table: &mut [u8]) -> bool {
 
 // A text stands in the table's place: only then is there room for one, since it is cleared for each request.
 fn text_request(header: &[u8; HEADER]) -> bool {
-    let mut text = [0u8; LONGEST_TEXT];
+    let mut text = text_room();
     take_request(header, &mut text)
 }
 
