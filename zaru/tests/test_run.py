@@ -37,8 +37,8 @@ class Checker(unittest.TestCase):
         self.assertTrue(lines[3].endswith("; answered wrongly: 3"), lines[3])
 
     def test_no_program_or_a_bad_end(self) -> None:
-        self.assertEqual(self.check(""), (1, ["check-run: run is missing: `rt check run` builds it"]))
-        self.assertEqual(self.check("exit 4"), (1, ["check-run: run ended with status 4: `rt check run` builds it"]))
+        self.assertEqual(self.check(""), (1, ["check-run: run is missing: `tools/prove run` builds it"]))
+        self.assertEqual(self.check("exit 4"), (1, ["check-run: run ended with status 4: `tools/prove run` builds it"]))
 
     def test_inputs_of_every_sort(self) -> None:
         found = {sort for given, line in RUN.inputs() for sort in RUN.sorts_of(given, line)}
