@@ -174,7 +174,7 @@ fn negate_too_large() -> Answer
     operators::negate(Value::Whole(-2147483648))
 }
 
-// "-2,147,483,648 itself has.
+// "-2,147,483,648 itself has".
 fn lowest() -> Answer
     ensures { given result ≡ has (Whole (negsuc 2147483647)) }
 {
