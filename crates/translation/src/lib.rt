@@ -1,5 +1,5 @@
 // The sequential program of a concurrent one, and what the translator's call answers: definitions and laws, no code. May use `value` and
-// `format`. Read specs/Placement.antt, Layout.antt, Code.antt and Translate.antt first, then the end of specs/Laws/Copy.antt.
+// `format`. Read specs/Placement.antt, Layout.antt, Code.antt and Translate.antt first, then the end of proofs/Laws/Copy.antt.
 #![tactic(auto)]
 
 // Where the copy keeps locals. Own: each procedure's locals have cells of their own, in order. Shared: a procedure's locals begin after the
