@@ -2,11 +2,10 @@
 use Prim.Native.Nat.{ℕ, ◌+◌, ◌≤◌, ◌<◌}
 use native.Mathlib.Omega.{arith}
 use mathlib.Core.Path.{◌≡◌, refl, sym, ap, subst, ◌∙◌}
-use mathlib.Core.List.{List, [], ◌∷◌}
+use mathlib.Core.List.{List}
 use mathlib.Core.Bool.{Bool, true, false}
 use lib.ListN.{length}
-use types.Run.{OneOf, miss}
-use denote.Enum.Declared.{tag_of}
+use Rattle.std.specs.Prelude.{Result, Ok, Err}
 use Rattle.value.specs.Try.{Try, has, lacks}
 use Rattle.value.specs.declared.Reason.{Reason}
 use Rattle.value.proofs.Laws.Tries.{lacks_inj, lacking}
@@ -15,15 +14,13 @@ use Rattle.format.specs.Labels.{tag}
 use Rattle.labels.specs.Walks.{BlockIn, CountsBlock}
 use Rattle.labels.specs.declared.count.Counted.{Counted}
 use Rattle.format.proofs.Laws.Grammar.{BlockAt, instr_inside, block_inside, block_deep}
-use Rattle.atomic.specs.contracts.block.Done.{the_type as done-type}
 use Rattle.decide.specs.declared.step.Step.{Step}
 use Rattle.decide.specs.declared.step.Step.TheVariants as S
 use Rattle.atomic.specs.declared.block.Done.{Done}
-use Rattle.atomic.specs.declared.block.Done.TheVariants.{To, Blocked}
 use Rattle.engine.specs.Work.{frame_words, Beside}
 use Rattle.decide.specs.Decided.{act_end, args_of, Poised, Kept, Lies, DecidesAll}
 use Rattle.semantics.specs.Threads.{Atomic}
-use Rattle.atomic.specs.Doing.{Works, Worked, Went, stops, goes, carried, end_of}
+use Rattle.atomic.specs.Doing.{Works, Worked, to, Went, stops, goes, carried, end_of}
 use Rattle.atomic.specs.Doing.{Past, Carrying, Carries, DoingI, Doing, DoesI, Does}
 use Rattle.atomic.proofs.Carrying.{never_blocked}
 use Rattle.engine.specs.Laws.Work.{framed_below}
@@ -42,7 +39,7 @@ beside_again p q = record {
   above = λ k m. q.above k m ∙ p.above k m;
 }
 
-module _ {fb : ℕ} {bs es ls ls₁ : List ℕ} {n X : ℕ} {ls' cs' o' : List ℕ} {m : Try Atomic} {r : Done} where
+module _ {fb : ℕ} {bs es ls ls₁ : List ℕ} {n X : ℕ} {ls' cs' o' : List ℕ} {m : Try Atomic} {r : Result Done Reason} where
   -- over a part, from words of which those of the frame were others before
   wider : {i i₁ j : ℕ} → Beside ls ls₁ fb (fb + frame_words) → i ≤ i₁ → Went fb i₁ j bs es ls₁ n X ls' cs' o' m r
       → Went fb i j bs es ls n X ls' cs' o' m r
@@ -55,49 +52,41 @@ module _ {fb : ℕ} {bs es ls ls₁ : List ℕ} {n X : ℕ} {ls' cs' o' : List �
   })
 
 -- what blocks, blocks anywhere
-pub none : {fb i j i₁ j₁ : ℕ} {bs es ls ls₁ : List ℕ} {n X : ℕ} {ls' cs' o' ls'' cs'' o'' : List ℕ} {r : Done} {u : Reason}
+pub none : {fb i j i₁ j₁ : ℕ} {bs es ls ls₁ : List ℕ} {n X : ℕ} {ls' cs' o' ls'' cs'' o'' : List ℕ} {r : Result Done Reason} {u : Reason}
     → Went fb i₁ j₁ bs es ls₁ n X ls'' cs'' o'' (lacks u) r → Went fb i j bs es ls n X ls' cs' o' (lacks u) r
 none (stops x e q) = stops x e q
 none (goes a k e q w) = lacking e
 
 -- and nothing else does
-pub blocks : {fb i j : ℕ} {bs es ls : List ℕ} {n X : ℕ} {ls' cs' o' : List ℕ} {m : Try Atomic} {r : Done} {u : Reason} → m ≡ lacks u
-    → Went fb i j bs es ls n X ls' cs' o' m r → r ≡ Blocked u
-blocks e (stops x f q) = q ∙ ap Blocked (lacks_inj (sym f ∙ e))
+pub blocks : {fb i j : ℕ} {bs es ls : List ℕ} {n X : ℕ} {ls' cs' o' : List ℕ} {m : Try Atomic} {r : Result Done Reason} {u : Reason} → m ≡ lacks u
+    → Went fb i j bs es ls n X ls' cs' o' m r → r ≡ Err u
+blocks e (stops x f q) = q ∙ ap Err (lacks_inj (sym f ∙ e))
 blocks e (goes a k f q w) = lacking (sym e ∙ f)
 
--- it did not come to an end
-abbrev pub Stopped : Done → Type 0
-Stopped r = OneOf (1 ∷ []) (tag_of done-type r)
-
--- so it blocked, for some reason
-pub blocked_by : (r : Done) → Stopped r → (u : Reason) × (r ≡ Blocked u)
-blocked_by (Blocked u) h = (u, refl)
-blocked_by (To j k) h = absurd (miss (1 ∷ []) 0 tt h)
-
 -- what it means to come to an end
-pub record Came (fb i j : ℕ) (bs es ls : List ℕ) (n X : ℕ) (ls' cs' o' : List ℕ) (m : Try Atomic) (e k : ℕ) : Type 0 where
+pub record Came (fb i j : ℕ) (bs es ls : List ℕ) (n X : ℕ) (ls' cs' o' : List ℕ) (m : Try Atomic) (d : Done) : Type 0 where
   pub a : Atomic
   pub is : m ≡ has a
-  pub ends : e ≡ j
-  pub worked : Worked fb i j bs es ls n X a ls' cs' o' k
+  pub ends : d.next ≡ j
+  pub worked : Worked fb i j bs es ls n X a ls' cs' o' d.events
 
-module _ {fb i j : ℕ} {bs es ls : List ℕ} {n X : ℕ} {ls' cs' o' : List ℕ} {m : Try Atomic} {r : Done} where
+module _ {fb i j : ℕ} {bs es ls : List ℕ} {n X : ℕ} {ls' cs' o' : List ℕ} {m : Try Atomic} {r : Result Done Reason} where
   -- it came to an end
-  pub came : {e k : ℕ} → r ≡ To e k → Went fb i j bs es ls n X ls' cs' o' m r → Came fb i j bs es ls n X ls' cs' o' m e k
+  pub came : {d : Done} → r ≡ Ok d → Went fb i j bs es ls n X ls' cs' o' m r → Came fb i j bs es ls n X ls' cs' o' m d
   came q (stops x e b) = never_blocked (sym q ∙ b)
-  came {e} {k} q (goes a l x b w) =
-      let end : e ≡ j = cc in
-      let same : k ≡ l = cc in
+  came {d} q (goes a l x b w) =
+      let is : d ≡ record { next = j; events = l } = cc in
+      let end : d.next ≡ j = ap (λ (d : Done). d.next) is in
+      let same : d.events ≡ l = ap (λ (d : Done). d.events) is in
       record { a = a; is = x; ends = end; worked = rw same w }
 
   -- it blocked
-  pub stopped : {u : Reason} → r ≡ Blocked u → Went fb i j bs es ls n X ls' cs' o' m r → m ≡ lacks u
+  pub stopped : {u : Reason} → r ≡ Err u → Went fb i j bs es ls n X ls' cs' o' m r → m ≡ lacks u
   stopped {u} q (stops x e b) = let same : x ≡ u = cc in e ∙ ap lacks same
   stopped q (goes a k e b w) = never_blocked (sym b ∙ q)
 
 -- something was done before
-pub before : {fb i j k e m n X : ℕ} {bs es ls ls₁ cs₁ o₁ ls' cs' o' : List ℕ} {a : Atomic} {M : Try Atomic} {r : Done}
+pub before : {fb i j k e m n X : ℕ} {bs es ls ls₁ cs₁ o₁ ls' cs' o' : List ℕ} {a : Atomic} {M : Try Atomic} {r : Result Done Reason}
     → Worked fb i e bs es ls n X a ls₁ cs₁ o₁ m → k ≡ e → Went fb k j bs es ls₁ m (length a.env) ls' cs' o' M r
     → Went fb i j bs es ls n X ls' cs' o' M r
 before w q (stops x e b) = stops x e b
@@ -117,7 +106,7 @@ counted_end : {t : List ℕ} {i d j : ℕ} {b : Block ℕ} {c : Counted} → Blo
 counted_end {j = j} {b} h C = ap (λ (c : Counted). c.next) (C.gives (tag tt b) j (tag_at tt h))
 
 -- a step that ends where its instruction does
-ends : {fb i j : ℕ} {bs es ls : List ℕ} {n X : ℕ} {ls' cs' o' : List ℕ} {r : Done} (thread label : ℕ) (a : Atomic) (u : Step) → EndsAt u j
+ends : {fb i j : ℕ} {bs es ls : List ℕ} {n X : ℕ} {ls' cs' o' : List ℕ} {r : Result Done Reason} (thread label : ℕ) (a : Atomic) (u : Step) → EndsAt u j
     → Went fb i (end_of u) bs es ls n X ls' cs' o' (carried thread label u a) r → Went fb i j bs es ls n X ls' cs' o' (carried thread label u a) r
 ends thread label a (S.Assign x v k) e w = rw e at w
 ends thread label a (S.Read x l i v k) e w = rw e at w
@@ -233,7 +222,7 @@ module _ {t : List ℕ} {thread label fb : ℕ} {bs : List ℕ} {i d : ℕ} {ls 
     }
 
     -- it was carried out
-    pub does_carried : {ls' cs' o' : List ℕ} {r : Done} → NoTest u → Carries thread label fb u ls₁ cs o n ls' cs' o' r
+    pub does_carried : {ls' cs' o' : List ℕ} {r : Result Done Reason} → NoTest u → Carries thread label fb u ls₁ cs o n ls' cs' o' r
         → DoesI t thread label fb bs i d ls cs o n ls' cs' o' r
     unfolding instr_carrying
     does_carried {ls'} {cs'} {o'} {r} k C = record {
@@ -269,32 +258,30 @@ module _ {t : List ℕ} {thread label fb : ℕ} {bs : List ℕ} {i d : ℕ} {ls 
         }
 
     -- the second follows it
-    pub then_after : {q : Bool} {k e m : ℕ} {ls' cs' o' : List ℕ} {r : Done} → u ≡ S.Test q k → q ≡ true
-        → Does t thread label fb bs k d ls₁ cs o n ls' cs' o' r → r ≡ To e m → DoingI t thread label fb bs i d ls cs o n → BlockIn t e d
+    pub then_after : {q : Bool} {k : ℕ} {ls' cs' o' : List ℕ} {r : Result Done Reason} {e : Done} → u ≡ S.Test q k → q ≡ true
+        → Does t thread label fb bs k d ls₁ cs o n ls' cs' o' r → r ≡ Ok e → DoingI t thread label fb bs i d ls cs o n → BlockIn t e.next d
     unfolding doing_then
     then_after e f D r h = rw (came r (D.does (doing_then e f h))).ends (plain_in (branching (told e f) h).second)
 
     -- the first block blocks
-    pub does_then_blocked : {q : Bool} {k : ℕ} {ls' cs' o' : List ℕ} {r : Done} → u ≡ S.Test q k → q ≡ true
-        → Does t thread label fb bs k d ls₁ cs o n ls' cs' o' r → Stopped r → DoesI t thread label fb bs i d ls cs o n ls' cs' o' r
+    pub does_then_blocked : {q : Bool} {k : ℕ} {ls' cs' o' : List ℕ} {r : Result Done Reason} {v : Reason} → u ≡ S.Test q k → q ≡ true
+        → Does t thread label fb bs k d ls₁ cs o n ls' cs' o' r → r ≡ Err v → DoesI t thread label fb bs i d ls cs o n ls' cs' o' (Err v)
     unfolding doing_then
-    does_then_blocked {r = r} e f D z = record {
-      does = λ h.
-          let b = blocked_by r z in
-          stops b.0 ((branching (told e f) h).same ∙ stopped b.1 (D.does (doing_then e f h))) b.1;
+    does_then_blocked {v = v} e f D z = record {
+      does = λ h. stops v ((branching (told e f) h).same ∙ stopped z (D.does (doing_then e f h))) refl;
     }
 
     -- the first block is done, and the second passed over
-    pub does_then : {q : Bool} {k e m : ℕ} {ls' cs' o' : List ℕ} {r : Done} {c : Counted} → u ≡ S.Test q k → q ≡ true
+    pub does_then : {q : Bool} {k : ℕ} {ls' cs' o' : List ℕ} {r : Result Done Reason} {e : Done} {c : Counted} → u ≡ S.Test q k → q ≡ true
         → Does t thread label fb bs k d ls₁ cs o n ls' cs' o' r
-        → r ≡ To e m → CountsBlock t e d c → DoesI t thread label fb bs i d ls cs o n ls' cs' o' (To c.next m)
+        → r ≡ Ok e → CountsBlock t e.next d c → DoesI t thread label fb bs i d ls cs o n ls' cs' o' (to c.next e.events)
     unfolding doing_then
-    does_then {k = k} {e} {m} {c = c} g f D r C = record {
+    does_then {k = k} {e = e} {c = c} g f D r C = record {
       does = λ h.
           let b = branching (told g f) h in
           let w = came r (D.does (doing_then g f h)) in
-          let there : BlockAt t e d b.no h.j = rw w.ends b.second in
-          goes w.a m (b.same ∙ w.is) (ap (λ x. To x m) (counted_end there C)) (record {
+          let there : BlockAt t e.next d b.no h.j = rw w.ends b.second in
+          goes w.a e.events (b.same ∙ w.is) (ap (λ x. to x e.events) (counted_end there C)) (record {
             works = w.worked.works;
             same = w.worked.same;
             beside = beside_again (frame_only h) w.worked.beside;
@@ -326,7 +313,7 @@ module _ {t : List ℕ} {thread label fb : ℕ} {bs : List ℕ} {i d : ℕ} {ls 
         }
 
     -- the second is done
-    pub does_else : {q : Bool} {k : ℕ} {c : Counted} {ls' cs' o' : List ℕ} {r : Done} → u ≡ S.Test q k → q ≡ false → CountsBlock t k d c
+    pub does_else : {q : Bool} {k : ℕ} {c : Counted} {ls' cs' o' : List ℕ} {r : Result Done Reason} → u ≡ S.Test q k → q ≡ false → CountsBlock t k d c
         → Does t thread label fb bs c.next d ls₁ cs o n ls' cs' o' r → DoesI t thread label fb bs i d ls cs o n ls' cs' o' r
     unfolding doing_else
     does_else {c = c} e f C D = record {

@@ -2,38 +2,37 @@
 use Prim.Native.Nat.{ℕ, ◌+◌, ◌-◌, ◌≤◌, ◌<◌}
 use native.Mathlib.Omega.{arith}
 use mathlib.Core.Path.{◌≡◌, refl, sym, ap, subst, ◌∙◌}
-use mathlib.Core.List.{List, [], append-nil}
+use mathlib.Core.List.{List, [], ◌++◌, append-nil}
 use mathlib.Core.Bool.{true}
-use lib.ListN.{length, get_or, set}
-use lib.Seq.{get_or-set_same, get_or-set_other}
-use lib.Dec.{eqb}
-use borrow.Author.Tests.{eqb-true, eqb-false}
+use lib.ListN.{length, get_or, take, drop, get_or-append}
+use Rattle.std.proofs.lemmas.List.{length-drop, length-take-le, get_or-take, get_or-drop}
+use Rattle.std.specs.Prelude.{Result, Ok, Err}
 use Rattle.value.specs.Try.{Try, has, lacks, ◌⟫◌}
 use Rattle.value.specs.declared.Reason.{Reason}
 use Rattle.value.proofs.Laws.Tries.{lacks_inj, lacking}
-use Rattle.value.proofs.Laws.Tests.{by_test, both_passed}
+use Rattle.value.proofs.Laws.Tests.{both_passed}
 use Rattle.format.specs.Syntax.{Block}
 use Rattle.format.specs.Rules.{allowed, allowed_i, named, named_i}
 use Rattle.format.proofs.Laws.Grammar.{StepAt, end_here, step_here, instr_inside, block_inside, block_deep}
 use Rattle.atomic.specs.declared.block.Done.{Done}
-use Rattle.atomic.specs.declared.block.Done.TheVariants.{To, Blocked}
 use Rattle.semantics.specs.Memory.{Env}
 use Rattle.semantics.specs.Threads.{Atomic}
 use Rattle.engine.specs.Words.{held}
 use Rattle.engine.specs.Work.{frame_words, Framed}
 use Rattle.atomic.specs.Acts.{within, act}
-use Rattle.atomic.specs.Doing.{stops, goes, DoingI, Doing, DoesI, Does, Copies, DoesWhole}
+use Rattle.atomic.specs.Doing.{to, stops, goes, DoingI, Doing, DoesI, Does, Copies, DoesWhole}
 use Rattle.engine.specs.Laws.Work.{beside_same}
 use Rattle.engine.specs.Laws.Logging.{logged_none}
 use Rattle.atomic.specs.Laws.Acting.{later, act_later}
-use Rattle.atomic.proofs.Inside.{Stopped, blocked_by, blocks, came, stopped, before}
+use Rattle.atomic.proofs.Carrying.{never_blocked}
+use Rattle.atomic.proofs.Inside.{blocks, came, stopped, before}
 
 -- ---- a block
 
 -- up to here, from where the block began: what is done from here on is what is done from there
 pub record Going (t : List ℕ) (thread label fb : ℕ) (bs : List ℕ) (d i₀ : ℕ) (ls₀ cs₀ o₀ : List ℕ) (n₀ i : ℕ) (ls cs o : List ℕ) (n : ℕ) : Type 0 where
   pub ready : Doing t thread label fb bs i d ls cs o n
-  pub back : (ls' cs' o' : List ℕ) (r : Done) → Does t thread label fb bs i d ls cs o n ls' cs' o' r → Does t thread label fb bs i₀ d ls₀ cs₀ o₀ n₀ ls' cs' o' r
+  pub back : (ls' cs' o' : List ℕ) (r : Result Done Reason) → Does t thread label fb bs i d ls cs o n ls' cs' o' r → Does t thread label fb bs i₀ d ls₀ cs₀ o₀ n₀ ls' cs' o' r
 
 module _ {t : List ℕ} {thread label fb : ℕ} {bs : List ℕ} {d : ℕ} where
   -- at its beginning
@@ -76,9 +75,9 @@ module _ {t : List ℕ} {thread label fb : ℕ} {bs : List ℕ} {d : ℕ} where
           few = omega (arith, h.few, block_inside w.after);
         }
 
-    module _ {ls₁ cs₁ o₁ : List ℕ} {r : Done} (z : get_or t i 0 ≡ 0 → ⊥) (E : DoesI t thread label fb bs i (d - 1) ls cs o n ls₁ cs₁ o₁ r) where
+    module _ {ls₁ cs₁ o₁ : List ℕ} {r : Result Done Reason} (z : get_or t i 0 ≡ 0 → ⊥) (E : DoesI t thread label fb bs i (d - 1) ls cs o n ls₁ cs₁ o₁ r) where
       -- then the rest is
-      pub doing_rest : {k m : ℕ} → r ≡ To k m → Doing t thread label fb bs i d ls cs o n → Doing t thread label fb bs k d ls₁ cs₁ o₁ m
+      pub doing_rest : {e : Done} → r ≡ Ok e → Doing t thread label fb bs i d ls cs o n → Doing t thread label fb bs e.next d ls₁ cs₁ o₁ e.events
       unfolding doing_one
       doing_rest q h =
           let w : StepAt t i d h.block h.j = step_here h.here z in
@@ -98,17 +97,16 @@ module _ {t : List ℕ} {thread label fb : ℕ} {bs : List ℕ} {d : ℕ} where
           }
 
       -- the instruction blocks
-      pub does_stop : Stopped r → Does t thread label fb bs i d ls cs o n ls₁ cs₁ o₁ r
+      pub does_stop : {v : Reason} → r ≡ Err v → Does t thread label fb bs i d ls cs o n ls₁ cs₁ o₁ (Err v)
       unfolding doing_one
-      does_stop s = record {
+      does_stop {v} s = record {
         does = λ h.
             let w : StepAt t i d h.block h.j = step_here h.here z in
-            let b = blocked_by r s in
-            stops b.0 (ap (λ b. act thread label b h.a) w.is ∙ ap (λ m. m ⟫ act thread label w.rest) (stopped b.1 (E.does (doing_one z h)))) b.1;
+            stops v (ap (λ b. act thread label b h.a) w.is ∙ ap (λ m. m ⟫ act thread label w.rest) (stopped s (E.does (doing_one z h)))) refl;
       }
 
       -- the rest is done
-      does_on : {k m : ℕ} {ls' cs' o' : List ℕ} {x : Done} → r ≡ To k m → Does t thread label fb bs k d ls₁ cs₁ o₁ m ls' cs' o' x
+      does_on : {e : Done} {ls' cs' o' : List ℕ} {x : Result Done Reason} → r ≡ Ok e → Does t thread label fb bs e.next d ls₁ cs₁ o₁ e.events ls' cs' o' x
           → Does t thread label fb bs i d ls cs o n ls' cs' o' x
       unfolding doing_one doing_rest
       does_on q D = record {
@@ -122,18 +120,18 @@ module _ {t : List ℕ} {thread label fb : ℕ} {bs : List ℕ} {d : ℕ} where
       }
 
       -- the next instruction is behind this one
-      rest_less : {k m : ℕ} → r ≡ To k m → Doing t thread label fb bs i d ls cs o n → i < k
+      rest_less : {e : Done} → r ≡ Ok e → Doing t thread label fb bs i d ls cs o n → i < e.next
       unfolding doing_one
       rest_less q h =
           let v = came q (E.does (doing_one z h)) in
           omega (arith, v.ends, instr_inside (step_here h.here z).here)
 
   -- the block ends
-  does_end : {i : ℕ} {ls cs o : List ℕ} {n : ℕ} → get_or t i 0 ≡ 0 → Does t thread label fb bs i d ls cs o n ls cs o (To (i + 1) n)
+  does_end : {i : ℕ} {ls cs o : List ℕ} {n : ℕ} → get_or t i 0 ≡ 0 → Does t thread label fb bs i d ls cs o n ls cs o (to (i + 1) n)
   does_end {n = n} z = record {
     does = λ h.
         let w = end_here h.here z in
-        goes h.a n (ap (λ b. act thread label b h.a) w.0) (ap (λ x. To x n) (sym w.1)) (record {
+        goes h.a n (ap (λ b. act thread label b h.a) w.0) (ap (λ x. to x n) (sym w.1)) (record {
           works = h.works;
           same = refl;
           beside = beside_same;
@@ -155,36 +153,28 @@ module _ {t : List ℕ} {thread label fb : ℕ} {bs : List ℕ} {d : ℕ} where
     going_one z = doing_one z G.ready
 
     -- it is done, and the block goes on
-    pub going_on : {ls₁ cs₁ o₁ : List ℕ} {r : Done} {k m : ℕ} → (get_or t i 0 ≡ 0 → ⊥) → DoesI t thread label fb bs i (d - 1) ls cs o n ls₁ cs₁ o₁ r
-        → r ≡ To k m → Going t thread label fb bs d i₀ ls₀ cs₀ o₀ n₀ k ls₁ cs₁ o₁ m
+    pub going_on : {ls₁ cs₁ o₁ : List ℕ} {r : Result Done Reason} {e : Done} → (get_or t i 0 ≡ 0 → ⊥) → DoesI t thread label fb bs i (d - 1) ls cs o n ls₁ cs₁ o₁ r
+        → r ≡ Ok e → Going t thread label fb bs d i₀ ls₀ cs₀ o₀ n₀ e.next ls₁ cs₁ o₁ e.events
     going_on z E q = record { ready = doing_rest z E q G.ready; back = λ ls' cs' o' x D. G.back ls' cs' o' x (does_on z E q D) }
 
     -- fewer bytes are left
-    pub going_less : {ls₁ cs₁ o₁ : List ℕ} {r : Done} {k m : ℕ} → (get_or t i 0 ≡ 0 → ⊥) → DoesI t thread label fb bs i (d - 1) ls cs o n ls₁ cs₁ o₁ r
-        → r ≡ To k m → length t - k < length t - i
+    pub going_less : {ls₁ cs₁ o₁ : List ℕ} {r : Result Done Reason} {e : Done} → (get_or t i 0 ≡ 0 → ⊥) → DoesI t thread label fb bs i (d - 1) ls cs o n ls₁ cs₁ o₁ r
+        → r ≡ Ok e → length t - e.next < length t - i
     going_less z E q = omega (arith, rest_less z E q G.ready, block_inside G.ready.here)
 
     -- it blocks
-    pub going_stop : {ls₁ cs₁ o₁ : List ℕ} {r : Done} → (get_or t i 0 ≡ 0 → ⊥) → DoesI t thread label fb bs i (d - 1) ls cs o n ls₁ cs₁ o₁ r → Stopped r
-        → Does t thread label fb bs i₀ d ls₀ cs₀ o₀ n₀ ls₁ cs₁ o₁ r
-    going_stop {ls₁} {cs₁} {o₁} {r} z E q = G.back ls₁ cs₁ o₁ r (does_stop z E q)
+    pub going_stop : {ls₁ cs₁ o₁ : List ℕ} {r : Result Done Reason} {v : Reason} → (get_or t i 0 ≡ 0 → ⊥) → DoesI t thread label fb bs i (d - 1) ls cs o n ls₁ cs₁ o₁ r
+        → r ≡ Err v → Does t thread label fb bs i₀ d ls₀ cs₀ o₀ n₀ ls₁ cs₁ o₁ (Err v)
+    going_stop {ls₁} {cs₁} {o₁} {v = v} z E q = G.back ls₁ cs₁ o₁ (Err v) (does_stop z E q)
 
     -- the block ends
-    pub going_end : get_or t i 0 ≡ 0 → Does t thread label fb bs i₀ d ls₀ cs₀ o₀ n₀ ls cs o (To (i + 1) n)
-    going_end z = G.back ls cs o (To (i + 1) n) (does_end z)
+    pub going_end : get_or t i 0 ≡ 0 → Does t thread label fb bs i₀ d ls₀ cs₀ o₀ n₀ ls cs o (to (i + 1) n)
+    going_end z = G.back ls cs o (to (i + 1) n) (does_end z)
 
 -- one law for each way through a block
 pub ruleset block_ways = (going_none, going_inside, going_deep, going_one, going_on, going_less, going_stop, going_end)
 
 -- ---- a whole block
-
--- it came to an end
-abbrev Ended : Done → Type 0
-Ended r = (u : Reason) → r ≡ Blocked u → ⊥
-
--- and so did not block
-not_blocked : {G : Type 0} (r : Done) {u : Reason} → Ended r → r ≡ Blocked u → G
-not_blocked r {u = u} h e = absurd (h u e)
 
 -- before any event
 abbrev pub bare : Atomic → Atomic
@@ -201,23 +191,23 @@ pub chain_none : {A B : Type 0} (m : Try A) (f : A → B) {u : Reason} → (m �
 chain_none (has x) f e = lacking (sym e)
 chain_none (lacks q) f e = ap lacks (lacks_inj e)
 
--- the words of its frame are copied: none yet
-pub copies_none : {ls ws : List ℕ} {fb : ℕ} → Copies ls fb 0 ws
-copies_none = record { each = λ k l. absurd (omega arith) }
+-- as many words as are cut out are laid over the first ones
+pub cut_length : (ls ws : List ℕ) (fb n : ℕ) → fb + n ≤ length ls → n ≤ length ws → length (take n ws) ≡ length (take (fb + n - fb) (drop fb ls))
+cut_length ls ws fb n l m =
+    let same : fb + n - fb ≡ n = omega arith in
+    let long : n ≤ length (drop fb ls) = omega (arith, length-drop fb ls) in
+    rw same (length-take-le n ws m ∙ sym (length-take-le n (drop fb ls) long))
 
--- one more
-pub copies_more : {ls ws : List ℕ} {fb i w : ℕ} → Copies ls fb i ws → i < length ws → w ≡ get_or ls (fb + i) 0 → Copies ls fb (i + 1) (set ws i w)
-copies_more {ls} {ws} {fb} {i} {w} C l e = record {
-  each = λ k m. by_test (eqb k i)
-      (λ q. let here : k ≡ i = eqb-true k i q in rw (here, get_or-set_same ws i w 0 l) e)
-      (λ q. let other = eqb-false k i q in get_or-set_other ws i k w 0 other ∙ C.each k (omega arith));
+-- so they are copied
+pub copies_cut : (ls ws : List ℕ) {fb n : ℕ} → fb + n ≤ length ls → Copies ls fb n (take (fb + n - fb) (drop fb ls) ++ ws)
+copies_cut ls ws {fb} {n} l = record {
+  each = λ k m.
+      let same : fb + n - fb ≡ n = omega arith in
+      let long : n ≤ length (drop fb ls) = omega (arith, length-drop fb ls) in
+      rw same (get_or-append (take n (drop fb ls)) ws 0 k (omega (arith, length-take-le n (drop fb ls) long))
+      ∙ get_or-take n (drop fb ls) k 0 m
+      ∙ get_or-drop fb ls k 0);
 }
-
--- all
-pub copies_all : {ls ws : List ℕ} {fb i n : ℕ} → n ≤ i → Copies ls fb i ws → Copies ls fb n ws
-copies_all l C = record { each = λ k m. C.each k (omega arith) }
-
-pub ruleset copy_ways = (copies_none, copies_all)
 
 -- there are such words
 pub whole_room : {t : List ℕ} {thread label fb : ℕ} {bs : List ℕ} {i d : ℕ} {ls cs o : List ℕ} {n : ℕ} → Doing t thread label fb bs i d ls cs o n
@@ -257,27 +247,26 @@ module _ {t : List ℕ} {thread label fb : ℕ} {bs : List ℕ} {i d : ℕ} {ls 
     few = omega (arith, h.few);
   }
 
-  module _ {e ls₁ cs₁ e₁ : List ℕ} {r₁ : Done} (T : Does t thread label 0 bs i d ws cs e 0 ls₁ cs₁ e₁ r₁) where
+  module _ {e ls₁ cs₁ e₁ : List ℕ} {r₁ : Result Done Reason} (T : Does t thread label 0 bs i d ws cs e 0 ls₁ cs₁ e₁ r₁) where
     -- it blocked when it was tried
-    pub whole_blocked : Stopped r₁ → DoesWhole t thread label fb bs i d ls cs o n ls cs o r₁
+    pub whole_blocked : {v : Reason} → r₁ ≡ Err v → DoesWhole t thread label fb bs i d ls cs o n ls cs o (Err v)
     unfolding doing_tried
-    whole_blocked z = record {
+    whole_blocked {v} z = record {
       does = record {
         does = λ h.
-            let b = blocked_by r₁ z in
-            let none = stopped b.1 (T.does (doing_tried e h)) in
-            stops b.0 (same_later thread label h.block h.a ∙ ap (◌⟫ λ r. has (later h.a.events r)) none) b.1;
+            let none = stopped z (T.does (doing_tried e h)) in
+            stops v (same_later thread label h.block h.a ∙ ap (◌⟫ λ r. has (later h.a.events r)) none) refl;
       };
       still = λ h x b. (refl, refl, refl);
     }
 
     -- it did not
-    pub whole_done : {ls' cs' o' : List ℕ} {r : Done} → Ended r₁ → Does t thread label fb bs i d ls cs o n ls' cs' o' r
+    pub whole_done : {f : Done} {ls' cs' o' : List ℕ} {r : Result Done Reason} → r₁ ≡ Ok f → Does t thread label fb bs i d ls cs o n ls' cs' o' r
         → DoesWhole t thread label fb bs i d ls cs o n ls' cs' o' r
     unfolding doing_tried
     whole_done q D = record {
       does = D;
       still = λ h x b.
           let none = chain_none (act thread label h.block (bare h.a)) _ (sym (same_later thread label h.block h.a) ∙ stopped b (D.does h)) in
-          not_blocked r₁ q (blocks none (T.does (doing_tried e h)));
+          never_blocked (sym q ∙ blocks none (T.does (doing_tried e h)));
     }

@@ -1,6 +1,6 @@
 -- What the code that runs an atomic block is asked and answers: the block that stands at a place of a table, over a frame of locals,
 -- the words of memory and a buffer of events.
-use Rattle.std.specs.Prelude.{ℕ, ◌+◌, ◌^◌, ◌≤◌, ◌<◌, ◌≡◌, List, [], ◌∷◌, ◌++◌, length, get_or, true}
+use Rattle.std.specs.Prelude.{ℕ, ◌+◌, ◌^◌, ◌≤◌, ◌<◌, ◌≡◌, List, [], ◌∷◌, ◌++◌, length, get_or, true, Result, Ok, Err}
 use Rattle.value.specs.Try.{Try, has, lacks}
 use Rattle.value.specs.declared.Reason.{Reason}
 use Rattle.value.specs.declared.Reason.TheVariants.{WrongKind}
@@ -10,7 +10,6 @@ use Rattle.format.proofs.Laws.Grammar.{InstrAt, BlockAt}
 use Rattle.decide.specs.declared.step.Step.{Step}
 use Rattle.decide.specs.declared.step.Step.TheVariants as S
 use Rattle.atomic.specs.declared.block.Done.{Done}
-use Rattle.atomic.specs.declared.block.Done.TheVariants.{To, Blocked}
 use Rattle.semantics.specs.Memory.{bound, stored, reading, writing}
 use Rattle.engine.specs.Work.{frame_words, Beside, Framed, Holds, Bases, IsCell}
 use Rattle.engine.specs.Events.{Logged}
@@ -36,10 +35,14 @@ pub record Worked (fb i j : ℕ) (bs es ls : List ℕ) (n X : ℕ) (a : Atomic) 
   pub beside : Beside ls ls' fb (fb + frame_words)
   pub few : k + i ≤ n + j
 
+-- it came to j, with k events then
+abbrev pub to : ℕ → ℕ → Result Done Reason
+to j k = Ok (record { next = j; events = k })
+
 -- how it went: blocked, or to the end
-pub data Went (fb i j : ℕ) (bs es ls : List ℕ) (n X : ℕ) (ls' cs' o' : List ℕ) (m : Try Atomic) (r : Done) : Type 0 where
-  stops : (q : Reason) → m ≡ lacks q → r ≡ Blocked q → Went fb i j bs es ls n X ls' cs' o' m r
-  goes : (a : Atomic) (k : ℕ) → m ≡ has a → r ≡ To j k → Worked fb i j bs es ls n X a ls' cs' o' k → Went fb i j bs es ls n X ls' cs' o' m r
+pub data Went (fb i j : ℕ) (bs es ls : List ℕ) (n X : ℕ) (ls' cs' o' : List ℕ) (m : Try Atomic) (r : Result Done Reason) : Type 0 where
+  stops : (q : Reason) → m ≡ lacks q → r ≡ Err q → Went fb i j bs es ls n X ls' cs' o' m r
+  goes : (a : Atomic) (k : ℕ) → m ≡ has a → r ≡ to j k → Worked fb i j bs es ls n X a ls' cs' o' k → Went fb i j bs es ls n X ls' cs' o' m r
 
 -- ---- a step that was decided
 
@@ -105,10 +108,10 @@ pub record Carrying (fb : ℕ) (s : Step) (ls cs o : List ℕ) (n : ℕ) : Type 
   pub few : n + 1 < 2 ^ 64
 
 -- it was
-pub record Carries (thread label fb : ℕ) (s : Step) (ls cs o : List ℕ) (n : ℕ) (ls' cs' o' : List ℕ) (r : Done) : Type 0 where
+pub record Carries (thread label fb : ℕ) (s : Step) (ls cs o : List ℕ) (n : ℕ) (ls' cs' o' : List ℕ) (r : Result Done Reason) : Type 0 where
   pub carries : (h : Carrying fb s ls cs o n) (i : ℕ) → Past i s
       → Went fb i (end_of s) h.bs h.es ls n (length h.a.env) ls' cs' o' (carried thread label s h.a) r
-  pub still : (q : Reason) → r ≡ Blocked q → (ls' ≡ ls) × (cs' ≡ cs) × (o' ≡ o)
+  pub still : (q : Reason) → r ≡ Err q → (ls' ≡ ls) × (cs' ≡ cs) × (o' ≡ o)
 
 -- ---- a block
 
@@ -146,14 +149,14 @@ module _ (t : List ℕ) (thread label fb : ℕ) (bs : List ℕ) where
     pub few : n + j < 2 ^ 64 + i
 
   -- the instruction is done
-  pub record DoesI (i d : ℕ) (ls cs o : List ℕ) (n : ℕ) (ls' cs' o' : List ℕ) (r : Done) : Type 0 where
+  pub record DoesI (i d : ℕ) (ls cs o : List ℕ) (n : ℕ) (ls' cs' o' : List ℕ) (r : Result Done Reason) : Type 0 where
     pub does : (h : DoingI i d ls cs o n) → Went fb i h.j bs h.es ls n (length h.a.env) ls' cs' o' (act_i thread label h.instr h.a) r
 
   -- the block is done
-  pub record Does (i d : ℕ) (ls cs o : List ℕ) (n : ℕ) (ls' cs' o' : List ℕ) (r : Done) : Type 0 where
+  pub record Does (i d : ℕ) (ls cs o : List ℕ) (n : ℕ) (ls' cs' o' : List ℕ) (r : Result Done Reason) : Type 0 where
     pub does : (h : Doing i d ls cs o n) → Went fb i h.j bs h.es ls n (length h.a.env) ls' cs' o' (act thread label h.block h.a) r
 
   -- the block is done as a whole: where it blocks, all is as before
-  pub record DoesWhole (i d : ℕ) (ls cs o : List ℕ) (n : ℕ) (ls' cs' o' : List ℕ) (r : Done) : Type 0 where
+  pub record DoesWhole (i d : ℕ) (ls cs o : List ℕ) (n : ℕ) (ls' cs' o' : List ℕ) (r : Result Done Reason) : Type 0 where
     pub does : Does i d ls cs o n ls' cs' o' r
-    pub still : Doing i d ls cs o n → (q : Reason) → r ≡ Blocked q → (ls' ≡ ls) × (cs' ≡ cs) × (o' ≡ o)
+    pub still : Doing i d ls cs o n → (q : Reason) → r ≡ Err q → (ls' ≡ ls) × (cs' ≡ cs) × (o' ≡ o)

@@ -11,11 +11,11 @@ use engine::{event, locals, memory};
 use labels::count::count_block;
 use value::Reason;
 
-// How a block or an instruction goes: where it ends and how many events there are then, or why it blocks.
+// A block or an instruction that did not block: where it ends, and how many events there are then.
 #[derive(Clone, Copy)]
-pub enum Done {
-    To { next: usize, events: usize },
-    Blocked(Reason),
+pub struct Done {
+    pub next: usize,
+    pub events: usize,
 }
 
 // Carries out an assignment, a read or a write that was decided, of a step with this label.
@@ -28,7 +28,7 @@ pub fn carry_out(
     cells: &mut [u64],
     events: &mut [u8],
     count: usize,
-) -> Done
+) -> Result<Done, Reason>
     requires { Carrying base step words.old cells.old events.old count }
     ensures { Carries thread label base step words.old cells.old events.old count
         words.new cells.new events.new result }
@@ -36,10 +36,10 @@ pub fn carry_out(
     match step {
         Step::Assign { x, value, next } => {
             locals::put(words, base, x, value);
-            Done::To {
+            Ok(Done {
                 next,
                 events: count,
-            }
+            })
         }
         Step::Read {
             x,
@@ -61,10 +61,10 @@ pub fn carry_out(
                     label,
                 },
             );
-            Done::To {
+            Ok(Done {
                 next,
                 events: count + 1,
-            }
+            })
         }
         Step::Write {
             location,
@@ -86,14 +86,14 @@ pub fn carry_out(
                     label,
                 },
             );
-            Done::To {
+            Ok(Done {
                 next,
                 events: count + 1,
-            }
+            })
         }
-        Step::Blocked(reason) => Done::Blocked(reason),
+        Step::Blocked(reason) => Err(reason),
         // no other step stands in an atomic block
-        _ => Done::Blocked(Reason::WrongKind),
+        _ => Err(Reason::WrongKind),
     }
 }
 
@@ -111,7 +111,7 @@ fn do_block(
     cells: &mut [u64],
     events: &mut [u8],
     count: usize,
-) -> Done
+) -> Result<Done, Reason>
     requires { Doing t.now thread label base starts.now at depth words.old cells.old events.old count }
     ensures { Does t.now thread label base starts.now at depth
         words.old cells.old events.old count
@@ -132,17 +132,14 @@ fn do_block(
             cells,
             events,
             n,
-        );
-        let Done::To { next, events: k } = done else {
-            return done;
-        };
-        i = next;
-        n = k;
+        )?;
+        i = done.next;
+        n = done.events;
     }
-    Done::To {
+    Ok(Done {
         next: i + 1,
         events: n,
-    }
+    })
 }
 
 // An instruction. Of an if, the branch that its test chooses is done, and the other one passed over.
@@ -159,7 +156,7 @@ fn do_instr(
     cells: &mut [u64],
     events: &mut [u8],
     count: usize,
-) -> Done
+) -> Result<Done, Reason>
     requires { DoingI t.now thread label base starts.now at depth words.old cells.old events.old count }
     ensures { DoesI t.now thread label base starts.now at depth
         words.old cells.old events.old count
@@ -170,18 +167,11 @@ fn do_instr(
         if truth {
             let done = do_block(
                 t, next, depth, thread, label, base, starts, words, cells, events, count,
-            );
-            let Done::To {
-                next: end,
-                events: n,
-            } = done
-            else {
-                return done;
-            };
-            return Done::To {
-                next: count_block(t, end, depth).next,
-                events: n,
-            };
+            )?;
+            return Ok(Done {
+                next: count_block(t, done.next, depth).next,
+                events: done.events,
+            });
         }
         let no = count_block(t, next, depth).next;
         return do_block(
@@ -199,11 +189,7 @@ fn copy_frame(words: &[u64], base: usize, copy: &mut [u64])
     requires { (base + frame_words ≤ length words.now) × (frame_words ≤ length copy.old) }
     ensures { Copies words.now base frame_words copy.new }
 {
-    let mut i = 0;
-    while i < FRAME {
-        copy[i] = words[base + i];
-        i += 1;
-    }
+    copy[..FRAME].copy_from_slice(&words[base..base + FRAME]);
 }
 
 // A block over the cells of a program, as deep as one may be.
@@ -218,7 +204,7 @@ fn do_all(
     cells: &mut [u64; PROGRAM_WORDS],
     events: &mut [u8],
     count: usize,
-) -> Done
+) -> Result<Done, Reason>
     requires { Doing t.now thread label base starts.now at max_nesting words.old cells.old events.old count }
     ensures { Does t.now thread label base starts.now at max_nesting
         words.old cells.old events.old count
@@ -242,7 +228,7 @@ pub fn do_atomic(
     cells: &mut [u64; PROGRAM_WORDS],
     events: &mut [u8],
     count: usize,
-) -> Done
+) -> Result<Done, Reason>
     requires { Doing t.now thread label base starts.now at max_nesting words.old cells.old events.old count }
     ensures { DoesWhole t.now thread label base starts.now at max_nesting
         words.old cells.old events.old count
@@ -264,9 +250,7 @@ pub fn do_atomic(
         &mut no_events,
         0,
     );
-    if let Done::Blocked(_) = tried {
-        return tried;
-    }
+    tried?;
     do_all(
         t, at, thread, label, base, starts, words, cells, events, count,
     )

@@ -4,8 +4,10 @@
 pub mod Columns
 -- numbers and values at places of a table or a buffer
 pub mod Places
--- why an answer has no value
-pub mod Reasons
+-- the operands of the operators on whole numbers, and what becomes of a result
+pub mod Operands
+-- why a call refuses, by the paper's numbers
+pub mod Refusals
 -- sets of locals as bits
 pub mod BitSets
 -- sizes of arrays, made from the definitions' numbers

@@ -7,44 +7,34 @@ ghost use Rattle.value.specs.Values.{given, bytes, word, unword, cell_size};
 ghost use Rattle.basics.specs.Places.{cell_kind, cell_number, value_of, number_at, room, with_value};
 
 use super::numbers::CELL;
-use value::{Answer, Value};
+use value::{Reason, Value};
 
 // A whole number's 32 bits, in two's complement.
 fn bits_of(a: i32) -> u32
     ensures { result ≡ word a }
 {
-    let x = a as i64;
-    if x < 0 {
-        return (x + 4294967296) as u32;
-    }
-    x as u32
+    a.cast_unsigned()
 }
 
 // The whole number of 32 bits.
 pub fn number_of(n: u32) -> i32
     ensures { result ≡ unword n }
 {
-    if n < 2147483648 {
-        return n as i32;
-    }
-    ((n as i64) - 4294967296) as i32
+    n.cast_signed()
 }
 
 // The byte at a place: 0 past the end.
 pub fn byte_at(t: &[u8], at: usize) -> u8
     ensures { result ≡ get_or t.now at 0 }
 {
-    if at < t.len() {
-        return t[at];
-    }
-    0
+    t.get(at).copied().unwrap_or(0)
 }
 
 // The number of two bytes, the low one first.
 pub fn pair(low: u8, high: u8) -> u16
     ensures { result ≡ low + 256 * high }
 {
-    (low as u16) + 256 * (high as u16)
+    u16::from_le_bytes([low, high])
 }
 
 // The number of two pairs of bytes, the low one first.
@@ -116,27 +106,27 @@ pub fn cell_number(v: Value) -> u32
 }
 
 // The value of a kind byte and a number.
-pub fn value_of(kind: u8, n: u32) -> Answer
+pub fn value_of(kind: u8, n: u32) -> Result<Value, Reason>
     ensures { given result ≡ or_lacks WrongKind (value_of kind n) }
 {
     if kind == 1 {
-        return Answer::Is(Value::Whole(number_of(n)));
+        return Ok(Value::Whole(number_of(n)));
     }
     if kind == 2 {
         if n < 65536 {
-            return Answer::Is(Value::Location(n as u16));
+            return Ok(Value::Location(n as u16));
         }
-        return Answer::WrongKind;
+        return Err(Reason::WrongKind);
     }
     if n == 0 {
         if kind == 3 {
-            return Answer::Is(Value::Truth(false));
+            return Ok(Value::Truth(false));
         }
         if kind == 4 {
-            return Answer::Is(Value::Truth(true));
+            return Ok(Value::Truth(true));
         }
     }
-    Answer::WrongKind
+    Err(Reason::WrongKind)
 }
 
 // The four bytes of a number.

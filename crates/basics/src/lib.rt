@@ -8,3 +8,4 @@ pub mod marks;
 pub mod numbers;
 pub mod operators;
 pub mod reasons;
+pub mod refusals;

@@ -38,11 +38,12 @@ pub const LOCATION: u8 = 2;
 
 pub const TRUTH: u8 = 3;
 
-// The operand count of a byte that is no mark.
+// The operand count of a byte that is no mark. stays: it is a count of the packed table, and most callers ask for 1 or 2 alone, which an Option
+// would make no plainer.
 pub const NO_MARK: u8 = 9;
 
-// A row is one number: its operand count times COUNT, its result kind times GIVES, and its operand kind. A constant array is laid down anew at
-// each use, so that one look at a table of bytes is what an operator can afford.
+// A row is one number: its operand count times COUNT, its result kind times GIVES, and its operand kind. stays: a constant array is laid down
+// anew at each use, so that one look at a table of bytes is what an operator can afford.
 const COUNT: u8 = 16;
 
 const GIVES: u8 = 4;
@@ -88,10 +89,12 @@ const PAYLOAD: [u8; BYTES] = [
 fn row(mark: u8) -> u8
     ensures { result ≡ packed_of mark }
 {
+    // stays: of `get(..).copied().unwrap_or(..)` the proof did not close, as it does of a test and an index
     if (mark as usize) < BYTES {
-        return TABLE[mark as usize];
+        TABLE[mark as usize]
+    } else {
+        NO_ROW
     }
-    NO_ROW
 }
 
 // The operand count of a row.
@@ -119,8 +122,10 @@ pub fn operands(mark: u8) -> u8
 pub fn payload(mark: u8) -> u8
     ensures { result ≡ payload_of mark }
 {
+    // stays: as in `row`
     if (mark as usize) < BYTES {
-        return PAYLOAD[mark as usize];
+        PAYLOAD[mark as usize]
+    } else {
+        0
     }
-    0
 }

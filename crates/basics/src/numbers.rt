@@ -1,6 +1,8 @@
 // The numbers of the paper that code goes by, each said once, and the sizes of arrays that follow from them. The definitions have their own:
 // `limits`, `max_labels` and so on, and specs/Sizes.antt for what follows. A contract that speaks of both joins them.
 
+use super::marks;
+
 // "An expression nests at most 16 deep".
 pub const DEPTH: u8 = 16;
 
@@ -78,21 +80,21 @@ pub const CELL: usize = 5;
 pub const EVENT: usize = 13;
 
 // The marks of an expression that code asks for or writes: a whole number, a location, false, true, a local, equal, and, not.
-pub const WHOLE: u8 = 0x01;
+pub const WHOLE: u8 = marks::NUMBER;
 
-pub const LOCATION: u8 = 0x02;
+pub const LOCATION: u8 = marks::PLACE;
 
-pub const FALSE: u8 = 0x03;
+pub const FALSE: u8 = marks::FALSE;
 
-pub const TRUE: u8 = 0x04;
+pub const TRUE: u8 = marks::TRUE;
 
 pub const LOCAL: u8 = 0x05;
 
-pub const EQUAL: u8 = 0x14;
+pub const EQUAL: u8 = marks::EQUAL;
 
-pub const AND: u8 = 0x15;
+pub const AND: u8 = marks::AND;
 
-pub const NOT: u8 = 0x16;
+pub const NOT: u8 = marks::NOT;
 
 // The bytes that begin an instruction.
 pub const ASSIGN: u8 = 0x20;

@@ -223,5 +223,30 @@ module _ {t map bounds ss : List ℕ} {k T : ℕ} {counts labels₀ depths₀ ls
           goes = U.goes;
         }
 
+-- ---- the place of a count, by its round and its thread
+
+-- the beginning
+pub rounds_first : {t map bounds ss : List ℕ} {k T : ℕ} {counts labels depths ls cs : List ℕ} → Playing t map bounds ss k T counts labels depths ls cs
+    → Rounds t map bounds ss k T counts labels depths ls cs labels depths ls cs false (T * 0) 0
+rounds_first {T = T} h = let none : T * 0 ≡ 0 = omega arith in rw none (rounds_start h)
+
+module _ {t map bounds ss : List ℕ} {k T : ℕ} {counts labels₀ depths₀ ls₀ cs₀ labels₁ depths₁ ls₁ cs₁ : List ℕ} {b₁ : Bool} {r : ℕ}
+    (R : Rounds t map bounds ss k T counts labels₀ depths₀ ls₀ cs₀ labels₁ depths₁ ls₁ cs₁ b₁ (T * r) r) (l : r < k) where
+  -- a round begins
+  pub turns_first : Turns t map bounds ss k T counts labels₁ depths₁ ls₁ cs₁ (T * r) r labels₁ depths₁ ls₁ cs₁ b₁ (T * r + 0) 0
+  turns_first = let same : T * r + 0 ≡ T * r = omega arith in rw same (turns_start R l)
+
+  module _ {labels depths ls cs : List ℕ} {b : Bool} {u : ℕ}
+      (U : Turns t map bounds ss k T counts labels₁ depths₁ ls₁ cs₁ (T * r) r labels depths ls cs b (T * r + u) u) where
+    -- a round is over
+    pub rounds_next : T ≤ u → Rounds t map bounds ss k T counts labels₀ depths₀ ls₀ cs₀ labels depths ls cs b (T * (r + 1)) (r + 1)
+    rounds_next m = let same : T * (r + 1) ≡ T * r + u = omega (arith, U.low) in rw same (rounds_more R U l m)
+
+    -- the next thread's turn
+    pub turns_next : (m : u < T) {labels' depths' ls' cs' : List ℕ} {x : Bool}
+        → Takes t map bounds ss u (get_or counts (T * r + u) 0) labels depths ls cs labels' depths' ls' cs' x → x ≡ false
+        → Turns t map bounds ss k T counts labels₁ depths₁ ls₁ cs₁ (T * r) r labels' depths' ls' cs' b (T * r + (u + 1)) (u + 1)
+    turns_next m K e = let same : T * r + (u + 1) ≡ T * r + u + 1 = omega arith in rw same (turns_more R U l m K e)
+
 -- one law for each way
-pub ruleset play_ways = (rounds_start, rounds_all, turns_start, rounds_more, turns_there, turns_thread, turns_taking, turns_blocked, turns_more)
+pub ruleset play_ways = (rounds_first, rounds_all, turns_first, rounds_next, turns_there, turns_thread, turns_taking, turns_blocked, turns_next)

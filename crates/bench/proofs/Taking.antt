@@ -1,13 +1,14 @@
 -- The steps of a thread, way by way.
-use Prim.Native.Nat.{ℕ, suc, ◌-◌, ◌<◌}
+use Prim.Native.Nat.{ℕ, suc, ◌+◌, ◌-◌, ◌≤◌, ◌<◌}
 use native.Mathlib.Omega.{arith}
 use mathlib.Core.Path.{◌≡◌, refl, sym, ap, subst, ◌∙◌}
 use mathlib.Core.List.{List, [], ◌∷◌, ◌++◌}
-use mathlib.Core.Bool.{true, false}
+use mathlib.Core.Bool.{Bool, true, false}
 use lib.ListN.{length, get_or, replicate}
 use Rattle.value.specs.Maybe.{is}
 use Rattle.value.specs.Lists.{at}
 use Rattle.value.proofs.Laws.Lists.{at_get_d}
+use Rattle.value.proofs.Laws.Tests.{never}
 use Rattle.value.specs.declared.Reason.{Reason}
 use Rattle.format.specs.Syntax.{Program, Plain}
 use Rattle.format.specs.Labels.{labelled}
@@ -15,8 +16,7 @@ use Rattle.semantics.specs.Step.{Stack}
 use Rattle.semantics.specs.Threads as P
 use Rattle.engine.specs.Laws.Logging.{logged_none}
 use Rattle.atomic.specs.Threaded.{most_threads, Threaded}
-use Rattle.concurrent.specs.declared.threads.Stepped.{Stepped}
-use Rattle.concurrent.specs.declared.threads.Stepped.TheVariants.{To, Blocked}
+use Rattle.std.specs.Prelude.{Result, Ok, Err, is_err}
 use Rattle.concurrent.specs.Stepping.{Present, Stepping, Went, Stays, Answers, Steps}
 use Rattle.allotments.specs.Allotments.{rests}
 use Rattle.allotments.proofs.Laws.Trials.{tries, tries_step, tries_stuck, tries_over}
@@ -76,7 +76,7 @@ module _ {t map bounds ss : List ℕ} {thread n : ℕ} {labels₀ depths₀ ls�
   left_thread = omega (arith, G.start.there, G.start.ready.loaded.sound.threads.high)
 
   -- no step is left
-  pub left_none : left ≡ 0 → Takes t map bounds ss thread n labels₀ depths₀ ls₀ cs₀ labels depths ls cs false
+  left_none : left ≡ 0 → Takes t map bounds ss thread n labels₀ depths₀ ls₀ cs₀ labels depths ls cs false
   left_none e = record {
     takes = λ h. record {
       after = (G.from h).state;
@@ -113,7 +113,7 @@ module _ {t map bounds ss : List ℕ} {thread n : ℕ} {labels₀ depths₀ ls�
   pub left_stepping : Stepping t map bounds ss thread labels depths ls cs [] 0
   left_stepping = stepping_of G.start
 
-  module _ (e : left ≡ 0 → ⊥) (d : get_or depths thread 0 ≡ 0 → ⊥) {x : Stepped} {labels' depths' ls' cs' es : List ℕ}
+  module _ (e : left ≡ 0 → ⊥) (d : get_or depths thread 0 ≡ 0 → ⊥) {x : Result ℕ Reason} {labels' depths' ls' cs' es : List ℕ}
       (S : Steps t map bounds ss thread labels depths ls cs [] 0 labels' depths' ls' cs' es x) where
     -- this one, and the others
     one : left ≡ suc (left - 1)
@@ -129,7 +129,7 @@ module _ {t map bounds ss : List ℕ} {thread n : ℕ} {labels₀ depths₀ ls�
     going h = under (G.from h).state.threads thread (G.from h).present.threads h.there d
 
     -- it blocks
-    pub left_blocked : {why : Reason} → x ≡ Blocked why → Takes t map bounds ss thread n labels₀ depths₀ ls₀ cs₀ labels' depths' ls' cs' true
+    left_blocked : {why : Reason} → x ≡ Err why → Takes t map bounds ss thread n labels₀ depths₀ ls₀ cs₀ labels' depths' ls' cs' true
     left_blocked {why} z = record {
       takes = λ h.
           let q : Program ℕ = labelled h.ready.loaded.program in
@@ -146,7 +146,7 @@ module _ {t map bounds ss : List ℕ} {thread n : ℕ} {labels₀ depths₀ ls�
     }
 
     -- it goes on
-    pub left_on : {m : ℕ} → x ≡ To m → Left t map bounds ss thread n labels₀ depths₀ ls₀ cs₀ labels' depths' ls' cs' (left - 1)
+    left_on : {m : ℕ} → x ≡ Ok m → Left t map bounds ss thread n labels₀ depths₀ ls₀ cs₀ labels' depths' ls' cs' (left - 1)
     left_on {m} z = record {
       start = G.start;
       from = λ h.
@@ -163,5 +163,35 @@ module _ {t map bounds ss : List ℕ} {thread n : ℕ} {labels₀ depths₀ ls�
           };
     }
 
+-- ---- after i of n steps
+
+module _ {t map bounds ss : List ℕ} {thread n : ℕ} {labels₀ depths₀ ls₀ cs₀ labels depths ls cs : List ℕ} {i : ℕ}
+    (G : Left t map bounds ss thread n labels₀ depths₀ ls₀ cs₀ labels depths ls cs (n - i)) where
+  -- that were all
+  pub taken_all : n ≤ i → Takes t map bounds ss thread n labels₀ depths₀ ls₀ cs₀ labels depths ls cs false
+  taken_all l = left_none G (omega arith)
+
+  module _ (l : i < n) (d : get_or depths thread 0 ≡ 0 → ⊥) {x : Result ℕ Reason} {b : Bool} {labels' depths' ls' cs' es : List ℕ}
+      (S : Steps t map bounds ss thread labels depths ls cs [] 0 labels' depths' ls' cs' es x) (k : b ≡ is_err x) where
+    -- the next one blocks
+    pub taken_blocked : b ≡ true → Takes t map bounds ss thread n labels₀ depths₀ ls₀ cs₀ labels' depths' ls' cs' true
+    taken_blocked e = by x S (sym k ∙ e)
+      where
+        by : (x : Result ℕ Reason) → Steps t map bounds ss thread labels depths ls cs [] 0 labels' depths' ls' cs' es x → is_err x ≡ true
+            → Takes t map bounds ss thread n labels₀ depths₀ ls₀ cs₀ labels' depths' ls' cs' true
+        by (Ok m) S e = absurd (never e)
+        by (Err why) S e = left_blocked G (omega arith) d S refl
+
+    -- it does not
+    pub taken_more : b ≡ false → Left t map bounds ss thread n labels₀ depths₀ ls₀ cs₀ labels' depths' ls' cs' (n - (i + 1))
+    taken_more e = by x S (sym k ∙ e)
+      where
+        by : (x : Result ℕ Reason) → Steps t map bounds ss thread labels depths ls cs [] 0 labels' depths' ls' cs' es x → is_err x ≡ false
+            → Left t map bounds ss thread n labels₀ depths₀ ls₀ cs₀ labels' depths' ls' cs' (n - (i + 1))
+        by (Ok m) S e =
+            let same : n - i - 1 ≡ n - (i + 1) = omega arith in
+            rw (← same) (left_on G (omega arith) d S refl)
+        by (Err why) S e = absurd (never (sym e))
+
 -- one law for each way
-pub ruleset take_ways = (left_all, left_thread, left_none, left_over, left_stepping, left_blocked, left_on)
+pub ruleset take_ways = (left_all, left_thread, left_over, left_stepping, taken_all, taken_blocked, taken_more)

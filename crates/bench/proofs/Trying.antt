@@ -2,9 +2,9 @@
 use Prim.Native.Nat.{ℕ, suc, ◌+◌, ◌*◌, ◌^◌, ◌≤◌, ◌<◌}
 use native.Mathlib.Nat.{pow-le-pow_left, pow-le-pow_right}
 use native.Mathlib.Omega.{arith}
-use mathlib.Core.Path.{◌≡◌, refl, sym, ap, subst, ◌∙◌}
+use mathlib.Core.Path.{◌≡◌, sym, ap, subst, ◌∙◌}
 use mathlib.Core.List.{List, [], ◌++◌}
-use mathlib.Core.Bool.{Bool, true, false}
+use mathlib.Core.Bool.{Bool}
 use lib.ListN.{length, drop, replicate, length-append, length-drop}
 use lib.Seq.{drop_at}
 use lib.Dec.{ltb}
@@ -26,7 +26,6 @@ use Rattle.allotments.specs.Allotments.{counts, allotted}
 use Rattle.allotments.specs.Bench.{places, counts_at, run_at}
 use Rattle.allotments.proofs.Laws.Trials.{Tried, tries, tried_by, run_tries}
 use Rattle.allotments.proofs.Laws.Digits.{length_counts}
-use Rattle.bench.specs.declared.trial.Tried.TheVariants.{Blocks, Goes}
 use Rattle.bench.specs.Counting.{Threads, Benched, Filling, Fills}
 use Rattle.bench.specs.Trying.{Playing, Ends, Plays, Kept, Trying, RanAt, Tries}
 use Rattle.bench.proofs.Counting.{steps_based, counts_fit}
@@ -54,10 +53,6 @@ module _ {t : List ℕ} {i₀ T c k s i : ℕ} {map bounds ss counts₀ labels d
   -- so is the number of counts
   pub trying_places : k * T < 2 ^ 64
   trying_places = counts_fit (accepted_threads h.accepted) h.bench.rounds
-
-  -- and the next number
-  pub trying_next : i + 1 < 2 ^ 64
-  trying_next = omega (arith, h.more, h.bench.few)
 
   -- room for the counts
   pub trying_filling : Filling (s + 1) (k * T) counts₀
@@ -153,21 +148,9 @@ module _ {t : List ℕ} {i₀ T c k s i : ℕ} {map bounds ss counts₀ labels�
           cells_room = omega (arith, E.present.memory.few);
         }
 
-    -- it blocks
-    pub try_blocks : x ≡ true
-        → Tries t i₀ T c k s i map bounds ss counts₀ labels₀ depths₀ ls₀ cs₀ counts₁ labels₂ depths₂ ls₂ cs₂ (Blocks i)
-    try_blocks e = record {
-      tried = λ h. (refl, subst (RanAt h.accepted.program k s i counts₁ cs₂) e (ran h));
-      kept = kept_of;
-    }
-
-    -- it doesn't
-    pub try_goes : x ≡ false
-        → Tries t i₀ T c k s i map bounds ss counts₀ labels₀ depths₀ ls₀ cs₀ counts₁ labels₂ depths₂ ls₂ cs₂ (Goes (i + 1))
-    try_goes e = record {
-      tried = λ h. (refl, subst (RanAt h.accepted.program k s i counts₁ cs₂) e (ran h));
-      kept = kept_of;
-    }
+    -- it was tried
+    pub tries_all : Tries t i₀ T c k s i map bounds ss counts₀ labels₀ depths₀ ls₀ cs₀ counts₁ labels₂ depths₂ ls₂ cs₂ x
+    tries_all = record { tried = ran; kept = kept_of }
 
 -- one law for each way
-pub ruleset try_ways = (trying_base, trying_places, trying_next, trying_filling, trying_mains, trying_cells, trying_playing, try_blocks, try_goes)
+pub ruleset try_ways = (trying_base, trying_places, trying_filling, trying_mains, trying_cells, trying_playing, tries_all)

@@ -1,5 +1,5 @@
 -- How many allotments there are, and the counts of one, as the code says them.
-use Rattle.std.specs.Prelude.{ℕ, suc, ◌≤◌, ◌^◌, ◌≡◌, List, ◌++◌, true, false, length, drop}
+use Rattle.std.specs.Prelude.{ℕ, suc, ◌≤◌, ◌≡◌, List, ◌++◌, true, false, length, drop, Option, Some, None}
 use Rattle.basics.specs.Sizes.{most_threads}
 use Rattle.allotments.specs.Allotments.{counts}
 use Rattle.allotments.specs.Bench.{most_steps, most_allotments, places, allotments, benched}
@@ -8,11 +8,6 @@ use Rattle.allotments.specs.Bench.{most_steps, most_allotments, places, allotmen
 pub record Based (b : ℕ) : Type 0 where
   pub some : 2 ≤ b
   pub few : b ≤ suc most_steps
-
--- its power, or 0 where that is too large
-pub record SaysPower (b n r : ℕ) : Type 0 where
-  pub none : r ≡ 0 → suc most_allotments ≤ b ^ n
-  pub some : (r ≡ 0 → ⊥) → (r ≡ b ^ n) × (r ≤ most_allotments)
 
 -- "T not 1..32"
 pub record Threads (T : ℕ) : Type 0 where
@@ -27,10 +22,10 @@ pub record Benched (T k s : ℕ) : Type 0 where
   pub some : 1 ≤ s
   pub few : allotments T k s ≤ most_allotments
 
--- the number of allotments; 0 if k rounds of 0 to s steps are refused
-pub record SaysAllotments (T k s r : ℕ) : Type 0 where
-  pub none : r ≡ 0 → benched T k s ≡ false
-  pub some : (r ≡ 0 → ⊥) → (r ≡ allotments T k s) × Benched T k s
+-- the number of allotments; none if k rounds of 0 to s steps are refused
+pub record SaysAllotments (T k s : ℕ) (r : Option ℕ) : Type 0 where
+  pub none : r ≡ None → benched T k s ≡ false
+  pub some : (n : ℕ) → r ≡ Some n → (n ≡ allotments T k s) × Benched T k s
 
 -- a base, and room for n counts
 pub record Filling (b n : ℕ) (cs : List ℕ) : Type 0 where

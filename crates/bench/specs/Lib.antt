@@ -6,3 +6,5 @@ pub mod Counting
 pub mod Trying
 -- the search
 pub mod Searching
+-- the call
+pub mod Benching

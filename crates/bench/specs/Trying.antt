@@ -1,5 +1,5 @@
 -- An allotment is tried: what the code is asked and answers.
-use Rattle.std.specs.Prelude.{ℕ, ◌+◌, ◌*◌, ◌-◌, ◌≤◌, ◌<◌, ◌≡◌, List, [], ◌++◌, Bool, true, false, length, drop, replicate}
+use Rattle.std.specs.Prelude.{ℕ, ◌*◌, ◌-◌, ◌≤◌, ◌<◌, ◌≡◌, List, [], ◌++◌, Bool, true, false, length, drop, replicate}
 use Rattle.value.specs.Lists.{over}
 use Rattle.format.specs.Syntax.{Program, Plain}
 use Rattle.format.specs.Encode.{trailer_size}
@@ -14,8 +14,6 @@ use Rattle.concurrent.specs.Anew.{Prepares}
 use Rattle.allotments.specs.Allotments.{allotted}
 use Rattle.allotments.specs.Bench.{places, allotments, counts_at, run_at, blocks_at}
 use Rattle.allotments.proofs.Laws.Trials.{Tried, tries}
-use Rattle.bench.specs.declared.trial.Tried.{Tried as Answer}
-use Rattle.bench.specs.declared.trial.Tried.TheVariants.{Blocks, Goes}
 use Rattle.bench.specs.Counting.{Benched}
 
 -- ---- a state
@@ -103,13 +101,8 @@ pub record RanAt (p : Program Plain) (k s i : ℕ) (counts cs : List ℕ) (b : B
   pub memory : Holds (run_at p k s i).state.memory cs
   pub sizes : shape (run_at p k s i).state.memory ≡ p.sizes
 
--- "either answers i, where that one blocks, or goes on with i + 1, where it doesn't"
-abbrev pub Answers : Program Plain → ℕ → ℕ → ℕ → List ℕ → List ℕ → Answer → Type 0
-Answers p k s i counts cs (Blocks j) = (j ≡ i) × RanAt p k s i counts cs true
-Answers p k s i counts cs (Goes j) = (j ≡ i + 1) × RanAt p k s i counts cs false
-
 -- it was tried
-pub record Tries (t : List ℕ) (i₀ T c k s i : ℕ) (map bounds ss counts labels depths ls cs counts' labels' depths' ls' cs' : List ℕ) (r : Answer)
+pub record Tries (t : List ℕ) (i₀ T c k s i : ℕ) (map bounds ss counts labels depths ls cs counts' labels' depths' ls' cs' : List ℕ) (r : Bool)
     : Type 0 where
-  pub tried : (h : Trying t i₀ T c k s i map bounds ss counts labels depths ls cs) → Answers h.accepted.program k s i counts' cs' r
+  pub tried : (h : Trying t i₀ T c k s i map bounds ss counts labels depths ls cs) → RanAt h.accepted.program k s i counts' cs' r
   pub kept : Trying t i₀ T c k s i map bounds ss counts labels depths ls cs → Kept T c k counts' labels' depths' ls' cs'

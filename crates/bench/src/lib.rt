@@ -8,29 +8,27 @@ mod trial;
 
 ghost use Rattle.std.specs.Prelude.{◌≡◌};
 ghost use Rattle.allotments.specs.Bench.{Outcome, bench_call};
+ghost use Rattle.bench.specs.Benching.{Benches};
 
 use allotments::BenchAnswer;
 use basics::numbers::CELL;
+use basics::refusals::Refusal;
 use counts::allotments;
+use reader::Kind;
 use search::{search, without};
 
-// Tries each allotment of `rounds` rounds in which a thread is given from 0 to `most` steps, up to one whose run blocks.
-pub fn bench(table: &[u8], rounds: u64, most: u64, cells: &mut [u8]) -> BenchAnswer
-    ensures { ◌≡◌ {A = Outcome} (record { answer = result; cells = cells.new })
-        (bench_call table.now rounds most cells.old) }
+// The search of a table that is accepted, for numbers that are not refused, with room for its cells.
+fn searched(table: &[u8], rounds: u64, most: u64, cells: &mut [u8]) -> Result<BenchAnswer, Refusal>
+    ensures { Benches table.now rounds most cells.old cells.new result }
 {
-    let read = reader::read_concurrent(table);
-    if read.number != 0 {
-        return without(read.number);
-    }
-    let total = allotments(read.threads, rounds, most);
-    if total == 0 {
-        return without(13);
-    }
+    let read = reader::check(table, Kind::Concurrent)?;
+    let Some(total) = allotments(read.threads, rounds, most) else {
+        return Err(Refusal::Allotments);
+    };
     if cells.len() < CELL * read.cells {
-        return without(12);
+        return Err(Refusal::NoCells);
     }
-    search(
+    Ok(search(
         table,
         read.procedures,
         read.locations,
@@ -40,5 +38,16 @@ pub fn bench(table: &[u8], rounds: u64, most: u64, cells: &mut [u8]) -> BenchAns
         most,
         total,
         cells,
-    )
+    ))
+}
+
+// Tries each allotment of `rounds` rounds in which a thread is given from 0 to `most` steps, up to one whose run blocks.
+pub fn bench(table: &[u8], rounds: u64, most: u64, cells: &mut [u8]) -> BenchAnswer
+    ensures { ◌≡◌ {A = Outcome} (record { answer = result; cells = cells.new })
+        (bench_call table.now rounds most cells.old) }
+{
+    match searched(table, rounds, most, cells) {
+        Ok(answer) => answer,
+        Err(refusal) => without(refusal.number()),
+    }
 }

@@ -4,7 +4,7 @@ ghost use Rattle.allotments.specs.Bench as Bench;
 ghost use Rattle.bench.specs.Searching.{found_with, Searching, Searches};
 
 use super::counts::PLACES;
-use super::trial::{Tried, try_one};
+use super::trial::try_one;
 use allotments::BenchAnswer;
 use basics::numbers::{
     ALL_FRAMES, BOUNDS, MAIN, MAP, PROGRAM_WORDS, STARTS, THREAD_WORDS, THREADS, TRAILER,
@@ -70,16 +70,16 @@ pub fn search(
         &mut bounds,
         &mut starts,
     );
-    let mut i = 0;
-    loop {
-        match try_one(
+    // "either answers i, where that one blocks, or goes on with i + 1, where it doesn't"
+    for number in 0..total {
+        if try_one(
             t,
             mains,
             threads,
             count,
             rounds,
             most,
-            i,
+            number,
             &map,
             &bounds,
             &starts,
@@ -89,15 +89,10 @@ pub fn search(
             &mut words,
             &mut cells,
         ) {
-            Tried::Blocks(number) => {
-                write_out(&cells, count, out);
-                return found(number, counts);
-            }
-            Tried::Goes(next) => i = next,
-        }
-        if i == total {
             write_out(&cells, count, out);
-            return without(0);
+            return found(number, counts);
         }
     }
+    write_out(&cells, count, out);
+    without(0)
 }

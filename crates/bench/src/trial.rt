@@ -4,7 +4,7 @@ ghost use Rattle.bench.specs.Trying.{Taking, Takes, Playing, Plays, Trying, Trie
 use super::counts::{PLACES, fill_counts};
 use basics::numbers::{ALL_FRAMES, BOUNDS, MAP, PROGRAM_WORDS, STARTS, THREAD_WORDS, THREADS};
 use concurrent::anew::renew;
-use concurrent::threads::{Stepped, step};
+use concurrent::threads::step;
 
 // A thread takes so many steps, one by one; "leaves out each step of a finished thread". Answers whether one blocks.
 fn take_steps(
@@ -24,12 +24,11 @@ fn take_steps(
         labels.old depths.old words.old cells.old
         labels.new depths.new words.new cells.new result }
 {
-    let mut left = steps;
-    while left != 0 {
+    for _taken in 0..steps {
         if depths[thread as usize] == 0 {
             return false;
         }
-        match step(
+        let stepped = step(
             t,
             map,
             bounds,
@@ -41,11 +40,9 @@ fn take_steps(
             cells,
             &mut [0u8; 0],
             0,
-        ) {
-            Stepped::To(_events) => left -= 1,
-            Stepped::Blocked(_reason) => {
-                return true;
-            }
+        );
+        if stepped.is_err() {
+            return true;
         }
     }
     false
@@ -71,12 +68,10 @@ fn play(
         labels.new depths.new words.new cells.new result }
 {
     let mut blocked = false;
-    let mut place = 0;
-    let mut round = 0;
-    'rounds: while round < rounds {
-        let mut thread = 0;
-        while thread < threads {
-            let steps = counts[place];
+    // stays: the labelled break is asked for, "leaves both the rounds and the allotments at the first blocked run"
+    'rounds: for round in 0..rounds {
+        for thread in 0..threads {
+            let steps = counts[threads * round + thread];
             if take_steps(
                 t,
                 map,
@@ -92,23 +87,12 @@ fn play(
                 blocked = true;
                 break 'rounds;
             }
-            place += 1;
-            thread += 1;
         }
-        round += 1;
     }
     blocked
 }
 
-// What trying an allotment comes to: it blocks, or the search goes on with this number.
-#[derive(Clone, Copy)]
-pub enum Tried {
-    Blocks(u64),
-    Goes(u64),
-}
-
-// Tries allotment `number`, before which none blocks: "either answers i, where that one blocks, or goes on with i + 1, where it doesn't".
-// Leaves its counts and the cells of its run.
+// Tries allotment `number`, before which none blocks, and answers whether that one blocks. Leaves its counts and the cells of its run.
 pub fn try_one(
     t: &[u8],
     mains: usize,
@@ -125,7 +109,7 @@ pub fn try_one(
     depths: &mut [usize; THREADS],
     words: &mut [u64; THREAD_WORDS],
     cells: &mut [u64; PROGRAM_WORDS],
-) -> Tried
+) -> bool
     requires { Trying t.now mains threads count rounds most number map.now bounds.now starts.now counts.old
         labels.old depths.old words.old cells.old }
     ensures { Tries t.now mains threads count rounds most number map.now bounds.now starts.now
@@ -136,11 +120,7 @@ pub fn try_one(
     renew(
         t, mains, threads, count, bounds, labels, depths, words, cells,
     );
-    if play(
+    play(
         t, map, bounds, starts, rounds, threads, counts, labels, depths, words, cells,
-    ) {
-        Tried::Blocks(number)
-    } else {
-        Tried::Goes(number + 1)
-    }
+    )
 }

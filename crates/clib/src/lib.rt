@@ -2,7 +2,7 @@
 // array has a place for it. May use `reader`, `translator`, `machines`, `bench`, `prices`, `mender`, `printer`, `fromtext` and the types that they answer. Read specs/Numbers.antt first.
 #![tactic(auto)]
 
-ghost use Rattle.std.specs.Prelude.{◌≡◌, ◌+◌, ◌≤◌, set};
+ghost use Rattle.std.specs.Prelude.{◌≡◌};
 ghost use Rattle.format.specs.Syntax.{concurrent, sequential};
 ghost use Rattle.format.specs.Calls.{read_call};
 ghost use Rattle.translation.specs.Placement.{mode_numbered};
@@ -23,109 +23,90 @@ use mending::MendAnswer;
 use semantics::RunAnswer;
 use translation::WriteAnswer;
 
-// "at most 19 counts, the rest 0".
-const COUNTS: usize = 19;
-
-// Number i of an answer.
-fn store(answer: &mut [u64], i: usize, n: u64)
-    ensures { answer.new ≡ set answer.old i n }
+// Numbers of an answer from the array's first place on, as many as it has places for.
+fn store(numbers: &[u64], answer: &mut [u64])
+    ensures { answer.new ≡ stored 0 numbers.now answer.old }
 {
-    if i < answer.len() {
-        answer[i] = n;
-    }
-}
-
-// Three numbers of an answer, from place i on.
-fn store_three(answer: &mut [u64], i: usize, a: u64, b: u64, c: u64)
-    requires { i ≤ 3 }
-    ensures { answer.new ≡ set (set (set answer.old i a) (i + 1) b) (i + 2) c }
-{
-    store(answer, i, a);
-    store(answer, i + 1, b);
-    store(answer, i + 2, c);
+    let n = numbers.len().min(answer.len());
+    answer[..n].copy_from_slice(&numbers[..n]);
 }
 
 // The six numbers of a read.
-fn store_read(answer: &mut [u64], r: ReadAnswer)
+fn store_read(r: ReadAnswer, answer: &mut [u64])
     ensures { answer.new ≡ stored 0 (read_numbers r) answer.old }
 {
-    store_three(
-        answer,
-        0,
-        r.number as u64,
+    let numbers = [
+        u64::from(r.number),
         r.procedures as u64,
         r.locations as u64,
-    );
-    store_three(answer, 3, r.threads as u64, r.labels as u64, r.cells as u64);
+        r.threads as u64,
+        r.labels as u64,
+        r.cells as u64,
+    ];
+    store(&numbers, answer);
 }
 
 // The two numbers of a translation.
-fn store_write(answer: &mut [u64], r: WriteAnswer)
+fn store_write(r: WriteAnswer, answer: &mut [u64])
     ensures { answer.new ≡ stored 0 (write_numbers r) answer.old }
 {
-    store(answer, 0, r.number as u64);
-    store(answer, 1, r.length as u64);
+    store(&[u64::from(r.number), r.length as u64], answer);
 }
 
 // The six numbers of a run.
-fn store_run(answer: &mut [u64], r: RunAnswer)
+fn store_run(r: RunAnswer, answer: &mut [u64])
     ensures { answer.new ≡ stored 0 (run_numbers r) answer.old }
 {
-    store_three(answer, 0, r.number as u64, r.end as u64, r.steps);
-    store_three(answer, 3, r.unused as u64, r.events, r.reason as u64);
+    let numbers = [
+        u64::from(r.number),
+        u64::from(r.end),
+        r.steps,
+        r.unused as u64,
+        r.events,
+        u64::from(r.reason),
+    ];
+    store(&numbers, answer);
 }
 
-// The counts of an allotment, from place 3 on.
-fn store_counts(answer: &mut [u64], r: BenchAnswer)
-    ensures { answer.new ≡ stored 3 r.counts answer.old }
-{
-    let mut i = 0;
-    while i < COUNTS {
-        store(answer, i + 3, r.counts[i] as u64);
-        i += 1;
-    }
-}
-
-// The 22 numbers of the bench.
-fn store_bench(answer: &mut [u64], r: BenchAnswer)
+// The 22 numbers of the bench, the counts from place 3 on.
+fn store_bench(r: BenchAnswer, answer: &mut [u64])
     ensures { answer.new ≡ stored 0 (bench_numbers r) answer.old }
 {
-    store_three(answer, 0, r.number as u64, r.found as u64, r.allotment);
-    store_counts(answer, r);
+    store(
+        &[u64::from(r.number), u64::from(r.found), r.allotment],
+        answer,
+    );
+    let first = answer.len().min(3);
+    store(&r.counts.map(u64::from), &mut answer[first..]);
 }
 
 // The three numbers of a label's prices.
-fn store_prices(answer: &mut [u64], r: PricesAnswer)
+fn store_prices(r: PricesAnswer, answer: &mut [u64])
     ensures { answer.new ≡ stored 0 (prices_numbers r) answer.old }
 {
-    store_three(answer, 0, r.refusal as u64, r.least, r.most);
+    store(&[u64::from(r.refusal), r.least, r.most], answer);
 }
 
 // The three numbers of the mender.
-fn store_mend(answer: &mut [u64], r: MendAnswer)
+fn store_mend(r: MendAnswer, answer: &mut [u64])
     ensures { answer.new ≡ stored 0 (mend_numbers r) answer.old }
 {
-    store_three(
-        answer,
-        0,
-        r.refusal as u64,
-        r.mended as u64,
-        r.changes as u64,
-    );
+    let numbers = [u64::from(r.refusal), u64::from(r.mended), r.changes as u64];
+    store(&numbers, answer);
 }
 
 // Reads a concurrent table.
 pub fn zaru_read_concurrent(table: &[u8], answer: &mut [u64])
     ensures { answer.new ≡ stored 0 (read_numbers (read_call concurrent table.now)) answer.old }
 {
-    store_read(answer, reader::read_concurrent(table));
+    store_read(reader::read_concurrent(table), answer);
 }
 
 // Reads a sequential table.
 pub fn zaru_read_sequential(table: &[u8], answer: &mut [u64])
     ensures { answer.new ≡ stored 0 (read_numbers (read_call sequential table.now)) answer.old }
 {
-    store_read(answer, reader::read_sequential(table));
+    store_read(reader::read_sequential(table), answer);
 }
 
 // Translates a concurrent table: in mode 0 each procedure's locals have cells of their own, in any other those of different call paths share them.
@@ -134,7 +115,7 @@ pub fn zaru_translate(table: &[u8], mode: u64, out: &mut [u8], answer: &mut [u64
         (mode_numbered mode) table.now out.entry.now) answer.old) }
 {
     let r = translator::translate(table, translator::mode_numbered(mode), out);
-    store_write(answer, r);
+    store_write(r, answer);
 }
 
 // Prints a sequential table as C text.
@@ -143,7 +124,7 @@ pub fn zaru_c_text(table: &[u8], out: &mut [u8], answer: &mut [u64])
         table.now out.entry.now) answer.old) }
 {
     let r = printer::print(table, out);
-    store_write(answer, r);
+    store_write(r, answer);
 }
 
 // Reads such a text.
@@ -152,7 +133,7 @@ pub fn zaru_from_c_text(text: &[u8], out: &mut [u8], answer: &mut [u64])
         text.now out.entry.now) answer.old) }
 {
     let r = fromtext::read_text(text, out);
-    store_write(answer, r);
+    store_write(r, answer);
 }
 
 // Runs a concurrent table.
@@ -168,7 +149,7 @@ pub fn zaru_run_concurrent(
         answer.old) }
 {
     let r = machines::run_concurrent(table, schedule, cells, events);
-    store_run(answer, r);
+    store_run(r, answer);
 }
 
 // Runs a concurrent table as the report has it, without labels.
@@ -184,7 +165,7 @@ pub fn zaru_run_plain(
         answer.old) }
 {
     let r = machines::run_plain(table, schedule, cells, events);
-    store_run(answer, r);
+    store_run(r, answer);
 }
 
 // Runs a sequential table.
@@ -202,7 +183,7 @@ pub fn zaru_run_sequential(
         answer.old) }
 {
     let r = machines::run_sequential(table, schedule, budget, h, cells, events);
-    store_run(answer, r);
+    store_run(r, answer);
 }
 
 // Tries a concurrent table's round-robin orders.
@@ -211,14 +192,14 @@ pub fn zaru_bench(table: &[u8], rounds: u64, most: u64, cells: &mut [u8], answer
         (benched (bench_call table.now rounds most cells.entry.now) answer.old) }
 {
     let r = bench::bench(table, rounds, most, cells);
-    store_bench(answer, r);
+    store_bench(r, answer);
 }
 
 // What the step at a label of a concurrent table costs.
 pub fn zaru_prices(table: &[u8], label: u64, answer: &mut [u64])
     ensures { answer.new ≡ stored 0 (prices_numbers (prices_call table.now label)) answer.old }
 {
-    store_prices(answer, prices::prices(table, label));
+    store_prices(prices::prices(table, label), answer);
 }
 
 // Mends a table of the kind wanted whose trailer is lost: 0 concurrent, any other number sequential.
@@ -227,5 +208,5 @@ pub fn zaru_mend(table: &mut [u8], kind: u64, list: &mut [u8], answer: &mut [u64
         (mended (mend_call (kind_numbered kind) table.entry.now list.old) answer.old) }
 {
     let r = mender::mend(table, mender::kind_numbered(kind), list);
-    store_mend(answer, r);
+    store_mend(r, answer);
 }

@@ -4,15 +4,11 @@ use native.Mathlib.Omega.{arith}
 use mathlib.Core.Path.{◌≡◌, refl, sym, ap, ◌∙◌}
 use mathlib.Core.List.{List, [], ◌∷◌}
 use mathlib.Core.Bool.{Bool, true, false}
-use lib.ListN.{length, get_or, set, length-set, length-replicate}
-use lib.Seq.{get_or-set_same, get_or-set_other}
-use lib.Dec.{eqb}
-use borrow.Author.Tests.{eqb-true, eqb-false}
+use lib.ListN.{length, get_or, length-replicate}
 use Rattle.value.specs.Maybe.{is, nothing}
 use Rattle.value.specs.Lists.{at}
 use Rattle.basics.specs.Places.{number_at}
 use Rattle.value.proofs.Laws.Maybes.{is_inj, missing}
-use Rattle.value.proofs.Laws.Tests.{by_test, never}
 use Rattle.value.proofs.Laws.Lists.{at_below, at_get_d}
 use Rattle.format.specs.Syntax.{Proc, Program, Plain, concurrent}
 use Rattle.format.specs.Labels.{count, labels, labelled, first, ends_of, body_of}
@@ -22,45 +18,13 @@ use Rattle.format.proofs.Laws.Sound.{Sound}
 use Rattle.labels.specs.Laws.Spots.{remains_body}
 use Rattle.semantics.specs.Step.{Stack, entered}
 use Rattle.semantics.specs.Threads as P
-use Rattle.basics.specs.Sizes.{bound_words}
 use Rattle.engine.specs.Work.{frame_words, thread_words}
-use Rattle.atomic.specs.Threaded.{thread_frames, most_threads, FrameAt, Threaded, all_frames}
-use Rattle.concurrent.specs.Concurrent.{AllDone, MainsAt, Begins}
+use Rattle.atomic.specs.Threaded.{thread_frames, FrameAt, Threaded}
+use Rattle.concurrent.specs.Concurrent.{AllDone, Begins}
 use Rattle.atomic.specs.Laws.Threading.{few_locals_lem}
 use Rattle.engine.specs.Laws.Work.{beside_same, framed_none, framed_entered}
 
 -- ---- all threads are finished
-
--- the first i threads, of n, have no frame
-pub record NoneOf (depths : List ℕ) (n i : ℕ) : Type 0 where
-  pub none : (k : ℕ) → k < i → get_or depths k 0 ≡ 0
-  pub most : i ≤ n
-
-module _ {depths : List ℕ} {n : ℕ} where
-  -- the loop begins
-  pub none_yet : NoneOf depths n 0
-  none_yet = record { none = λ k l. absurd (omega arith); most = omega arith }
-
-  module _ {i : ℕ} where
-    -- nor has this one
-    pub none_more : NoneOf depths n i → i < n → get_or depths i 0 ≡ 0 → NoneOf depths n (i + 1)
-    none_more h l e = record {
-      none = λ k m. by_test (eqb k i)
-          (λ q. let same : k ≡ i = eqb-true k i q in rw same e)
-          (λ q. let other = eqb-false k i q in h.none k (omega arith));
-      most = omega arith;
-    }
-
-    -- this one has
-    pub one_has : i < n → (get_or depths i 0 ≡ 0 → ⊥) → AllDone depths n false
-    one_has l e = record { every = λ q. absurd (never q); some = λ q. (i, l, e) }
-
-    -- none has
-    pub none_at_all : NoneOf depths n i → n ≤ i → AllDone depths n true
-    none_at_all h l = record { every = λ q k m. h.none k (omega arith); some = λ q. absurd (never (sym q)) }
-
--- one law for each way
-pub ruleset finished_ways = (none_yet, none_more, one_has, none_at_all)
 
 -- no stack has a frame
 done_all : (ts : List (Stack ℕ)) → ((i : ℕ) (s : Stack ℕ) → at ts i ≡ is s → length s ≡ 0) → P.done ts ≡ true
@@ -84,45 +48,6 @@ done_of {ts = ts} false h e d =
     let there : w.0 < length ts = omega (arith, w.1, h.count) in
     let found = at_get_d ts w.0 [] there in
     done_not ts w.0 (get_or ts w.0 []) found (λ q. w.2 ((h.each w.0 (get_or ts w.0 []) found).depth ∙ q))
-
--- ---- the first frames, thread by thread
-
-module _ {t : List ℕ} {i : ℕ} {bounds : List ℕ} where
-  -- the loop begins
-  pub begins_none : {labels depths : List ℕ} → length labels ≡ all_frames → length depths ≡ most_threads
-      → Begins t i 0 bounds labels depths
-  begins_none e f = record { labels_long = e; depths_long = f; label = λ k l. absurd (omega arith); depth = λ k l. absurd (omega arith) }
-
-  module _ {labels depths : List ℕ} {n : ℕ} (h : Begins t i n bounds labels depths) where
-    -- one more
-    pub begins_more : {N m : ℕ} → MainsAt t i N → n < N → m ≡ number_at 2 t (i + 2 * n)
-        → Begins t i (n + 1) bounds (set labels (thread_frames * n) (get_or bounds (2 * m) 0)) (set depths n 1)
-    begins_more {m = m} M l e = record {
-      labels_long = length-set labels (thread_frames * n) (get_or bounds (2 * m) 0) ∙ h.labels_long;
-      depths_long = length-set depths n 1 ∙ h.depths_long;
-      label = λ k q. by_test (eqb k n)
-          (λ z.
-          let same : k ≡ n = eqb-true k n z in
-          rw (same, ← e) (get_or-set_same labels (thread_frames * n) (get_or bounds (2 * m) 0) 0 (omega (arith, h.labels_long, M.few))))
-          (λ z.
-          let other = eqb-false k n z in
-          let apart : thread_frames * k ≡ thread_frames * n → ⊥ = λ w. other (omega arith) in
-          get_or-set_other labels (thread_frames * n) (thread_frames * k) (get_or bounds (2 * m) 0) 0 apart ∙ h.label k (omega arith));
-      depth = λ k q. by_test (eqb k n)
-          (λ z. let same : k ≡ n = eqb-true k n z in rw same (get_or-set_same depths n 1 0 (omega (arith, h.depths_long, M.few))))
-          (λ z. let other = eqb-false k n z in get_or-set_other depths n k 1 0 other ∙ h.depth k (omega arith));
-    }
-
-    -- its main is a procedure
-    pub begins_main : {N m : ℕ} → MainsAt t i N → n < N → m ≡ number_at 2 t (i + 2 * n) → 2 * m < bound_words
-    begins_main M l e = omega (arith, M.below n l)
-
-    -- all
-    pub begins_all : {N : ℕ} → n ≤ N → N ≤ n → Begins t i N bounds labels depths
-    begins_all {N} l m = let same : n ≡ N = omega arith in rw (← same) h
-
--- one law for each way
-pub ruleset begin_ways = (begins_none, begins_more, begins_main, begins_all)
 
 -- ---- the first stacks
 

@@ -1,19 +1,21 @@
 -- The call of the concurrent machine: from an accepted table to the run, and from the run to the answer.
-use Prim.Native.Nat.{ℕ, suc, ◌+◌, ◌*◌, ◌-◌, ◌^◌, ◌≤◌, ◌<◌}
+use Prim.Native.Nat.{ℕ, zero, suc, ◌+◌, ◌*◌, ◌-◌, ◌^◌, ◌≤◌, ◌<◌}
 use native.Mathlib.Omega.{arith}
 use mathlib.Core.Path.{◌≡◌, refl, sym, ap, subst, ◌∙◌}
-use mathlib.Core.List.{List, ◌++◌}
+use mathlib.Core.List.{List, [], ◌∷◌, ◌++◌}
 use mathlib.Core.Bool.{Bool, true, false}
-use lib.ListN.{length, get_or, drop, replicate, length-replicate, get_or-replicate, get_or-eq_default}
-use lib.Seq.{drop-length, drop-cons}
+use lib.ListN.{length, get_or, replicate, length-replicate, get_or-replicate, get_or-eq_default}
 use lib.Dec.{ltb, leb}
 use borrow.Author.Tests.{ltb-true, ltb-false, lt-ltb, le-ltb, le-leb, lt-leb, leb-true}
 use Rattle.value.specs.Maybe.{is, both}
 use Rattle.value.specs.Lists.{at, all, sum, over}
 use Rattle.value.specs.Values.{bytes, cell_size}
+use Rattle.basics.specs.declared.refusals.Refusal.{Refusal}
+use Rattle.basics.specs.declared.refusals.Refusal.TheVariants as R
+use Rattle.basics.specs.Refusals.{refusal_number}
 use Rattle.basics.specs.Places.{number_at}
-use Rattle.value.proofs.Laws.Tests.{by_test, both_passed}
-use Rattle.value.proofs.Laws.Lists.{Each, each_so, each_at, at_below, at_get_d, all_passed}
+use Rattle.value.proofs.Laws.Tests.{by_test}
+use Rattle.value.proofs.Laws.Lists.{Each, each_so, at_below, at_get_d}
 use Rattle.value.proofs.Laws.Bytes.{Bytes}
 use Rattle.basics.specs.Laws.Places.{number_at_lem}
 use Rattle.format.specs.Syntax.{Program, Plain, concurrent}
@@ -38,9 +40,11 @@ use Rattle.concurrent.specs.declared.machine.Ran.{Ran}
 use Rattle.semantics.specs.Memory.{Memory}
 use Rattle.semantics.specs.Threads as P
 use Rattle.semantics.specs.Buffers.{cells}
-use Rattle.semantics.specs.Calls.{Outcome, refusal, untouched, max_entries, scheduled, roomy, run_as, concurrent_outcome, result}
+use Rattle.engine.specs.Ends.{end_of}
+use Rattle.semantics.specs.Calls.{end_number, reason_of, Outcome, refusal, untouched, max_entries, scheduled, roomy, run_as, concurrent_outcome, result}
 use Rattle.engine.specs.Work.{frame_words, thread_words, program_words, flat, Bases, sizes_at, Starts, Writes}
 use Rattle.atomic.specs.Threaded.{thread_frames}
+pub use Rattle.atomic.proofs.Carrying.{handed_on}
 use Rattle.concurrent.specs.Concurrent.{scheduled_below, SaysScheduled, Entries, MainsAt, Begins, Starting, RanAs, Runs, Accepted, Outcomes}
 use Rattle.engine.specs.Laws.Holding.{length_flat, holds_fresh}
 use Rattle.engine.specs.Laws.Starting.{sizes_stand}
@@ -156,7 +160,7 @@ run_taken q R = (R.ran q).taken
 outcome_of : {p : Program Plain} {c : ℕ} {ts cs es ms os es' : List ℕ} {r : Ran} → c ≡ sum p.sizes → cell_size * c ≤ length cs
     → RanAs p ts es ms es' r → Writes ms c cs os
     → ◌≡◌ {A = Outcome} (record {
-      answer = record { number = 0; end = r.end; steps = r.taken; unused = length ts - r.taken; events = r.events; reason = r.reason };
+      answer = record { number = 0; end = end_number (end_of r.end); steps = r.taken; unused = length ts - r.taken; events = r.events; reason = reason_of (end_of r.end) };
       cells = os;
       events = es';
     }) (concurrent_outcome ts cs es p)
@@ -164,77 +168,66 @@ outcome_of {p} {c} {ts} {cs} {es} {os = os} {es'} {r} size room z W =
     let η : Memory = z.state.memory in
     let all : c ≡ length (flat η) = size ∙ ap sum (sym z.sizes) ∙ sym (length_flat η) in
     let wrote : os ≡ over (cells η) cs = W.written η z.memory all room in
-    rw (z.end, z.reason, z.events.count, wrote, z.events.bytes)
+    rw (z.end, z.events.count, wrote, z.events.bytes)
     (sym (ap (λ (ran : P.Ran). result ran.how ran.steps ran.unused ran.state.memory ran.events cs es) z.same))
 
 -- of the whole call
-pub run_outcome : {t : List ℕ} {P M T c n l : ℕ} {ts map bounds ss labels depths cs es ms os es' : List ℕ} {r : Ran}
+pub run_outcome : {t : List ℕ} {P M T c n l : ℕ} {ts map bounds ss labels depths cs es ms os es' : List ℕ} {r : Ran} {u v : ℕ}
     → MapsLabels t P map bounds l → Starts (sizes_at t (length t - trailer_size - 2 * T - 2 * M) M) ss n
     → Begins t (length t - trailer_size - 2 * T) T bounds labels depths
-    → Runs t T ts map bounds ss labels depths (replicate thread_words 0) (replicate program_words (2 ^ 32)) es ms es' r → Writes ms c cs os
-    → Outcomes t P M T c ts cs es (record { number = 0; end = r.end; steps = r.taken; unused = length ts - r.taken; events = r.events; reason = r.reason }) os es'
+    → Runs t T ts map bounds ss labels depths (replicate thread_words 0) (replicate program_words (2 ^ 32)) es ms es' r
+    → Writes ms c cs os → u ≡ end_number (end_of r.end) → v ≡ reason_of (end_of r.end)
+    → Outcomes t P M T c ts cs es (record { number = 0; end = u; steps = r.taken; unused = length ts - r.taken; events = r.events; reason = v }) os es'
 unfolding accepted_starting
-run_outcome W S B R O = record { same = λ a e room. outcome_of a.cells room (R.ran (accepted_starting a e W S B)) O }
+run_outcome W S B R O u v = rw (u, v) (record { same = λ a e room. outcome_of a.cells room (R.ran (accepted_starting a e W S B)) O })
 
 -- ---- the schedule
 
--- what is left of the schedule is asked, from entry i on
-pub record Asking (n : ℕ) (ts : List ℕ) (i : ℕ) : Type 0 where
-  pub few : length ts ≤ max_entries
-  pub left : all (λ t. ltb t n) ts ≡ all (λ t. ltb t n) (drop i ts)
-  pub low : i ≤ length ts
+-- all entries are below n
+all_below : (n : ℕ) (ts : List ℕ) → ((k : ℕ) → k < length ts → get_or ts k 0 < n) → all (λ t. ltb t n) ts ≡ true
+all_below n [] h = refl
+all_below n (t ∷ ts) h = rw (lt-ltb t n (h 0 (omega arith))) (all_below n ts (λ k l. h (suc k) (omega arith)))
 
-module _ {n : ℕ} {ts : List ℕ} where
-  -- too many entries
-  pub schedule_long : max_entries < length ts → SaysScheduled n ts false
-  schedule_long h = record { same = rw (lt-leb (length ts) max_entries h) }
+-- one is not
+all_not : (n : ℕ) (ts : List ℕ) (k : ℕ) → k < length ts → n ≤ get_or ts k 0 → all (λ t. ltb t n) ts ≡ false
+all_not n [] k l h = absurd (omega arith)
+all_not n (t ∷ ts) zero l h = rw (le-ltb t n h)
+all_not n (t ∷ ts) (suc k) l h = rw (all_not n ts k (omega arith) h) (none (ltb t n))
+  where
+    none : (b : Bool) → both b false ≡ false
+    none true = refl
+    none false = refl
 
-  -- the loop begins
-  pub asking_none : length ts ≤ max_entries → Asking n ts 0
-  asking_none h = record { few = h; left = refl; low = omega arith }
-
-  module _ {i : ℕ} (A : Asking n ts i) where
-    -- what the tests of all come to
-    tested : {b : Bool} → all (λ t. ltb t n) (drop i ts) ≡ b → scheduled_below n ts ≡ b
-    tested e = rw (le-leb (length ts) max_entries A.few) (A.left ∙ e)
-
-    -- this entry is asked first
-    asked : i < length ts → all (λ t. ltb t n) (drop i ts) ≡ both (ltb (get_or ts i 0) n) (all (λ t. ltb t n) (drop (suc i) ts))
-    asked l = ap (all (λ t. ltb t n)) (drop-cons ts i 0 l)
-
-    -- it is not below the number of threads
-    pub asking_not : i < length ts → n ≤ get_or ts i 0 → SaysScheduled n ts false
-    asking_not l h = record { same = sym (tested (asked l ∙ rw (le-ltb (get_or ts i 0) n h))) }
-
-    -- it is
-    pub asking_more : i < length ts → get_or ts i 0 < n → Asking n ts (i + 1)
-    asking_more l h =
-        let one : suc i ≡ i + 1 = omega arith in
-        record {
-          few = A.few;
-          left = A.left ∙ asked l ∙ rw (lt-ltb (get_or ts i 0) n h) (ap (λ j. all (λ t. ltb t n) (drop j ts)) one);
-          low = omega arith;
-        }
-
-    -- all are
-    pub asking_all : length ts ≤ i → SaysScheduled n ts true
-    asking_all h =
-        let end : i ≡ length ts = omega (arith, A.low) in
-        record { same = sym (tested (rw (end, drop-length))) }
-
--- one law for each way
-pub ruleset schedule_ways = (schedule_long, asking_none, asking_not, asking_more, asking_all)
-
--- a schedule that may be run, entry by entry
-entries_of : (n : ℕ) (ts : List ℕ) → scheduled_below n ts ≡ true → Entries n ts
-entries_of n ts e =
-    let two = both_passed (leb (length ts) max_entries) (all (λ t. ltb t n) ts) e in
-    record {
-      few = leb-true (length ts) max_entries two.0;
-      below = λ k l. ltb-true (get_or ts k 0) n (each_at (λ t. ltb t n ≡ true) ts k (all_passed (λ t. ltb t n) ts two.1) (at_get_d ts k 0 l));
-    }
+-- as the code says
+pub says_scheduled : (n : ℕ) (ts : List ℕ) (b : Bool) → SaysScheduled n ts b → scheduled_below n ts ≡ b
+says_scheduled n ts true h =
+    rw (le-leb (length ts) max_entries (h.every refl).few) (all_below n ts (h.every refl).below)
+says_scheduled n ts false h = by_test (leb (length ts) max_entries)
+    (λ e.
+    let w = h.some refl (leb-true (length ts) max_entries e) in
+    rw e (all_not n ts w.0 w.1 w.2))
+    (λ e. rw e)
 
 -- ---- the reader's answer
+
+-- a refusal has a number
+pub numbered : (why : Refusal) → refusal_number why ≡ 0 → ⊥
+numbered R.Trailer e = omega arith
+numbered R.Counts e = omega arith
+numbered R.Records e = omega arith
+numbered R.Bodies e = omega arith
+numbered R.Names e = omega arith
+numbered R.Labels e = omega arith
+numbered R.Cycle e = omega arith
+numbered R.Unset e = omega arith
+numbered R.TooLong e = omega arith
+numbered R.NoRoom e = omega arith
+numbered R.Schedule e = omega arith
+numbered R.NoCells e = omega arith
+numbered R.Allotments e = omega arith
+numbered R.NoChoice e = omega arith
+numbered R.Choices e = omega arith
+numbered R.NotOurs e = omega arith
 
 module _ (t : List ℕ) (h : Bytes t) {r : ReadAnswer} (q : r ≡ read_call concurrent t) where
   -- a refusal has a number
@@ -303,7 +296,7 @@ module _ (t : List ℕ) (h : Bytes t) (ts cs es : List ℕ) (go : Program Plain 
   module _ {r : ReadAnswer} {b : Bool} (q : r ≡ read_call concurrent t) (z : r.number ≡ 0) (s : SaysScheduled r.threads ts b) where
     -- the schedule, by the number of mains
     asked_of : (A : Accepted t r.procedures r.locations r.threads r.cells) → scheduled concurrent A.program ts ≡ b
-    asked_of A = ap (λ n. scheduled_below n ts) (sym A.threads) ∙ sym s.same
+    asked_of A = ap (λ n. scheduled_below n ts) (sym A.threads) ∙ says_scheduled r.threads ts b s
 
     -- 11: "schedule over 4,096 entries, or (concurrent) an entry not below T"
     pub call_unscheduled : {a : RunAnswer} → b ≡ false → a ≡ refusal 11 → left a cs es ≡ call
@@ -314,7 +307,7 @@ module _ (t : List ℕ) (h : Bytes t) (ts cs es : List ℕ) (go : Program Plain 
     module _ (k : b ≡ true) where
       -- the entries of the schedule
       pub call_entries : Entries r.threads ts
-      call_entries = entries_of r.threads ts (sym s.same ∙ k)
+      call_entries = s.every k
 
       -- 12: "cell buffer shorter than 5 bytes a cell"
       pub call_short : {a : RunAnswer} → length cs < cell_size * r.cells → a ≡ refusal 12 → left a cs es ≡ call

@@ -14,7 +14,5 @@ pub mod TurningAtomic
 pub mod TurningAsked
 -- one step of a frame's code, way by way
 pub mod Turning
--- where a thread goes on after a turn, way by way
-pub mod Moving
 -- one step of a thread
 pub mod Stepping

@@ -6,6 +6,7 @@ use mathlib.Core.List.{List, [], ◌∷◌, ◌++◌, append-nil, map}
 use mathlib.Core.Bool.{Bool, true, false}
 use lib.ListN.{length, get_or, set, replicate, length-append, length-map, length-replicate}
 use Rattle.value.specs.Maybe.{is, nothing}
+use Rattle.std.specs.Prelude.{Result, Ok, Err}
 use Rattle.value.specs.Try.{has, lacks}
 use Rattle.value.specs.declared.Reason.{Reason}
 use Rattle.value.specs.declared.Reason.TheVariants.{FinishedThread}
@@ -19,8 +20,6 @@ use Rattle.format.specs.Rules.{max_labels}
 use Rattle.labels.specs.Laws.Spots.{Remains, remains_body, remains_after}
 use Rattle.concurrent.specs.declared.threads.Turn.{Turn}
 use Rattle.concurrent.specs.declared.threads.Turn.TheVariants as T
-use Rattle.concurrent.specs.declared.threads.Stepped.{Stepped}
-use Rattle.concurrent.specs.declared.threads.Stepped.TheVariants.{Blocked}
 use Rattle.semantics.specs.Memory.{Env, Event}
 use Rattle.semantics.specs.Step.{Frame, Stack, Moved, entered}
 use Rattle.semantics.specs.Threads as P
@@ -32,7 +31,7 @@ use Rattle.atomic.specs.Doing.{Works}
 use Rattle.atomic.specs.Threaded.{thread_frames, FrameAt, Linked, Threaded, all_frames, most_frames, most_threads}
 use Rattle.concurrent.specs.Turning.{Turning, code_of, Turns}
 use Rattle.concurrent.specs.Turning as U
-use Rattle.concurrent.specs.Stepping.{Stepping, Went, Stays, Answers, Steps, test_label, labels_after, depths_after, answer_of, Callee}
+use Rattle.concurrent.specs.Stepping.{Stepping, Went, Stays, Steps, test_label, labels_after, depths_after, events_after, Callee}
 use Rattle.concurrent.specs.Stepping.{Moving, Moves}
 use Rattle.semantics.proofs.Laws.Shapes.{thread_shape}
 use Rattle.atomic.specs.Laws.Standing.{LabelAt, label_at}
@@ -291,13 +290,12 @@ module _ {t map bounds ss : List ℕ} {thread : ℕ} {labels depths ls cs o : Li
 
   -- a procedure that is called is one of 16
   callee_few : (ls' cs' o' : List ℕ) (turn : Turn)
-      → U.Answers t program thread u.frame.proc u.frame.code (hand_of h u) (frame_words * top) ss h.lent n ls' cs' o' turn → Callee turn
+      → U.Answers t program thread u.frame.proc u.frame.code (hand_of h u) (frame_words * top) ss h.lent n ls' cs' o' (Ok turn) → Callee turn
   callee_few ls' cs' o' (T.Next k) A = tt
   callee_few ls' cs' o' (T.Test q) A = tt
   callee_few ls' cs' o' (T.Call q) A =
       omega (arith, at_below (labelled program).procs q A.called.found, length_labels program.procs 1, h.loaded.sound.procs.high)
   callee_few ls' cs' o' T.Return A = tt
-  callee_few ls' cs' o' (T.Blocked why) A = tt
 
   -- where a test leads
   test_label_lem : (q : Bool) → test_label map (4 * get_or labels top 0) q ≡ label_after q (ends_of program u.frame.proc) u.frame.code
@@ -305,20 +303,20 @@ module _ {t map bounds ss : List ℕ} {thread : ℕ} {labels depths ls cs o : Li
   test_label_lem false = u.label.other
 
   -- what a turn's answer is worth
-  answered : {labels' depths' ls' : List ℕ} (cs' o' : List ℕ) {r : Stepped} (turn : Turn)
+  answered : {labels' depths' ls' : List ℕ} (cs' o' : List ℕ) {r : ℕ} (turn : Turn)
       → Beside ls ls' (frame_words * top) (frame_words * top + frame_words + frame_words)
-      → U.Answers t program thread u.frame.proc u.frame.code (hand_of h u) (frame_words * top) ss h.lent n ls' cs' o' turn
-      → Moves turn map bounds thread top labels depths n labels' depths' r → Answers h labels' depths' ls' cs' o' r
+      → U.Answers t program thread u.frame.proc u.frame.code (hand_of h u) (frame_words * top) ss h.lent n ls' cs' o' (Ok turn)
+      → Moves turn map bounds thread top labels depths n labels' depths' r → Went h labels' depths' ls' cs' o' r
   answered {labels'} {depths'} {ls'} cs' o' turn W A M =
-      subst (Answers h labels' depths' ls' cs' o') (sym M.answer) (by turn A M.moved M.deep)
+      subst (Went h labels' depths' ls' cs' o') (sym M.answer) (by turn A M.moved M.deep)
     where
       left : {tag : ℕ} {i : Instr ℕ} {rest : Block ℕ} → u.frame.code ≡ step tag i rest
           → Remains (labelled program).procs u.frame.proc (step tag i rest)
       left e = subst (Remains (labelled program).procs u.frame.proc) e u.here.remains
 
-      by : (turn : Turn) → U.Answers t program thread u.frame.proc u.frame.code (hand_of h u) (frame_words * top) ss h.lent n ls' cs' o' turn
+      by : (turn : Turn) → U.Answers t program thread u.frame.proc u.frame.code (hand_of h u) (frame_words * top) ss h.lent n ls' cs' o' (Ok turn)
           → labels' ≡ labels_after map bounds top labels turn → depths' ≡ depths_after thread depths turn
-          → Answers h labels' depths' ls' cs' o' (answer_of n turn)
+          → Went h labels' depths' ls' cs' o' (events_after n turn)
       by (T.Next k) A L D =
           rw D
           (goes_on W (get_or map (4 * get_or labels top 0 + 2) 0) A.b A.new A.rest (A.code u.below) A.log A.works A.same
@@ -334,13 +332,12 @@ module _ {t map bounds ss : List ℕ} {thread : ℕ} {labels depths ls cs o : Li
       by T.Return A L D =
           let less : get_or depths thread 0 - 1 ≡ length u.below = omega (arith, u.depth) in
           rw L (comes_back W A.code A.works (D ∙ ap (set depths thread) less))
-      by (T.Blocked why) A L D = rw (L, D) (stays W (A.code u.below) A.works)
 
 -- ---- the whole step
 
 module _ {t map bounds ss : List ℕ} {thread : ℕ} {labels depths ls cs o : List ℕ} {n : ℕ} where
   -- a finished thread blocks
-  pub step_still : get_or depths thread 0 ≡ 0 → Steps t map bounds ss thread labels depths ls cs o n labels depths ls cs o (Blocked FinishedThread)
+  pub step_still : get_or depths thread 0 ≡ 0 → Steps t map bounds ss thread labels depths ls cs o n labels depths ls cs o (Err FinishedThread)
   step_still z = record {
     steps = λ h. record {
       blocks = step_finished (labelled h.loaded.program) thread h.state (none h (stacked h).0 (stacked h).1);
@@ -353,26 +350,40 @@ module _ {t map bounds ss : List ℕ} {thread : ℕ} {labels depths ls cs o : Li
       none h [] e = e
       none h (f ∷ s) e = absurd (omega (arith, (h.present.threads.each thread (f ∷ s) e).depth, z))
 
-  module _ {ls' cs' o' : List ℕ} {turn : Turn} (z : get_or depths thread 0 ≡ 0 → ⊥)
+  module _ {ls' cs' o' : List ℕ} {turned : Result Turn Reason} (z : get_or depths thread 0 ≡ 0 → ⊥)
       (T : Turns t thread (get_or labels (top_of thread depths) 0) (frame_words * top_of thread depths) ss (get_or map (4 * get_or labels (top_of thread depths) 0) 0) ls cs o n
-      ls' cs' o' turn) where
+      ls' cs' o' turned) where
     -- the turn of the uppermost frame
-    turned : (h : Stepping t map bounds ss thread labels depths ls cs o n) (u : Uppermost h)
-        → Turns t thread (get_or labels (top h u) 0) (frame_words * top h u) ss (get_or map (4 * get_or labels (top h u) 0) 0) ls cs o n ls' cs' o' turn
-    turned h u = subst (λ k. Turns t thread (get_or labels k 0) (frame_words * k) ss (get_or map (4 * get_or labels k 0) 0) ls cs o n ls' cs' o' turn) u.top T
+    turn_of : (h : Stepping t map bounds ss thread labels depths ls cs o n) (u : Uppermost h)
+        → Turns t thread (get_or labels (top h u) 0) (frame_words * top h u) ss (get_or map (4 * get_or labels (top h u) 0) 0) ls cs o n ls' cs' o' turned
+    turn_of h u = subst (λ k. Turns t thread (get_or labels k 0) (frame_words * k) ss (get_or map (4 * get_or labels k 0) 0) ls cs o n ls' cs' o' turned) u.top T
 
     -- what it answers
     answers : (h : Stepping t map bounds ss thread labels depths ls cs o n) (u : Uppermost h)
-        → U.Answers t h.loaded.program thread u.frame.proc u.frame.code (hand_of h u) (frame_words * top h u) ss h.lent n ls' cs' o' turn
+        → U.Answers t h.loaded.program thread u.frame.proc u.frame.code (hand_of h u) (frame_words * top h u) ss h.lent n ls' cs' o' turned
     unfolding turn_at
-    answers h u = (turned h u).answers (turn_at h u (top h u) refl)
+    answers h u = (turn_of h u).answers (turn_at h u (top h u) refl)
+
+    -- it blocks
+    pub step_blocked : {why : Reason} → turned ≡ Err why → Steps t map bounds ss thread labels depths ls cs o n labels depths ls' cs' o' (Err why)
+    step_blocked {why} e = record {
+      steps = λ h.
+          let u = uppermost h z in
+          let A = subst (U.Answers t h.loaded.program thread u.frame.proc u.frame.code (hand_of h u) (frame_words * top h u) ss h.lent n ls' cs' o') e (answers h u) in
+          stays h u ((turn_of h u).beside (turn_at h u (top h u) refl)) (A.code u.below) A.works;
+    }
+
+    -- the answer of a turn that was made
+    made : {turn : Turn} → turned ≡ Ok turn → (h : Stepping t map bounds ss thread labels depths ls cs o n) (u : Uppermost h)
+        → U.Answers t h.loaded.program thread u.frame.proc u.frame.code (hand_of h u) (frame_words * top h u) ss h.lent n ls' cs' o' (Ok turn)
+    made e h u = subst (U.Answers t h.loaded.program thread u.frame.proc u.frame.code (hand_of h u) (frame_words * top h u) ss h.lent n ls' cs' o') e (answers h u)
 
     -- where it leads is there
-    pub step_moving : Stepping t map bounds ss thread labels depths ls cs o n → Moving turn thread (top_of thread depths) labels depths
-    step_moving h =
+    pub step_moving : {turn : Turn} → turned ≡ Ok turn → Stepping t map bounds ss thread labels depths ls cs o n → Moving turn thread (top_of thread depths) labels depths
+    step_moving {turn} e h =
         let u = uppermost h z in
         record {
-          callee = callee_few h u ls' cs' o' turn (answers h u);
+          callee = callee_few h u ls' cs' o' turn (made e h u);
           label = rw u.top u.label.few;
           there = u.there;
           room = omega (arith, u.top, u.there, u.few);
@@ -383,12 +394,13 @@ module _ {t map bounds ss : List ℕ} {thread : ℕ} {labels depths ls cs o : Li
         }
 
     -- it is made
-    pub step_moves : {labels' depths' : List ℕ} {r : Stepped} → Moves turn map bounds thread (top_of thread depths) labels depths n labels' depths' r
-        → Steps t map bounds ss thread labels depths ls cs o n labels' depths' ls' cs' o' r
-    step_moves {labels'} {depths'} {r} M = record {
+    pub step_moves : {turn : Turn} {labels' depths' : List ℕ} {r : ℕ} → turned ≡ Ok turn
+        → Moves turn map bounds thread (top_of thread depths) labels depths n labels' depths' r
+        → Steps t map bounds ss thread labels depths ls cs o n labels' depths' ls' cs' o' (Ok r)
+    step_moves {turn} {labels'} {depths'} {r} e M = record {
       steps = λ h.
           let u = uppermost h z in
-          answered h u cs' o' turn ((turned h u).beside (turn_at h u (top h u) refl)) (answers h u)
+          answered h u cs' o' turn ((turn_of h u).beside (turn_at h u (top h u) refl)) (made e h u)
           (subst (λ k. Moves turn map bounds thread k labels depths n labels' depths' r) u.top M);
     }
 
@@ -400,5 +412,36 @@ module _ {t map bounds ss : List ℕ} {thread : ℕ} {labels depths ls cs o : Li
     label = rw u.top u.label.few;
   }
 
--- the laws that fit what the code asks as they stand
-pub ruleset step_ways = (step_turning, step_still)
+-- ---- the same of a place i, which is the thread's number
+
+module _ {t map bounds ss : List ℕ} {thread i : ℕ} {labels depths ls cs o : List ℕ} {n : ℕ} (same : i ≡ thread) where
+  -- a finished thread blocks
+  pub place_still : get_or depths i 0 ≡ 0 → Steps t map bounds ss thread labels depths ls cs o n labels depths ls cs o (Err FinishedThread)
+  place_still z = step_still (rw same at z)
+
+  -- numbers on the way
+  pub place_small : Stepping t map bounds ss thread labels depths ls cs o n → (get_or depths i 0 ≡ 0 → ⊥) → Small i labels depths
+  place_small h z = rw same (step_small h (rw same at z))
+
+  -- its uppermost frame takes a turn
+  pub place_turning : Stepping t map bounds ss thread labels depths ls cs o n → (get_or depths i 0 ≡ 0 → ⊥)
+      → Turning t thread (get_or labels (top_of i depths) 0) (frame_words * top_of i depths) ss (get_or map (4 * get_or labels (top_of i depths) 0) 0) ls cs o n
+  place_turning h z = rw same (step_turning h (rw same at z))
+
+  module _ {ls' cs' o' : List ℕ} {turned : Result Turn Reason} (z : get_or depths i 0 ≡ 0 → ⊥)
+      (T : Turns t thread (get_or labels (top_of i depths) 0) (frame_words * top_of i depths) ss (get_or map (4 * get_or labels (top_of i depths) 0) 0) ls cs o n
+      ls' cs' o' turned) where
+    -- it blocks
+    pub place_blocked : {why : Reason} → turned ≡ Err why → Steps t map bounds ss thread labels depths ls cs o n labels depths ls' cs' o' (Err why)
+    place_blocked e = step_blocked (rw same at z) (rw same at T) e
+
+    -- where it leads is there
+    pub place_moving : {turn : Turn} → turned ≡ Ok turn → Stepping t map bounds ss thread labels depths ls cs o n
+        → Moving turn i (top_of i depths) labels depths
+    place_moving e h = rw same (step_moving (rw same at z) (rw same at T) e h)
+
+    -- it is made
+    pub place_moves : {turn : Turn} {labels' depths' : List ℕ} {r : ℕ} → turned ≡ Ok turn
+        → Moves turn map bounds i (top_of i depths) labels depths n labels' depths' r
+        → Steps t map bounds ss thread labels depths ls cs o n labels' depths' ls' cs' o' (Ok r)
+    place_moves e M = step_moves (rw same at z) (rw same at T) e (rw same at M)

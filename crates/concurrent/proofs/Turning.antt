@@ -6,6 +6,7 @@ use mathlib.Core.List.{List, [], ◌∷◌, ◌++◌, append-nil, append_assoc, 
 use mathlib.Core.Bool.{Bool}
 use lib.ListN.{length, get_or, replicate, length-append, replicate-append-replicate, get_or-append}
 use Rattle.value.specs.Maybe.{is, nothing}
+use Rattle.std.specs.Prelude.{Result, Ok, Err}
 use Rattle.value.specs.Try.{Try, has, lacks}
 use Rattle.value.specs.declared.Reason.{Reason}
 use Rattle.value.specs.declared.Value.{Value}
@@ -17,7 +18,6 @@ use Rattle.labels.specs.LabelMap as Map
 use Rattle.decide.specs.declared.step.Step.{Step}
 use Rattle.decide.specs.declared.step.Step.TheVariants as S
 use Rattle.atomic.specs.declared.block.Done.{Done}
-use Rattle.atomic.specs.declared.block.Done.TheVariants.{To, Blocked}
 use Rattle.concurrent.specs.declared.threads.Turn.TheVariants as T
 use Rattle.semantics.specs.Memory.{Env, evals, Memory, Event}
 use Rattle.semantics.specs.Step.{Stack, Moved}
@@ -215,7 +215,7 @@ module _ {t : List ℕ} {thread label fb : ℕ} {bs : List ℕ} {i : ℕ} {ls cs
       }
 
       -- a return
-      pub turns_return : u ≡ S.Return → Turns t thread label fb bs i ls cs o n ls₁ cs o T.Return
+      pub turns_return : u ≡ S.Return → Turns t thread label fb bs i ls cs o n ls₁ cs o (Ok T.Return)
       turns_return e = record {
         beside = λ h. beside_wide (above h) (omega arith) (omega arith);
         answers = λ h. record {
@@ -225,7 +225,7 @@ module _ {t : List ℕ} {thread label fb : ℕ} {bs : List ℕ} {i : ℕ} {ls cs
       }
 
       -- a test
-      pub turns_test : {q : Bool} {k : ℕ} → u ≡ S.Test q k → Turns t thread label fb bs i ls cs o n ls₁ cs o (T.Test q)
+      pub turns_test : {q : Bool} {k : ℕ} → u ≡ S.Test q k → Turns t thread label fb bs i ls cs o n ls₁ cs o (Ok (T.Test q))
       turns_test {q} e = record {
         beside = λ h. beside_wide (above h) (omega arith) (omega arith);
         answers = λ h.
@@ -263,7 +263,7 @@ module _ {t : List ℕ} {thread label fb : ℕ} {bs : List ℕ} {i : ℕ} {ls cs
 
       -- those that are no arguments are not set
       pub turns_call : {q k b : ℕ} {ls₂ : List ℕ} → u ≡ S.Call q k → b ≡ get_or t (i + 3) 0
-          → Clears ls₁ ls₂ (fb + frame_words + b) (fb + frame_words + frame_words) → Turns t thread label fb bs i ls cs o n ls₂ cs o (T.Call q)
+          → Clears ls₁ ls₂ (fb + frame_words + b) (fb + frame_words + frame_words) → Turns t thread label fb bs i ls cs o n ls₂ cs o (Ok (T.Call q))
       unfolding turn_poised
       turns_call {q} {k} {b} {ls₂} e f C = record {
         beside = λ h. beside_wide (beside_again (above h) (cleared h)) (omega arith) (omega arith);
@@ -317,7 +317,7 @@ module _ {t : List ℕ} {thread label fb : ℕ} {bs : List ℕ} {i : ℕ} {ls cs
         few = omega (arith, h.few, turn_inside h);
       }
 
-      module _ {ls' cs' o' : List ℕ} {r : Done} (C : Carries thread label fb u ls₁ cs o n ls' cs' o' r) where
+      module _ {ls' cs' o' : List ℕ} {r : Result Done Reason} (C : Carries thread label fb u ls₁ cs o n ls' cs' o' r) where
         -- how it went
         went : (h : Turning t thread label fb bs i ls cs o n)
             → W.Went fb (end_of u - 1) (end_of u) bs h.es ls₁ n (length h.a.env) ls' cs' o' (carried thread label u h.a) r
@@ -327,7 +327,7 @@ module _ {t : List ℕ} {thread label fb : ℕ} {bs : List ℕ} {i : ℕ} {ls cs
             (step_past h.a.env h.a.memory (asked h y).act (asked h y).j u (omega (arith, (asked h y).past)) (right h))
 
         -- it was carried out
-        pub turns_carried : {j k : ℕ} → r ≡ To j k → Turns t thread label fb bs i ls cs o n ls' cs' o' (T.Next k)
+        pub turns_carried : {d : Done} → r ≡ Ok d → Turns t thread label fb bs i ls cs o n ls' cs' o' (Ok (T.Next d.events))
         turns_carried q = record {
           beside = λ h. beside_again (beside_wide (above h) (omega arith) (omega arith))
               (beside_wide (came q (went h)).worked.beside (omega arith) (omega arith));
@@ -351,7 +351,7 @@ module _ {t : List ℕ} {thread label fb : ℕ} {bs : List ℕ} {i : ℕ} {ls cs
         }
 
         -- it blocks
-        pub turns_blocked : {why : Reason} → Plainly u → r ≡ Blocked why → Turns t thread label fb bs i ls cs o n ls' cs' o' (T.Blocked why)
+        pub turns_blocked : {why : Reason} → Plainly u → r ≡ Err why → Turns t thread label fb bs i ls cs o n ls' cs' o' (Err why)
         turns_blocked k q = record {
           beside = λ h. rw (C.still _ q).0 (beside_wide (above h) (omega arith) (omega arith));
           answers = λ h. record {

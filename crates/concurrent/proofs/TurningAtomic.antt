@@ -5,6 +5,7 @@ use mathlib.Core.Path.{◌≡◌, refl, sym, ap, subst, ◌∙◌}
 use mathlib.Core.List.{List, [], ◌∷◌}
 use mathlib.Core.Bool.{true}
 use lib.ListN.{length, get_or}
+use Rattle.std.specs.Prelude.{Result, Ok, Err}
 use Rattle.value.specs.Try.{Try, has, ◌⟫◌}
 use Rattle.value.specs.declared.Reason.{Reason}
 use Rattle.value.proofs.Laws.Tries.{has_inj, chain_has}
@@ -16,7 +17,6 @@ use Rattle.format.proofs.Laws.Grammar.{BlockAt, AtomicAt, atomic_here, block_ins
 use Rattle.format.proofs.Laws.Procs.{body_in}
 use Rattle.format.specs.Decode.{max_nesting}
 use Rattle.atomic.specs.declared.block.Done.{Done}
-use Rattle.atomic.specs.declared.block.Done.TheVariants.{To, Blocked}
 use Rattle.concurrent.specs.declared.threads.Turn.TheVariants as T
 use Rattle.semantics.specs.Step.{Stack, Moved}
 use Rattle.semantics.specs.Threads.{Atomic, size}
@@ -103,9 +103,9 @@ module _ {t : List ℕ} {thread label fb : ℕ} {bs : List ℕ} {i : ℕ} {ls cs
         (acts (labelled h.p).procs thread b.tag h.m (size b.block) b.block (omega arith) b.allowed h.a.env h.a.memory []
         ∙ ap (λ l. act thread l b.block (bare h.a)) (sym tag))
 
-  module _ {ls' cs' o' : List ℕ} {r : Done} (e : get_or t i 0 ≡ 0x26) (D : DoesWhole t thread label fb bs (i + 1) max_nesting ls cs o n ls' cs' o' r) where
+  module _ {ls' cs' o' : List ℕ} {r : Result Done Reason} (e : get_or t i 0 ≡ 0x26) (D : DoesWhole t thread label fb bs (i + 1) max_nesting ls cs o n ls' cs' o' r) where
     -- it blocks
-    pub turns_stopped : {why : Reason} → r ≡ Blocked why → Turns t thread label fb bs i ls cs o n ls' cs' o' (T.Blocked why)
+    pub turns_stopped : {why : Reason} → r ≡ Err why → Turns t thread label fb bs i ls cs o n ls' cs' o' (Err why)
     unfolding doing_atomic
     turns_stopped q = record {
       beside = λ h. rw (D.still (doing_atomic e h) _ q).0 beside_same;
@@ -122,9 +122,9 @@ module _ {t : List ℕ} {thread label fb : ℕ} {bs : List ℕ} {i : ℕ} {ls cs
     }
 
     -- it is done
-    pub turns_done : {j k : ℕ} → r ≡ To j k → Turns t thread label fb bs i ls cs o n ls' cs' o' (T.Next k)
+    pub turns_done : {d : Done} → r ≡ Ok d → Turns t thread label fb bs i ls cs o n ls' cs' o' (Ok (T.Next d.events))
     unfolding doing_atomic
-    turns_done {j} {k} q = record {
+    turns_done q = record {
       beside = λ h. beside_wide (came q (D.does.does (doing_atomic e h))).worked.beside (omega arith) (omega arith);
       answers = λ h.
           let b = atomic_block h e in

@@ -14,7 +14,9 @@ use Rattle.concurrent.specs.declared.machine.Ran.{Ran}
 use Rattle.semantics.specs.Memory.{fresh, Event}
 use Rattle.semantics.specs.Threads.{End}
 use Rattle.semantics.specs.Threads as P
-use Rattle.semantics.specs.Calls.{end_number, reason_of, max_entries, Outcome, concurrent_run, concurrent_outcome}
+use Rattle.engine.specs.declared.ends.End as E
+use Rattle.engine.specs.Ends.{end_of}
+use Rattle.semantics.specs.Calls.{max_entries, Outcome, concurrent_run, concurrent_outcome}
 use Rattle.engine.specs.Work.{thread_words, Holds}
 use Rattle.engine.specs.Events.{Logged}
 use Rattle.atomic.specs.Threaded.{thread_frames, most_threads, Threaded, all_frames}
@@ -27,14 +29,15 @@ use Rattle.semantics.proofs.Laws.Cells.{shape}
 abbrev pub scheduled_below : ℕ → List ℕ → Bool
 scheduled_below n ts = both (leb (length ts) max_entries) (all (λ t. ltb t n) ts)
 
--- so the code says
-pub record SaysScheduled (n : ℕ) (ts : List ℕ) (r : Bool) : Type 0 where
-  pub same : r ≡ scheduled_below n ts
-
 -- the same, entry by entry
 pub record Entries (n : ℕ) (ts : List ℕ) : Type 0 where
   pub few : length ts ≤ max_entries
   pub below : (k : ℕ) → k < length ts → get_or ts k 0 < n
+
+-- so the code says
+pub record SaysScheduled (n : ℕ) (ts : List ℕ) (r : Bool) : Type 0 where
+  pub every : r ≡ true → Entries n ts
+  pub some : r ≡ false → length ts ≤ max_entries → (k : ℕ) × (k < length ts) × (n ≤ get_or ts k 0)
 
 -- ---- the threads
 
@@ -59,8 +62,8 @@ pub record Begins (t : List ℕ) (i n : ℕ) (bounds labels depths : List ℕ) :
 -- ---- the run
 
 -- what a run came to
-abbrev pub ran_with : ℕ → ℕ → ℕ → ℕ → Ran
-ran_with how reason taken events = record { end = how; reason = reason; taken = taken; events = events }
+abbrev pub ran_with : E.End → ℕ → ℕ → Ran
+ran_with how taken events = record { end = how; taken = taken; events = events }
 
 -- a table of n threads and a schedule of them; the stacks and the words of the locals and of the cells before the first step
 pub record Starting (t : List ℕ) (n : ℕ) (ts map bounds ss labels depths ls cs : List ℕ) : Type 0 where
@@ -77,8 +80,7 @@ pub record RanAs (p : Program Plain) (ts lent cs es : List ℕ) (r : Ran) : Type
   pub state : P.State
   pub so_far : List Event
   pub same : concurrent_run p ts ≡ record { how = how; steps = r.taken; unused = length ts - r.taken; state = state; events = so_far }
-  pub end : r.end ≡ end_number how
-  pub reason : r.reason ≡ reason_of how
+  pub end : end_of r.end ≡ how
   pub memory : Holds state.memory cs
   pub sizes : shape state.memory ≡ p.sizes
   pub taken : r.taken ≤ length ts

@@ -1,5 +1,5 @@
 -- What the code for a step of a thread is asked and answers: the thread's stack, memory and events at work.
-use Rattle.std.specs.Prelude.{ℕ, ◌+◌, ◌*◌, ◌-◌, ◌^◌, ◌≤◌, ◌<◌, ◌≡◌, List, ◌++◌, Bool, true, false, length, get_or, set}
+use Rattle.std.specs.Prelude.{ℕ, ◌+◌, ◌*◌, ◌-◌, ◌^◌, ◌≤◌, ◌<◌, ◌≡◌, List, ◌++◌, Bool, true, false, length, get_or, set, Result, Ok, Err}
 use Rattle.value.specs.Try.{has, lacks}
 use Rattle.value.specs.declared.Reason.{Reason}
 use Rattle.format.specs.Syntax.{Program, Plain, concurrent}
@@ -8,8 +8,6 @@ use Rattle.format.specs.Labels.{labelled}
 use Rattle.labels.specs.LabelMap.{Mapped}
 use Rattle.format.proofs.Laws.Sound.{Sound}
 use Rattle.format.specs.Rules.{limits, max_labels}
-use Rattle.concurrent.specs.declared.threads.Stepped.{Stepped}
-use Rattle.concurrent.specs.declared.threads.Stepped.TheVariants.{To, Blocked}
 use Rattle.concurrent.specs.declared.threads.Turn.{Turn}
 use Rattle.concurrent.specs.declared.threads.Turn.TheVariants as T
 use Rattle.semantics.specs.Memory.{Event}
@@ -67,13 +65,13 @@ module _ {t map bounds ss : List ℕ} {thread : ℕ} {labels depths ls cs o : Li
     pub present : Present h.loaded.program h.lent labels' depths' ls' cs' o' n h.state h.so_far
 
   -- what is so of each answer
-  abbrev pub Answers : Stepped → Type 0
-  Answers (To k) = Went k
-  Answers (Blocked why) = Stays why
+  abbrev pub Answers : Result ℕ Reason → Type 0
+  Answers (Ok k) = Went k
+  Answers (Err why) = Stays why
 
 -- whatever run it is
 pub record Steps (t map bounds ss : List ℕ) (thread : ℕ) (labels depths ls cs o : List ℕ) (n : ℕ)
-    (labels' depths' ls' cs' o' : List ℕ) (r : Stepped) : Type 0 where
+    (labels' depths' ls' cs' o' : List ℕ) (r : Result ℕ Reason) : Type 0 where
   pub steps : (h : Stepping t map bounds ss thread labels depths ls cs o n) → Answers h labels' depths' ls' cs' o' r
 
 -- ---- after a turn of its uppermost frame
@@ -94,7 +92,6 @@ module _ (map bounds : List ℕ) (top : ℕ) (labels : List ℕ) where
   labels_after (T.Test q) = set labels top (test_label map row q)
   labels_after (T.Call m) = set (set labels top (get_or map (row + 2) 0)) (top + 1) (get_or bounds (2 * m) 0)
   labels_after T.Return = labels
-  labels_after (T.Blocked why) = labels
 
 -- the depths then: a call has one frame more, a return one less
 abbrev pub depths_after : ℕ → List ℕ → Turn → List ℕ
@@ -102,15 +99,13 @@ depths_after thread depths (T.Next k) = depths
 depths_after thread depths (T.Test q) = depths
 depths_after thread depths (T.Call m) = set depths thread (get_or depths thread 0 + 1)
 depths_after thread depths T.Return = set depths thread (get_or depths thread 0 - 1)
-depths_after thread depths (T.Blocked why) = depths
 
--- whether a step was made, and how many events there are then, where there were n
-abbrev pub answer_of : ℕ → Turn → Stepped
-answer_of n (T.Next k) = To k
-answer_of n (T.Test q) = To n
-answer_of n (T.Call m) = To n
-answer_of n T.Return = To n
-answer_of n (T.Blocked why) = Blocked why
+-- how many events there are then, where there were n
+abbrev pub events_after : ℕ → Turn → ℕ
+events_after n (T.Next k) = k
+events_after n (T.Test q) = n
+events_after n (T.Call m) = n
+events_after n T.Return = n
 
 -- "P not 1..16": the procedure that is called is one of these
 abbrev pub Callee : Turn → Type 0
@@ -118,7 +113,6 @@ Callee (T.Next k) = Unit {0}
 Callee (T.Test q) = Unit {0}
 Callee (T.Call m) = m < (limits concurrent).procs
 Callee T.Return = Unit {0}
-Callee (T.Blocked why) = Unit {0}
 
 -- all that the turn leads to is there
 pub record Moving (turn : Turn) (thread top : ℕ) (labels depths : List ℕ) : Type 0 where
@@ -133,7 +127,7 @@ pub record Moving (turn : Turn) (thread top : ℕ) (labels depths : List ℕ) : 
 
 -- the thread goes on there
 pub record Moves (turn : Turn) (map bounds : List ℕ) (thread top : ℕ) (labels depths : List ℕ) (n : ℕ) (labels' depths' : List ℕ)
-    (r : Stepped) : Type 0 where
+    (r : ℕ) : Type 0 where
   pub moved : labels' ≡ labels_after map bounds top labels turn
   pub deep : depths' ≡ depths_after thread depths turn
-  pub answer : r ≡ answer_of n turn
+  pub answer : r ≡ events_after n turn

@@ -1,6 +1,6 @@
 -- What the code for one step of a frame is asked and answers: the code that stands at a place of a table, over a frame of locals, the
 -- words of memory and a buffer of events.
-use Rattle.std.specs.Prelude.{ℕ, ◌+◌, ◌^◌, ◌≤◌, ◌<◌, ◌≡◌, List, ◌∷◌, ◌++◌, Bool, false, length, eqb}
+use Rattle.std.specs.Prelude.{ℕ, ◌+◌, ◌^◌, ◌≤◌, ◌<◌, ◌≡◌, List, ◌∷◌, ◌++◌, Bool, false, length, eqb, Result, Ok, Err}
 use Rattle.value.specs.Maybe.{is, either}
 use Rattle.value.specs.Try.{Try, has, lacks}
 use Rattle.value.specs.declared.Reason.{Reason}
@@ -90,15 +90,19 @@ module _ (t : List ℕ) (p : Program Plain) (thread m : ℕ) (c : Block ℕ) (a 
     pub code : c ≡ end
     pub works : Works fb bs es ls' cs' o' n a
 
-  -- what is so of each answer
-  abbrev pub Answers : Turn → Type 0
-  Answers (T.Next k) = Went k
-  Answers (T.Test q) = Tested q
-  Answers (T.Call q) = Calls q
-  Answers T.Return = Returns
-  Answers (T.Blocked why) = Stays why
+  -- what is so of each turn
+  abbrev pub Turned : Turn → Type 0
+  Turned (T.Next k) = Went k
+  Turned (T.Test q) = Tested q
+  Turned (T.Call q) = Calls q
+  Turned T.Return = Returns
+
+  -- of each, or where it blocks
+  abbrev pub Answers : Result Turn Reason → Type 0
+  Answers (Ok turn) = Turned turn
+  Answers (Err why) = Stays why
 
 -- the step was made, and words of no other frame but the one above are others
-pub record Turns (t : List ℕ) (thread label fb : ℕ) (bs : List ℕ) (i : ℕ) (ls cs o : List ℕ) (n : ℕ) (ls' cs' o' : List ℕ) (r : Turn) : Type 0 where
+pub record Turns (t : List ℕ) (thread label fb : ℕ) (bs : List ℕ) (i : ℕ) (ls cs o : List ℕ) (n : ℕ) (ls' cs' o' : List ℕ) (r : Result Turn Reason) : Type 0 where
   pub beside : Turning t thread label fb bs i ls cs o n → Beside ls ls' fb (fb + frame_words + frame_words)
   pub answers : (h : Turning t thread label fb bs i ls cs o n) → Answers t h.p thread h.m h.c h.a fb bs h.es n ls' cs' o' r

@@ -38,11 +38,9 @@ fn clear_frames(threads: usize, words: &mut [u64; THREAD_WORDS])
     requires { (threads ≤ most_threads) × (length words.old ≡ thread_words) }
     ensures { FramesClear threads words.new }
 {
-    let mut i = 0;
-    while i < threads {
+    for i in 0..threads {
         let base = FRAME * THREAD_FRAMES * i;
         locals::clear(words, base, base + FRAME);
-        i += 1;
     }
 }
 
@@ -51,11 +49,7 @@ fn clear_cells(count: usize, cells: &mut [u64; PROGRAM_WORDS])
     requires { (count ≤ program_words) × (count ≤ length cells.old) }
     ensures { CellsClear count cells.new }
 {
-    let mut i = 0;
-    while i < count {
-        cells[i] = ZERO;
-        i += 1;
-    }
+    cells[..count].fill(ZERO);
 }
 
 // A run begins: "per thread its main procedure", from `at` on, and `count` cells.

@@ -4,24 +4,23 @@ ghost use Rattle.engine.specs.Work.{program_words, Writes};
 ghost use Rattle.atomic.specs.Threaded.{most_threads, all_frames};
 ghost use Rattle.concurrent.specs.Concurrent.{AllDone, MainsAt, Begins, ran_with, Starting, Runs, Entries, Accepted, Outcomes};
 
-use super::threads::{Stepped, step};
+use super::anew::prepare;
+use super::threads::step;
 use basics::numbers::{
-    ALL_FRAMES, BLOCKED, BOUNDS, FINISHED, MAIN, MAP, PAIR, PROGRAM_WORDS, SIZE, STARTS,
-    THREAD_FRAMES, THREAD_WORDS, THREADS, TRAILER, USED,
+    ALL_FRAMES, BOUNDS, MAIN, MAP, PAIR, PROGRAM_WORDS, STARTS, THREAD_FRAMES, THREAD_WORDS,
+    THREADS, TRAILER,
 };
-use basics::reasons;
+use engine::ends::End;
 use engine::word::ZERO;
-use engine::{locals, memory, table};
-use labels::label_map::fill_labels;
+use engine::{memory, table};
 use semantics::RunAnswer;
 
-// What a run came to: its end, the reason (0 unless it blocked), the entries taken, each for a step, and the events recorded.
+// What a run came to: its end, the entries taken, each for a step, and the events recorded.
 #[derive(Clone, Copy)]
-struct Ran {
-    end: u8,
-    reason: u8,
-    taken: usize,
-    events: usize,
+pub struct Ran {
+    pub end: End,
+    pub taken: usize,
+    pub events: usize,
 }
 
 // Whether all threads are finished.
@@ -29,14 +28,7 @@ pub fn finished(depths: &[usize; THREADS], threads: usize) -> bool
     requires { threads ≤ most_threads }
     ensures { AllDone depths.now threads result }
 {
-    let mut i = 0;
-    while i < threads {
-        if depths[i] != 0 {
-            return false;
-        }
-        i += 1;
-    }
-    true
+    depths[..threads].iter().all(|&depth| depth == 0)
 }
 
 // "Then per thread its main procedure", from `at` on: each thread begins with one frame, at the first label of its main.
@@ -51,25 +43,18 @@ pub fn begin(
     requires { MainsAt t.now at threads × (length labels.old ≡ all_frames) × (length depths.old ≡ most_threads) }
     ensures { Begins t.now at threads bounds.now labels.new depths.new }
 {
-    let mut i = 0;
-    while i < threads {
-        let main = table::two(t, at + MAIN * i) as usize;
+    for i in 0..threads {
+        let main = usize::from(table::two(t, at + MAIN * i));
         labels[THREAD_FRAMES * i] = bounds[PAIR * main];
         depths[i] = 1;
-        i += 1;
     }
 }
 
 // How a run ended.
-fn outcome(end: u8, reason: u8, taken: usize, events: usize) -> Ran
-    ensures { result ≡ ran_with end reason taken events }
+pub fn outcome(end: End, taken: usize, events: usize) -> Ran
+    ensures { result ≡ ran_with end taken events }
 {
-    Ran {
-        end,
-        reason,
-        taken,
-        events,
-    }
+    Ran { end, taken, events }
 }
 
 // The run: "A finished run is answered before the schedule is asked". An entry that blocks is not taken.
@@ -91,35 +76,22 @@ fn go(
         labels.old depths.old words.old cells.old events.old
         cells.new events.new result }
 {
-    let mut taken = 0;
     let mut count = 0;
-    loop {
+    for (taken, &thread) in schedule.iter().enumerate() {
         if finished(depths, threads) {
-            return outcome(FINISHED, 0, taken, count);
-        }
-        if taken == schedule.len() {
-            return outcome(USED, 0, taken, count);
+            return outcome(End::Finished, taken, count);
         }
         match step(
-            t,
-            map,
-            bounds,
-            starts,
-            schedule[taken],
-            labels,
-            depths,
-            words,
-            cells,
-            events,
-            count,
+            t, map, bounds, starts, thread, labels, depths, words, cells, events, count,
         ) {
-            Stepped::To(after) => count = after,
-            Stepped::Blocked(reason) => {
-                return outcome(BLOCKED, reasons::number(reason), taken, count);
-            }
+            Ok(after) => count = after,
+            Err(reason) => return outcome(End::Blocked(reason), taken, count),
         }
-        taken += 1;
     }
+    if finished(depths, threads) {
+        return outcome(End::Finished, schedule.len(), count);
+    }
+    outcome(End::UsedUp, schedule.len(), count)
 }
 
 // The final cells, `count` of them.
@@ -153,8 +125,15 @@ pub fn run(
     let mut depths = [0usize; THREADS];
     let mut words = [0u64; THREAD_WORDS];
     let mut memory = [ZERO; PROGRAM_WORDS];
-    fill_labels(t, procedures, &mut map, &mut bounds);
-    memory::set_starts(t, mains - SIZE * locations, locations, &mut starts);
+    prepare(
+        t,
+        procedures,
+        locations,
+        threads,
+        &mut map,
+        &mut bounds,
+        &mut starts,
+    );
     begin(t, mains, threads, &bounds, &mut labels, &mut depths);
     let ran = go(
         t,
@@ -172,10 +151,10 @@ pub fn run(
     write_out(&memory, count, cells);
     RunAnswer {
         number: 0,
-        end: ran.end,
+        end: ran.end.number(),
         steps: ran.taken as u64,
         unused: schedule.len() - ran.taken,
         events: ran.events as u64,
-        reason: ran.reason,
+        reason: ran.end.reason(),
     }
 }

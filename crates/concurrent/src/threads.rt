@@ -4,7 +4,7 @@ ghost use Rattle.format.specs.Rules.{max_labels};
 ghost use Rattle.concurrent.specs.Turning.{Turning, Turns};
 ghost use Rattle.concurrent.specs.Stepping.{test_label, Moving, Moves, Stepping, Steps};
 
-use atomic::block::{Done, carry_out, do_atomic};
+use atomic::block::{carry_out, do_atomic};
 use basics::numbers::{
     ALL_FRAMES, ATOMIC, BOUNDS, FRAME, MAP, NODE, PAIR, PROGRAM_WORDS, STARTS, THREAD_FRAMES,
     THREAD_WORDS, THREADS,
@@ -14,15 +14,14 @@ use engine::{locals, memory, table};
 use labels::label_map::{FIRST, NEXT, OTHER};
 use value::Reason;
 
-// What a step of a frame's code does: the code goes on, with so many events then; a test comes out; a procedure is called; it returns; or why
-// it blocks.
+// What a step of a frame's code does, if it does not block: the code goes on, with so many events then; a test comes out; a procedure is called;
+// or it returns.
 #[derive(Clone, Copy)]
 enum Turn {
     Next(usize),
     Test(bool),
     Call(usize),
     Return,
-    Blocked(Reason),
 }
 
 // One step of the code at `at`, which has this label, over the locals of the frame at `base`: "one assign, read, write, test, call, return or
@@ -38,13 +37,13 @@ fn take_turn(
     cells: &mut [u64; PROGRAM_WORDS],
     events: &mut [u8],
     count: usize,
-) -> Turn
+) -> Result<Turn, Reason>
     requires { Turning t.now thread label base starts.now at words.old cells.old events.old count }
     ensures { Turns t.now thread label base starts.now at words.old cells.old events.old count
         words.new cells.new events.new result }
 {
     if t[at] == ATOMIC {
-        return match do_atomic(
+        let done = do_atomic(
             t,
             at + 1,
             thread,
@@ -55,32 +54,23 @@ fn take_turn(
             cells,
             events,
             count,
-        ) {
-            Done::To { next: _, events: n } => Turn::Next(n),
-            Done::Blocked(reason) => Turn::Blocked(reason),
-        };
+        )?;
+        return Ok(Turn::Next(done.events));
     }
     let step = decide(t, words, base, starts, cells, at);
     match step {
-        Step::Return => Turn::Return,
-        Step::Test { truth, next: _ } => Turn::Test(truth),
+        Step::Return => Ok(Turn::Return),
+        Step::Test { truth, next: _ } => Ok(Turn::Test(truth)),
         Step::Call { procedure, next: _ } => {
             let above = base + FRAME;
             locals::clear(words, above + table::byte(t, at + 3), above + FRAME);
-            Turn::Call(procedure)
+            Ok(Turn::Call(procedure))
         }
-        _ => match carry_out(step, thread, label, base, words, cells, events, count) {
-            Done::To { next: _, events: n } => Turn::Next(n),
-            Done::Blocked(reason) => Turn::Blocked(reason),
-        },
+        _ => {
+            let done = carry_out(step, thread, label, base, words, cells, events, count)?;
+            Ok(Turn::Next(done.events))
+        }
     }
-}
-
-// How many events there are after a thread's step, or why it did not take it.
-#[derive(Clone, Copy)]
-pub enum Stepped {
-    To(usize),
-    Blocked(Reason),
 }
 
 // The label that a test leads to, of those in a row of the map.
@@ -96,7 +86,7 @@ fn after_test(map: &[usize; MAP], row: usize, truth: bool) -> usize
 }
 
 // Where a thread goes on after a turn of its uppermost frame, which is frame `top` of all: the labels that the turn leads to, and how
-// many frames the thread has then.
+// many frames the thread has then. Answers how many events there are, where there were `count`.
 fn move_on(
     turn: Turn,
     map: &[usize; MAP],
@@ -106,7 +96,7 @@ fn move_on(
     labels: &mut [usize; ALL_FRAMES],
     depths: &mut [usize; THREADS],
     count: usize,
-) -> Stepped
+) -> usize
     requires { Moving turn thread top labels.old depths.old }
     ensures { Moves turn map.now bounds.now thread top labels.old depths.old count
         labels.new depths.new result }
@@ -115,27 +105,26 @@ fn move_on(
     match turn {
         Turn::Next(n) => {
             labels[top] = map[row + NEXT];
-            Stepped::To(n)
+            n
         }
         Turn::Test(truth) => {
             labels[top] = after_test(map, row, truth);
-            Stepped::To(count)
+            count
         }
         Turn::Call(procedure) => {
             labels[top] = map[row + NEXT];
             labels[top + 1] = bounds[PAIR * procedure + FIRST];
             depths[thread] += 1;
-            Stepped::To(count)
+            count
         }
         Turn::Return => {
             depths[thread] -= 1;
-            Stepped::To(count)
+            count
         }
-        Turn::Blocked(reason) => Stepped::Blocked(reason),
     }
 }
 
-// Thread `thread` takes a step, if it can. Frame d of thread i has the label labels[THREAD_FRAMES * i + d].
+// Thread `thread` takes a step, if it can, and answers how many events there are then. Frame d of thread i has the label labels[THREAD_FRAMES * i + d].
 pub fn step(
     t: &[u8],
     map: &[usize; MAP],
@@ -148,16 +137,16 @@ pub fn step(
     cells: &mut [u64; PROGRAM_WORDS],
     events: &mut [u8],
     count: usize,
-) -> Stepped
+) -> Result<usize, Reason>
     requires { Stepping t.now map.now bounds.now starts.now thread labels.old depths.old words.old cells.old events.old count }
     ensures { Steps t.now map.now bounds.now starts.now thread
         labels.old depths.old words.old cells.old events.old count
         labels.new depths.new words.new cells.new events.new result }
 {
-    let i = thread as usize;
+    let i = usize::from(thread);
     // "4 finished thread chosen".
     if depths[i] == 0 {
-        return Stepped::Blocked(Reason::FinishedThread);
+        return Err(Reason::FinishedThread);
     }
     let top = THREAD_FRAMES * i + depths[i] - 1;
     let label = labels[top];
@@ -173,6 +162,6 @@ pub fn step(
         cells,
         events,
         count,
-    );
-    move_on(turn, map, bounds, i, top, labels, depths, count)
+    )?;
+    Ok(move_on(turn, map, bounds, i, top, labels, depths, count))
 }

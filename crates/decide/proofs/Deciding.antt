@@ -5,22 +5,18 @@ use mathlib.Core.Path.{◌≡◌, refl, sym, ap, ap₂, subst, ◌∙◌}
 use mathlib.Core.Logic.{⊎_elim}
 use mathlib.Core.List.{List, [], ◌∷◌, map}
 use mathlib.Core.Bool.{Bool}
+use Rattle.std.specs.Prelude.{Result, Ok, Err}
 use lib.ListN.{length, get_or}
 use lib.IntN.{ℤ, pos, negsuc}
 use types.Run.{OneOf, miss}
 use denote.Enum.Declared.{tag_of}
 use Rattle.value.specs.contracts.Value.{the_type}
-use Rattle.engine.specs.contracts.memory.Spot.{the_type as spot-type}
 use Rattle.value.specs.Maybe.{is}
 use Rattle.value.specs.Try.{Try, has, lacks, ◌⟫◌, or_lacks}
 use Rattle.value.specs.Values.{given}
 use Rattle.basics.specs.Places.{number_at}
 use Rattle.value.specs.declared.Value.{Value}
 use Rattle.value.specs.declared.Value.TheVariants.{Whole, Location, Truth}
-use Rattle.value.specs.declared.Answer.{Answer}
-use Rattle.value.specs.declared.Answer.TheVariants as A
-use Rattle.basics.specs.Reasons.{lack_of}
-use Rattle.basics.specs.Laws.Reasons.{None, none_lacks}
 use Rattle.value.specs.declared.Reason.{Reason}
 use Rattle.value.specs.declared.Reason.TheVariants.{WrongKind}
 use Rattle.value.proofs.Laws.Tries.{has_inj, lacks_inj, lacking}
@@ -28,15 +24,12 @@ use Rattle.format.specs.Syntax.{Expr, local}
 use Rattle.format.proofs.Laws.Grammar.{ExprAt, expr_inside}
 use Rattle.format.specs.Decode.{max_depth}
 use Rattle.engine.specs.declared.evaluate.Valued.{Valued}
-use Rattle.decide.specs.declared.step.Passed.{Passed}
-use Rattle.decide.specs.declared.step.Passed.TheVariants.{All, Missing}
 use Rattle.engine.specs.declared.memory.Spot.{Spot}
-use Rattle.engine.specs.declared.memory.Spot.TheVariants.{At, Nowhere}
 use Rattle.decide.specs.declared.step.Step.{Step}
 use Rattle.decide.specs.declared.step.Step.TheVariants.{Return, Assign, Read, Write, Test, Call, Blocked}
 use Rattle.semantics.specs.Memory.{Env, eval, evals, index, Memory, cell}
 use Rattle.value.specs.Values.{number, place, truth}
-use Rattle.engine.specs.Work.{Beside, frame_words, Framed, spot_reason, Placed, Places}
+use Rattle.engine.specs.Work.{Beside, frame_words, Framed, Placed, Places}
 use Rattle.engine.specs.Words.{value_in}
 use Rattle.engine.specs.Evaluated.{Below, Ready, Evaluates}
 use Rattle.engine.specs.Laws.Work.{beside_same, framed_none}
@@ -180,18 +173,18 @@ module _ {t ls : List ℕ} {fb i : ℕ} where
 
 module _ {t : List ℕ} {i : ℕ} {r : Valued} where
   -- "x := e"
-  pub assign_none : {q : Reason} → None r.answer → q ≡ lack_of r.answer → AssignOf t i r (Blocked q)
-  assign_none h e = record { step = rw (none_lacks r.answer h, e) }
+  pub assign_none : {q : Reason} → r.answer ≡ Err q → AssignOf t i r (Blocked q)
+  assign_none h = record { step = rw h }
 
-  pub assign_some : {v : Value} {x : ℕ} → r.answer ≡ A.Is v → x ≡ get_or t (i + 1) 0 → AssignOf t i r (Assign x v r.next)
+  pub assign_some : {v : Value} {x : ℕ} → r.answer ≡ Ok v → x ≡ get_or t (i + 1) 0 → AssignOf t i r (Assign x v r.next)
   assign_some e a = record { step = rw (e, a) }
 
 module _ {r : Valued} where
   -- the test of a while or an if
-  pub test_none : {q : Reason} → None r.answer → q ≡ lack_of r.answer → TestOf r (Blocked q)
-  test_none h e = record { step = rw (none_lacks r.answer h, e) }
+  pub test_none : {q : Reason} → r.answer ≡ Err q → TestOf r (Blocked q)
+  test_none h = record { step = rw h }
 
-  pub test_other : {v : Value} → r.answer ≡ A.Is v → OneOf (0 ∷ 1 ∷ []) (tag_of the_type v) → TestOf r (Blocked WrongKind)
+  pub test_other : {v : Value} → r.answer ≡ Ok v → OneOf (0 ∷ 1 ∷ []) (tag_of the_type v) → TestOf r (Blocked WrongKind)
   test_other {v} e k = record { step = rw (e, no_truth v k) }
     where
       no_truth : (v : Value) → OneOf (0 ∷ 1 ∷ []) (tag_of the_type v) → truth v ≡ lacks WrongKind
@@ -199,19 +192,10 @@ module _ {r : Valued} where
       no_truth (Whole z) h = refl
       no_truth (Location l) h = refl
 
-  pub test_some : {v : Value} {b : Bool} → r.answer ≡ A.Is v → v ≡ Truth b → TestOf r (Test b r.next)
+  pub test_some : {v : Value} {b : Bool} → r.answer ≡ Ok v → v ≡ Truth b → TestOf r (Test b r.next)
   test_some e f = record { step = rw (e, f) }
 
 -- ---- a pointer and an index
-
--- a spot without a cell
-abbrev pub Off : Spot → Type 0
-Off s = OneOf (1 ∷ []) (tag_of spot-type s)
-
--- it has a reason
-pub off_nowhere : (s : Spot) → Off s → s ≡ Nowhere (spot_reason s)
-off_nowhere (Nowhere r) h = refl
-off_nowhere (At l i k) h = absurd (miss (1 ∷ []) 0 tt h)
 
 -- without a cell nothing is done
 nowhere : {A : Type 0} (η : Memory) (a : Try ℤ) (b : Try ℕ) (f : ℕ → ℕ → Value → Try A) {r : Reason}
@@ -223,8 +207,9 @@ nowhere η (has (negsuc n)) (has l) f e = ap lacks (lacks_inj e)
 nowhere η (has (pos k)) (has l) f e = rw e
 
 -- what the cell of a pointer and an index holds
-in_cell : {bs cs : List ℕ} (p o : Try Value) (a : Answer) {s : Spot} {l j c : ℕ} → Places bs p o s → s ≡ At l j c → given a ≡ value_in (get_or cs c 0)
-    → (η : Memory) → Lies bs cs η → ((o ⟫ number) ≡ has (pos j)) × ((p ⟫ place) ≡ has l) × (cell η l j ≡ given a)
+in_cell : {bs cs : List ℕ} (p o : Try Value) (a : Result Value Reason) {s : Result Spot Reason} {at : Spot} → Places bs p o s → s ≡ Ok at
+    → given a ≡ value_in (get_or cs at.cell 0) → (η : Memory) → Lies bs cs η
+    → ((o ⟫ number) ≡ has (pos at.index)) × ((p ⟫ place) ≡ has at.location) × (cell η at.location at.index ≡ given a)
 in_cell p o a P n r η m =
     let found = subst (Placed η p o) n (P.placed η m.bases) in
     (found.0, found.1, sym (r ∙ cell_held m.holds found.2))
@@ -289,29 +274,29 @@ module _ {t ls : List ℕ} {fb i : ℕ} where
   module _ {bs : List ℕ} {x y : Valued} (q : get_or t i 0 ≡ 0x21) (X : Evaluates t ls fb (i + 2) max_depth x)
       (Y : Evaluates t ls fb x.next max_depth y) where
     -- there is no value
-    pub write_none : {r : Reason} → None y.answer → r ≡ lack_of y.answer → Decides t ls fb i (Laid bs) (Blocked r)
-    write_none n e = record { step = λ h η b. rw e (rw (none_lacks y.answer n) at (write_step (eval h.env (local (see_write h.act h.here q).0)) h η q X Y refl)) }
+    pub write_none : {r : Reason} → y.answer ≡ Err r → Decides t ls fb i (Laid bs) (Blocked r)
+    write_none n = record { step = λ h η b. rw (ap given n) at (write_step (eval h.env (local (see_write h.act h.here q).0)) h η q X Y refl) }
 
     -- there is no such cell
-    pub write_nowhere : (p : Answer) {k : ℕ} {v : Value} {s : Spot} {r : Reason} → y.answer ≡ A.Is v → k ≡ get_or t (i + 1) 0 → given p ≡ value_in (get_or ls (fb + k) 0)
-        → Places bs (given p) (given x.answer) s → Off s → r ≡ spot_reason s → Decides t ls fb i (Laid bs) (Blocked r)
-    write_nowhere p {v = v} {s} e a g P n w = rw w (record {
+    pub write_nowhere : (p : Result Value Reason) {k : ℕ} {v : Value} {s : Result Spot Reason} {r : Reason} → y.answer ≡ Ok v → k ≡ get_or t (i + 1) 0
+        → given p ≡ value_in (get_or ls (fb + k) 0) → Places bs (given p) (given x.answer) s → s ≡ Err r → Decides t ls fb i (Laid bs) (Blocked r)
+    write_nowhere p {v = v} {s} e a g P n = record {
       step = λ h η b.
           let none = nowhere η (given x.answer ⟫ number) (given p ⟫ place) (λ l k u. has (Write l k (number_of η l k) v y.next))
-          (subst (Placed η (given p) (given x.answer)) (off_nowhere s n) (P.placed η b.bases)) in
+          (subst (Placed η (given p) (given x.answer)) n (P.placed η b.bases)) in
           sym (ap or_blocked none) ∙ rw (ap given e) at (write_step (given p) h η q X Y (write_pointer h q a g));
-    })
+    }
 
     -- there is one
-    pub write_some : (p : Answer) {k : ℕ} {v : Value} {s : Spot} {l j c : ℕ} → y.answer ≡ A.Is v → k ≡ get_or t (i + 1) 0
-        → given p ≡ value_in (get_or ls (fb + k) 0) → Places bs (given p) (given x.answer) s → s ≡ At l j c
-        → Decides t ls fb i (Laid bs) (Write l j c v y.next)
-    write_some p {v = v} {l = l} {j} {c} e a g P n = record {
+    pub write_some : (p : Result Value Reason) {k : ℕ} {v : Value} {s : Result Spot Reason} {at : Spot} → y.answer ≡ Ok v → k ≡ get_or t (i + 1) 0
+        → given p ≡ value_in (get_or ls (fb + k) 0) → Places bs (given p) (given x.answer) s → s ≡ Ok at
+        → Decides t ls fb i (Laid bs) (Write at.location at.index at.cell v y.next)
+    write_some p {v = v} {at = at} e a g P n = record {
       step = λ h η b.
           let found = subst (Placed η (given p) (given x.answer)) n (P.placed η b.bases) in
           let full = cell_full η found.2 in
           let done = rw (ap given e, found.0, found.1, full.1) at (write_step (given p) h η q X Y (write_pointer h q a g)) in
-          ap (λ c. Write l j c v y.next) found.2.number ∙ done;
+          ap (λ c. Write at.location at.index c v y.next) found.2.number ∙ done;
     }
 
   -- ---- "x := y[o]"
@@ -335,29 +320,29 @@ module _ {t ls : List ℕ} {fb i : ℕ} where
       ∙ ap₂ (λ z p. read_of η z h.j (eval h.env w.2) p) (a ∙ w.4.target) (holds h w.4.below.1 (e ∙ w.4.pointer) g)
       ∙ sym (ap (λ a. decided h.env η a h.j) w.3)
 
-  module _ {bs cs : List ℕ} {x : Valued} (p : Answer) {k : ℕ} {s : Spot} (q : get_or t i 0 ≡ 0x22) (X : Evaluates t ls fb (i + 3) max_depth x)
+  module _ {bs cs : List ℕ} {x : Valued} (p : Result Value Reason) {k : ℕ} {s : Result Spot Reason} (q : get_or t i 0 ≡ 0x22) (X : Evaluates t ls fb (i + 3) max_depth x)
       (e : k ≡ get_or t (i + 2) 0) (g : given p ≡ value_in (get_or ls (fb + k) 0)) (P : Places bs (given p) (given x.answer) s) where
     -- there is no such cell
-    pub read_nowhere : {r : Reason} → Off s → r ≡ spot_reason s → Decides t ls fb i (Lies bs cs) (Blocked r)
-    read_nowhere n w = rw w (record {
+    pub read_nowhere : {r : Reason} → s ≡ Err r → Decides t ls fb i (Lies bs cs) (Blocked r)
+    read_nowhere n = record {
       step = λ h η m.
           let none = nowhere η (given x.answer ⟫ number) (given p ⟫ place) (λ l k v. has (Read (get_or t (i + 1) 0) l k v x.next))
-          (subst (Placed η (given p) (given x.answer)) (off_nowhere s n) (P.placed η m.bases)) in
+          (subst (Placed η (given p) (given x.answer)) n (P.placed η m.bases)) in
           sym (ap or_blocked none) ∙ read_step h η q X e g refl;
-    })
+    }
 
     -- it holds nothing
-    pub read_empty : {l j c : ℕ} (a : Answer) {r : Reason} → s ≡ At l j c → given a ≡ value_in (get_or cs c 0) → None a → r ≡ lack_of a
+    pub read_empty : {at : Spot} (a : Result Value Reason) {r : Reason} → s ≡ Ok at → given a ≡ value_in (get_or cs at.cell 0) → a ≡ Err r
         → Decides t ls fb i (Lies bs cs) (Blocked r)
-    read_empty a n r f z = rw z (record {
+    read_empty a n r f = record {
       step = λ h η m.
           let w = in_cell (given p) (given x.answer) a P n r η m in
-          rw (w.0, w.1, w.2, none_lacks a f) at (read_step {z = get_or t (i + 1) 0} h η q X e g refl);
-    })
+          rw (w.0, w.1, w.2, ap given f) at (read_step {z = get_or t (i + 1) 0} h η q X e g refl);
+    }
 
     -- it holds a value
-    pub read_some : {l j c z : ℕ} (a : Answer) {v : Value} → s ≡ At l j c → given a ≡ value_in (get_or cs c 0) → a ≡ A.Is v → z ≡ get_or t (i + 1) 0
-        → Decides t ls fb i (Lies bs cs) (Read z l j v x.next)
+    pub read_some : {at : Spot} {z : ℕ} (a : Result Value Reason) {v : Value} → s ≡ Ok at → given a ≡ value_in (get_or cs at.cell 0) → a ≡ Ok v
+        → z ≡ get_or t (i + 1) 0 → Decides t ls fb i (Lies bs cs) (Read z at.location at.index v x.next)
     read_some a n r f b = record {
       step = λ h η m.
           let w = in_cell (given p) (given x.answer) a P n r η m in
@@ -365,7 +350,7 @@ module _ {t ls : List ℕ} {fb i : ℕ} where
     }
 
 -- a cell that is found is one of the words
-pub found_word : {bs cs : List ℕ} (p o : Try Value) {s : Spot} {l j c : ℕ} → Kept bs cs → Places bs p o s → s ≡ At l j c → c < length cs
+pub found_word : {bs cs : List ℕ} (p o : Try Value) {s : Result Spot Reason} {at : Spot} → Kept bs cs → Places bs p o s → s ≡ Ok at → at.cell < length cs
 found_word p o k P n = cell_word k.lies.holds (subst (Placed k.memory p o) n (P.placed k.memory k.lies.bases)).2
 
 -- ---- "call procedure m"
@@ -390,7 +375,7 @@ module _ {t ls : List ℕ} {fb i : ℕ} where
   pub call_ready : {k : ℕ} → Poised t ls fb i → get_or t i 0 ≡ 0x25 → k ≡ get_or t (i + 3) 0 → Passable t ls fb (i + 4) k
   call_ready h q e = args h q e
 
-  module _ {ls' : List ℕ} {k : ℕ} {r : Passed} (q : get_or t i 0 ≡ 0x25) (e : k ≡ get_or t (i + 3) 0) (P : PassesAll t ls ls' fb (i + 4) k r) where
+  module _ {ls' : List ℕ} {k : ℕ} {r : Result ℕ Reason} (q : get_or t i 0 ≡ 0x25) (e : k ≡ get_or t (i + 3) 0) (P : PassesAll t ls ls' fb (i + 4) k r) where
     -- where they went
     call_beside : (h : Poised t ls fb i) → Beside ls ls' (fb + frame_words) (fb + frame_words + length (args_of h.act))
     call_beside h =
@@ -399,7 +384,7 @@ module _ {t ls : List ℕ} {fb i : ℕ} where
         rw same P.beside
 
     -- one has no value
-    pub call_none : {M : Memory → Type 0} {x : Reason} → r ≡ Missing x → DecidesAll t ls ls' fb i M (Blocked x)
+    pub call_none : {M : Memory → Type 0} {x : Reason} → r ≡ Err x → DecidesAll t ls ls' fb i M (Blocked x)
     call_none {x = x} n =
         let none : (h : Poised t ls fb i) → evals h.env (see_call h.act h.here q).1 ≡ lacks x =
         λ h. subst (PassedAs (args h q e) ls') n (P.passed (args h q e))
@@ -417,9 +402,9 @@ module _ {t ls : List ℕ} {fb i : ℕ} where
         }
 
     -- all have one
-    pub call_some : {M : Memory → Type 0} {m j : ℕ} → r ≡ All j → m ≡ number_at 2 t (i + 1) → DecidesAll t ls ls' fb i M (Call m j)
+    pub call_some : {M : Memory → Type 0} {m j : ℕ} → r ≡ Ok j → m ≡ number_at 2 t (i + 1) → DecidesAll t ls ls' fb i M (Call m j)
     call_some {m = m} {j} n a =
-        let all : (h : Poised t ls fb i) → PassedAs (args h q e) ls' (All j) = λ h. subst (PassedAs (args h q e) ls') n (P.passed (args h q e)) in
+        let all : (h : Poised t ls fb i) → PassedAs (args h q e) ls' (Ok j) = λ h. subst (PassedAs (args h q e) ls') n (P.passed (args h q e)) in
         record {
           decides = record {
             step = λ h η x.

@@ -3,22 +3,19 @@ use Prim.Native.Nat.{ℕ, ◌+◌, ◌-◌, ◌≤◌, ◌<◌}
 use native.Mathlib.Omega.{arith}
 use mathlib.Core.Path.{◌≡◌, refl, sym, ap, subst, ◌∙◌}
 use mathlib.Core.List.{List, [], ◌∷◌, ◌++◌, append_assoc, append-nil, map}
+use Rattle.std.specs.Prelude.{Result, Ok, Err}
 use mathlib.Core.List as L
 use lib.ListN.{length, length-append, length-map}
 use Rattle.value.specs.Maybe.{is}
 use Rattle.value.specs.Try.{Try, has, lacks, ◌⟫◌}
 use Rattle.value.specs.Values.{given}
 use Rattle.value.specs.declared.Value.{Value}
-use Rattle.value.specs.declared.Answer.TheVariants as A
-use Rattle.basics.specs.Reasons.{lack_of}
-use Rattle.basics.specs.Laws.Reasons.{None, none_lacks}
 use Rattle.value.specs.declared.Reason.{Reason}
 use Rattle.value.proofs.Laws.Lists.{Each}
 use Rattle.format.specs.Syntax.{Expr}
 use Rattle.format.proofs.Laws.Grammar.{ExprsAt, MoreAt, exprs_none_lem, exprs_more}
 use Rattle.format.specs.Decode.{max_depth}
 use Rattle.engine.specs.declared.evaluate.Valued.{Valued}
-use Rattle.decide.specs.declared.step.Passed.TheVariants.{All, Missing}
 use Rattle.semantics.specs.Memory.{evals}
 use Rattle.engine.specs.Work.{Puts, Beside, frame_words, Framed}
 use Rattle.engine.specs.Evaluated.{Below, Ready, Evaluates}
@@ -114,11 +111,11 @@ module _ {t ls : List ℕ} {fb i n : ℕ} where
           ∙ ap (λ m. (m ⟫ λ v. evals h.env w.rest ⟫ λ us. has (v ∷ us)) ⟫ λ us. has (o.vs ++ us)) (sym (E.value (ready h P l)))
 
       -- it has no value
-      pub passing_none : {q : Reason} → None r.answer → q ≡ lack_of r.answer → PassesAll t ls ls' fb i n (Missing q)
-      passing_none n e = rw e (record { beside = wider P.beside P.within; passed = λ h. rw (none_lacks r.answer n) at (left h) })
+      pub passing_none : {q : Reason} {y : Result ℕ Reason} → r.answer ≡ Err q → y ≡ Err q → PassesAll t ls ls' fb i n y
+      passing_none n e = rw e (record { beside = wider P.beside P.within; passed = λ h. rw (ap given n) at (left h) })
 
       -- it has one
-      pub passing_more : {v : Value} {ls'' : List ℕ} → r.answer ≡ A.Is v → Puts ls' ls'' (fb + frame_words + k) v
+      pub passing_more : {v : Value} {ls'' : List ℕ} → r.answer ≡ Ok v → Puts ls' ls'' (fb + frame_words + k) v
           → Passing t ls ls'' fb i n r.next (k + 1)
       passing_more {v} {ls''} e p = record {
         within = omega arith;
@@ -146,7 +143,7 @@ module _ {t ls : List ℕ} {fb i n : ℕ} where
       }
 
     -- all
-    pub passing_all : Passing t ls ls' fb i n a k → n ≤ k → PassesAll t ls ls' fb i n (All a)
+    pub passing_all : Passing t ls ls' fb i n a k → n ≤ k → PassesAll t ls ls' fb i n (Ok a)
     passing_all P l = record {
       beside = wider P.beside P.within;
       passed = λ h.

@@ -1,5 +1,5 @@
 -- The deciding half of a step: what an instruction asks, where it stands, and the step that the code answers.
-use Rattle.std.specs.Prelude.{ℕ, ◌+◌, ◌≤◌, ◌<◌, ◌≡◌, ◌⊎◌, List, [], ◌∷◌, map, Bool, length, get_or, take, eqb}
+use Rattle.std.specs.Prelude.{ℕ, ◌+◌, ◌≤◌, ◌<◌, ◌≡◌, ◌⊎◌, List, [], ◌∷◌, map, Bool, length, get_or, take, eqb, Result, Ok, Err}
 use Rattle.std.proofs.Math.Bool as B
 use Rattle.value.specs.Maybe.{Maybe, is, nothing, pick, either}
 use Rattle.value.specs.Try.{Try, has, lacks, ◌⟫◌, provided, or_lacks}
@@ -7,6 +7,7 @@ use Rattle.value.specs.Lists.{at, sum}
 use Rattle.value.specs.Values.{given}
 use Rattle.basics.specs.Places.{number_at}
 use Rattle.value.specs.declared.Value.{Value}
+use Rattle.value.specs.declared.Reason.{Reason}
 use Rattle.value.specs.declared.Reason.TheVariants.{WrongKind}
 use Rattle.value.proofs.Laws.Lists.{Each}
 use Rattle.format.specs.Syntax.{Expr, local, Instr, assign, write, read, while, if, call, atomic, select, Block, step, ◌⊕◌, Proc}
@@ -14,8 +15,6 @@ use Rattle.format.specs.Encode.{expr, instr}
 use Rattle.format.proofs.Laws.Grammar.{ExprAt, ExprsAt}
 use Rattle.format.specs.Decode.{max_depth}
 use Rattle.engine.specs.declared.evaluate.Valued.{Valued}
-use Rattle.decide.specs.declared.step.Passed.{Passed}
-use Rattle.decide.specs.declared.step.Passed.TheVariants.{All, Missing}
 use Rattle.decide.specs.declared.step.Step.{Step}
 use Rattle.decide.specs.declared.step.Step.TheVariants.{Return, Assign, Read, Write, Test, Call, Select, Blocked}
 use Rattle.semantics.specs.Memory.{Env, bound, eval, evals, index, Memory, cell, stored, reading, writing}
@@ -314,12 +313,12 @@ pub record TestOf (e : Valued) (s : Step) : Type 0 where
   pub step : s ≡ or_blocked (given e.answer ⟫ truth ⟫ λ q. has (Test q e.next))
 
 -- the arguments of a call were passed: the words of the frame above hold their values; or one has none
-abbrev pub PassedAs : {t ls : List ℕ} {fb i n : ℕ} → Passable t ls fb i n → List ℕ → Passed → Type 0
-PassedAs {fb = fb} h ls' (All k) = (k ≡ h.j) × ((vs : List Value) × (evals h.env h.es ≡ has vs) × Framed ls' (fb + frame_words) (map is vs))
-PassedAs h ls' (Missing r) = evals h.env h.es ≡ lacks r
+abbrev pub PassedAs : {t ls : List ℕ} {fb i n : ℕ} → Passable t ls fb i n → List ℕ → Result ℕ Reason → Type 0
+PassedAs {fb = fb} h ls' (Ok k) = (k ≡ h.j) × ((vs : List Value) × (evals h.env h.es ≡ has vs) × Framed ls' (fb + frame_words) (map is vs))
+PassedAs h ls' (Err r) = evals h.env h.es ≡ lacks r
 
 -- and no other words were touched
-pub record PassesAll (t ls ls' : List ℕ) (fb i n : ℕ) (r : Passed) : Type 0 where
+pub record PassesAll (t ls ls' : List ℕ) (fb i n : ℕ) (r : Result ℕ Reason) : Type 0 where
   pub beside : Beside ls ls' (fb + frame_words) (fb + frame_words + n)
   pub passed : (h : Passable t ls fb i n) → PassedAs h ls' r
 
@@ -341,6 +340,10 @@ pub record SelectHere (t : List ℕ) (i a b : ℕ) (η : Memory) : Type 0 where
   pub target : number_at 2 t (i + 1) ≡ a
   pub source : number_at 2 t (i + 3) ≡ b
   pub there : 0 < get_or (shape η) a 0
+
+-- the value that a select looks at, as the code answers it: that of cell b[e], or why there is none
+pub record Looks (t bs cs : List ℕ) (i e : ℕ) (x : Result Value Reason) : Type 0 where
+  pub value : (a b : ℕ) (η : Memory) → SelectHere t i a b η → Lies bs cs η → cell η b e ≡ given x
 
 -- the step of a select that takes entry e
 pub record Selects (t bs cs : List ℕ) (i e : ℕ) (s : Step) : Type 0 where

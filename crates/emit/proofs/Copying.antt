@@ -1,6 +1,5 @@
 -- One law for each way through the copy of an expression.
-use Rattle.std.proofs.Common.{◌≡◌, ℕ, suc, ◌+◌, ◌-◌, ◌%◌, ◌<◌, ◌≤◌, true, false, List, [], ◌∷◌, length, get_or, sym, refl, ◌∙◌, subst, append-nil, arith}
-use lib.Seq.{slice, slice_empty}
+use Rattle.std.proofs.Common.{◌≡◌, ℕ, suc, ◌+◌, ◌-◌, ◌%◌, ◌<◌, ◌≤◌, true, false, List, [], ◌∷◌, length, get_or, take, drop, sym, refl, ap, ◌∙◌, subst, take_at, arith}
 use Rattle.value.specs.Values.{One, not, neg, Two, add, sub, mul, less, equal, and}
 use Rattle.value.specs.Marks.{Mark, whole_mark, location_mark, no_mark, yes_mark, local_mark, one_mark, two_mark, no_expr, mark₁, mark₂, mark_of}
 use Rattle.basics.specs.Columns.{row_of}
@@ -9,14 +8,14 @@ use Rattle.basics.specs.Laws.Columns.{Says, row_says}
 use Rattle.value.specs.declared.Value.TheVariants.{Whole, Location, Truth}
 use Rattle.format.specs.Syntax.{Expr, constant, local, one, two}
 use Rattle.format.specs.Encode.{expr}
-use Rattle.format.proofs.Laws.Stands.{Stands, first, in_take}
+use Rattle.format.proofs.Laws.Stands.{Stands, first}
 use Rattle.format.proofs.Laws.ExprGrammar.{ExprAt, OneAt, TwoAt, one_here, two_here, local_here, expr_inside, expr_deep}
 use Rattle.format.specs.Rules.{max_locals}
 use Rattle.translation.specs.Code.{shift}
-use Rattle.writer.specs.Laws.Put.{Put}
+use Rattle.writer.specs.Laws.Pages.{Puts}
 use Rattle.emit.specs.Laws.Sources.{Low, Copies}
-use Rattle.emit.specs.declared.exprs.Copied.{Copied}
-use Rattle.writer.proofs.Puts.{put_then, put_cons}
+use Rattle.writer.specs.declared.page.Page.{Page}
+use Rattle.writer.proofs.Paging.{puts_then, puts_cons}
 
 -- ---- what the table of marks says
 
@@ -67,8 +66,8 @@ two_operands equal = refl
 two_operands and = refl
 
 -- what stands between two positions is that part of the table
-pub slice_is : {t : List ℕ} {i : ℕ} {bs : List ℕ} {j : ℕ} → Stands t i bs j → slice i j t ≡ bs
-slice_is {t} {i} {bs} {j} s = (in_take t j (omega arith) s).same ∙ rw slice_empty (append-nil bs)
+pub slice_is : {t : List ℕ} {i : ℕ} {bs : List ℕ} {j : ℕ} → Stands t i bs j → take (j - i) (drop i t) ≡ bs
+slice_is {t} {i} {bs} {j} s = ap (take (j - i)) s.same ∙ take_at bs (drop j t) (j - i) (omega (arith, s.ends))
 
 -- a leaf: it is as long as the row says, and a constant stays as it is
 pub record Leaf (t : List ℕ) (i : ℕ) (e : Expr) (j : ℕ) : Type 0 where
@@ -90,55 +89,55 @@ module _ {t : List ℕ} {i d : ℕ} where
   -- ---- nothing stands there
 
   -- nothing is asked where no expression can stand
-  none : {o : List ℕ} {p : ℕ} {o' : List ℕ} {q : ℕ} → ((e : Expr) (j : ℕ) → ExprAt t i d e j → ⊥) → Copies t i d o p o' (record { next = i; to = q })
+  none : {o o' : Page} → ((e : Expr) (j : ℕ) → ExprAt t i d e j → ⊥) → Copies t i d o o' i
   none f = record { copied = λ e j h l. absurd (f e j h); ends = λ e j h l. absurd (f e j h); forward = omega arith }
 
   -- no depth is left
-  pub copy_deep : {o : List ℕ} {p : ℕ} {o' : List ℕ} {q : ℕ} → d ≡ 0 → Copies t i d o p o' (record { next = i; to = q })
+  pub copy_deep : {o o' : Page} → d ≡ 0 → Copies t i d o o' i
   copy_deep z = none (λ e j h. omega (arith, expr_deep h))
 
   -- the table ends
-  pub copy_past : {o : List ℕ} {p : ℕ} {o' : List ℕ} {q : ℕ} → length t ≤ i → Copies t i d o p o' (record { next = i; to = q })
+  pub copy_past : {o o' : Page} → length t ≤ i → Copies t i d o o' i
   copy_past z = none (λ e j h. omega (arith, (expr_inside h).0, (expr_inside h).1))
 
   -- the payload is cut off
-  pub copy_cut : {o : List ℕ} {p : ℕ} {o' : List ℕ} {q k n : ℕ} → k ≡ operands_of (get_or t i 0) → (k ≡ 1 → ⊥) → (k ≡ 2 → ⊥)
-      → n ≡ payload_of (get_or t i 0) → length t < i + 1 + n → Copies t i d o p o' (record { next = i; to = q })
-  copy_cut a f g q z = none (λ e j h. omega (arith, (leaf_here e h (λ b. f (a ∙ b)) (λ b. g (a ∙ b))).long, (expr_inside h).1))
+  pub copy_cut : {o o' : Page} {k m n : ℕ} → k ≡ operands_of (get_or t i 0) → (k ≡ 1 → ⊥) → (k ≡ 2 → ⊥) → m ≡ payload_of (get_or t i 0) → n ≡ m
+      → length t < i + 1 + n → Copies t i d o o' i
+  copy_cut a f g q s z = none (λ e j h. omega (arith, s, (leaf_here e h (λ b. f (a ∙ b)) (λ b. g (a ∙ b))).long, (expr_inside h).1))
 
   -- ---- leaves
 
   -- a local
-  pub copy_local : {o o' o'' : List ℕ} {p q r n x : ℕ} → get_or t i 0 ≡ 5 → n ≡ payload_of (get_or t i 0) → Put o p (get_or t i 0 ∷ []) o' q
-      → x ≡ (get_or t (i + 1) 0 + 3) % 256 → Put o' q (x ∷ []) o'' r → Copies t i d o p o'' (record { next = i + 1 + n; to = r })
-  copy_local {o} {o'' = o''} {p} {r = r} {n} {x} m long P same Q = record {
+  pub copy_local : {o o' : Page} {k n x : ℕ} → get_or t i 0 ≡ 5 → k ≡ payload_of (get_or t i 0) → n ≡ k → x ≡ (get_or t (i + 1) 0 + 3) % 256
+      → Puts o (get_or t i 0 ∷ x ∷ []) o' → Copies t i d o o' (i + 1 + n)
+  copy_local {o} {o'} {k} {n} {x} m long wide same P = record {
     copied = λ e j h low.
         let is : e ≡ local (get_or t (i + 1) 0) = (local_here h m).0 in
         let small : get_or t (i + 1) 0 < max_locals = rw is at low in
         let moved : x ≡ suc (suc (suc (get_or t (i + 1) 0))) = omega (arith, same) in
-        rw is (rw (m, moved) at (put_cons P Q));
-    ends = λ e j h low. let one : payload_of (get_or t i 0) ≡ 1 = rw m refl in omega (arith, (local_here h m).1);
+        rw is (rw (m, moved) at P);
+    ends = λ e j h low. let one : payload_of (get_or t i 0) ≡ 1 = rw m refl in omega (arith, wide, (local_here h m).1);
     forward = omega arith;
   }
 
   -- a constant
-  pub copy_constant : {o o' : List ℕ} {p r k n : ℕ} → k ≡ operands_of (get_or t i 0) → (k ≡ 1 → ⊥) → (k ≡ 2 → ⊥) → (get_or t i 0 ≡ 5 → ⊥)
-      → n ≡ payload_of (get_or t i 0) → Put o p (slice i (i + 1 + n) t) o' r → Copies t i d o p o' (record { next = i + 1 + n; to = r })
-  copy_constant {o} {o'} {p} {r} {k} {n} a f g m long P = record {
+  pub copy_constant : {o o' : Page} {k l n : ℕ} → k ≡ operands_of (get_or t i 0) → (k ≡ 1 → ⊥) → (k ≡ 2 → ⊥) → (get_or t i 0 ≡ 5 → ⊥)
+      → l ≡ payload_of (get_or t i 0) → n ≡ l → Puts o (take (i + 1 + n - i) (drop i t)) o' → Copies t i d o o' (i + 1 + n)
+  copy_constant {o} {o'} {k} {l} {n} a f g m long wide P = record {
     copied = λ e j h low.
         let leaf : Leaf t i e j = leaf_here e h (λ b. f (a ∙ b)) (λ b. g (a ∙ b)) in
-        let ends : i + 1 + n ≡ j = omega (arith, leaf.long) in
+        let ends : i + 1 + n ≡ j = omega (arith, wide, leaf.long) in
         rw (leaf.stays m, ← slice_is h.stands, ← ends) P;
-    ends = λ e j h low. omega (arith, (leaf_here e h (λ b. f (a ∙ b)) (λ b. g (a ∙ b))).long);
+    ends = λ e j h low. omega (arith, wide, (leaf_here e h (λ b. f (a ∙ b)) (λ b. g (a ∙ b))).long);
     forward = omega arith;
   }
 
   -- ---- operators
 
   -- on one value
-  pub copy_one_lem : {o o' o'' : List ℕ} {p q k : ℕ} {r : Copied} → k ≡ operands_of (get_or t i 0) → k ≡ 1 → Put o p (get_or t i 0 ∷ []) o' q
-      → Copies t (i + 1) (d - 1) o' q o'' r → Copies t i d o p o'' r
-  copy_one_lem {o} {o'' = o''} {p} {k = k} {r} a b P C = record {
+  pub copy_one_lem : {o o' o'' : Page} {k : ℕ} {r : ℕ} → k ≡ operands_of (get_or t i 0) → k ≡ 1 → Puts o (get_or t i 0 ∷ []) o'
+      → Copies t (i + 1) (d - 1) o' o'' r → Copies t i d o o'' r
+  copy_one_lem {o} {o'' = o''} {k = k} {r} a b P C = record {
     copied = λ e j h low. copied e j h low (here e j h);
     ends = λ e j h low. ends e j h low (here e j h);
     forward = omega (arith, C.forward);
@@ -150,18 +149,18 @@ module _ {t : List ℕ} {i d : ℕ} where
       here : (e : Expr) (j : ℕ) → ExprAt t i d e j → OneAt t i d mark.0 e j
       here e j h = one_here h mark.1
 
-      copied : (e : Expr) (j : ℕ) → ExprAt t i d e j → Low max_locals e → OneAt t i d mark.0 e j → Put o p (expr (shift e)) o'' r.to
+      copied : (e : Expr) (j : ℕ) → ExprAt t i d e j → Low max_locals e → OneAt t i d mark.0 e j → Puts o (expr (shift e)) o''
       copied e j h low w =
           let byte : get_or t i 0 ≡ mark₁ mark.0 = first (rw w.is at h.stands) in
-          rw w.is (rw byte at (put_cons P (C.copied w.a j w.inner (rw w.is at low))))
+          rw w.is (rw byte at (puts_cons P (C.copied w.a j w.inner (rw w.is at low))))
 
-      ends : (e : Expr) (j : ℕ) → ExprAt t i d e j → Low max_locals e → OneAt t i d mark.0 e j → r.next ≡ j
+      ends : (e : Expr) (j : ℕ) → ExprAt t i d e j → Low max_locals e → OneAt t i d mark.0 e j → r ≡ j
       ends e j h low w = C.ends w.a j w.inner (rw w.is at low)
 
   -- on two
-  pub copy_two : {o o' o'' o''' : List ℕ} {p q k : ℕ} {x y : Copied} → k ≡ operands_of (get_or t i 0) → k ≡ 2 → Put o p (get_or t i 0 ∷ []) o' q
-      → Copies t (i + 1) (d - 1) o' q o'' x → Copies t x.next (d - 1) o'' x.to o''' y → Copies t i d o p o''' y
-  copy_two {o} {o''' = o'''} {p} {k = k} {x} {y} a b P X Y = record {
+  pub copy_two : {o o' o'' o''' : Page} {k : ℕ} {x y : ℕ} → k ≡ operands_of (get_or t i 0) → k ≡ 2 → Puts o (get_or t i 0 ∷ []) o'
+      → Copies t (i + 1) (d - 1) o' o'' x → Copies t x (d - 1) o'' o''' y → Copies t i d o o''' y
+  copy_two {o} {o''' = o'''} {k = k} {x} {y} a b P X Y = record {
     copied = λ e j h low. copied e j h low (here e j h);
     ends = λ e j h low. ends e j h low (here e j h);
     forward = omega (arith, X.forward, Y.forward);
@@ -173,24 +172,24 @@ module _ {t : List ℕ} {i d : ℕ} where
       here : (e : Expr) (j : ℕ) → ExprAt t i d e j → TwoAt t i d mark.0 e j
       here e j h = two_here h mark.1
 
-      copied : (e : Expr) (j : ℕ) → ExprAt t i d e j → Low max_locals e → TwoAt t i d mark.0 e j → Put o p (expr (shift e)) o''' y.to
+      copied : (e : Expr) (j : ℕ) → ExprAt t i d e j → Low max_locals e → TwoAt t i d mark.0 e j → Puts o (expr (shift e)) o'''
       copied e j h low w =
           let byte : get_or t i 0 ≡ mark₂ mark.0 = first (rw w.is at h.stands) in
           let lows : Low max_locals w.a × Low max_locals w.b = rw w.is at low in
-          let mid : x.next ≡ w.k = X.ends w.a w.k w.left lows.0 in
+          let mid : x ≡ w.k = X.ends w.a w.k w.left lows.0 in
           rw w.is
-          (rw byte at (put_cons P (put_then (expr (shift w.a)) (expr (shift w.b))
+          (rw byte at (puts_cons P (puts_then (expr (shift w.a)) (expr (shift w.b))
           (X.copied w.a w.k w.left lows.0) (Y.copied w.b j (rw mid w.right) lows.1))))
 
-      ends : (e : Expr) (j : ℕ) → ExprAt t i d e j → Low max_locals e → TwoAt t i d mark.0 e j → y.next ≡ j
+      ends : (e : Expr) (j : ℕ) → ExprAt t i d e j → Low max_locals e → TwoAt t i d mark.0 e j → y ≡ j
       ends e j h low w =
           let lows : Low max_locals w.a × Low max_locals w.b = rw w.is at low in
-          let mid : x.next ≡ w.k = X.ends w.a w.k w.left lows.0 in
+          let mid : x ≡ w.k = X.ends w.a w.k w.left lows.0 in
           Y.ends w.b j (rw mid w.right) lows.1
 
 -- the byte of a local is there
-pub local_inside : (t : List ℕ) (i m : ℕ) {n : ℕ} → n ≡ payload_of m → m ≡ 5 → i + 1 + n ≤ length t → i + 1 < length t
-local_inside t i m long e l = let one : payload_of m ≡ 1 = rw e refl in omega arith
+pub local_inside : (t : List ℕ) (i m : ℕ) {k n : ℕ} → k ≡ payload_of m → n ≡ k → m ≡ 5 → i + 1 + n ≤ length t → i + 1 < length t
+local_inside t i m long wide e l = let one : payload_of m ≡ 1 = rw e refl in omega arith
 
 -- one law for each way
 pub ruleset copy_ways = (local_inside, copy_deep, copy_past, copy_cut, copy_local, copy_constant, copy_one_lem, copy_two)

@@ -13,7 +13,7 @@ use Rattle.format.proofs.Laws.TablePlaces.{records_at, record_stands, main_stand
 use Rattle.format.specs.Encode.{record_size}
 use Rattle.format.specs.Rules.{limits}
 use Rattle.translation.specs.Placement.{locals_of}
-use Rattle.emit.specs.Laws.Shapes.{Shaped, LocalsAt, MainAt, HubAt, SiteAt, RowsAt}
+use Rattle.emit.specs.Laws.Shapes.{Shaped, LocalsAt, MainAt, SiteAt, RowsAt}
 use Rattle.emit.specs.declared.layout.Shape.{Shape}
 use Rattle.emit.specs.declared.layout.Site.{Site}
 
@@ -35,44 +35,40 @@ main_small p w k m e =
     let found = takes_at p.procs m 0 (each_at (λ (n : ℕ). Takes p.procs n 0) p.mains k w.sound.mains e) in
     omega (arith, at_below p.procs m found.1, w.sound.procs.high)
 
--- ptid and pct
-pub hub : {h : Shape} → HubAt h (record { ptid = h.locations; pct = h.locations + 1 })
-hub = record { gives = λ t p w. record { ptid = w.locations; pct = ap (λ (n : ℕ). n + 1) w.locations } }
-
 module _ {t : List ℕ} {h : Shape} where
   -- ---- locals
 
   -- past the last procedure
-  pub locals_past : {m : ℕ} → h.procedures ≤ m → LocalsAt t h m 0
-  locals_past {m} l = record { gives = λ p w. sym (ap locals_of (at_past p.procs m (omega (arith, w.procedures)))) }
+  pub locals_past : {m n : ℕ} → n ≡ h.procedures → n ≤ m → LocalsAt t h m 0
+  locals_past {m} same l = record { gives = λ p w. sym (ap locals_of (at_past p.procs m (omega (arith, same, l, w.procedures)))) }
 
   -- in the record of a procedure
-  pub locals_in : {m r : ℕ} → m < h.procedures → r ≡ get_or t (h.records + record_size * m + 1) 0 → LocalsAt t h m r
-  locals_in {m} {r} l e = record { gives = λ p w. by p w (at p.procs m) refl }
+  pub locals_in : {m n i r : ℕ} → n ≡ h.procedures → m < n → i ≡ h.records → r ≡ get_or t (i + record_size * m + 1) 0 → LocalsAt t h m r
+  locals_in {m} {i = i} {r} count l start e = record { gives = λ p w. by p w (at p.procs m) refl }
     where
       by : (p : Program Plain) → Shaped t h p → (q : Maybe (Proc Plain)) → at p.procs m ≡ q → r ≡ locals_of (at p.procs m)
       by p w (is q) f =
           let s = others (record_stands concurrent p w.is m f) in
-          let same : h.records + record_size * m + 1 ≡ records_at p + record_size * m + 1 = omega (arith, w.records) in
+          let same : i + record_size * m + 1 ≡ records_at p + record_size * m + 1 = omega (arith, start, w.records) in
           e ∙ rw same (first s) ∙ sym (ap locals_of f)
-      by p w nothing f = nowhere p.procs m (omega (arith, w.procedures)) f
+      by p w nothing f = nowhere p.procs m (omega (arith, count, l, w.procedures)) f
 
   -- ---- mains
 
   -- past the last thread
-  pub main_past : {k r : ℕ} → h.threads ≤ k → MainAt t h k r
-  main_past {k} l = record { gives = λ p m w e. absurd (omega (arith, w.threads, at_below p.mains k e)) }
+  pub main_past : {k n r : ℕ} → n ≡ h.threads → n ≤ k → MainAt t h k r
+  main_past {k} same l = record { gives = λ p m w e. absurd (omega (arith, same, l, w.threads, at_below p.mains k e)) }
 
   -- in the table
-  pub main_in : {k r : ℕ} → r ≡ number_at 2 t (h.records + record_size * h.procedures + 2 * h.locations + 2 * k) → MainAt t h k r
-  main_in {k} {r} e = record {
+  pub main_in : {k i n l a r : ℕ} → i ≡ h.records → n ≡ h.procedures → l ≡ h.locations → a ≡ number_at 2 t (i + record_size * n + 2 * l + 2 * k) → r ≡ a
+      → MainAt t h k r
+  main_in {k} {i} {n} {l} start procs places e same = record {
     gives = λ p m w f.
         let s = main_stands concurrent p w.is k f in
-        let same : h.records + record_size * h.procedures + 2 * h.locations + 2 * k
-        ≡ records_at p + record_size * length p.procs + 2 * length p.sizes + 2 * k =
-        omega (arith, w.records, w.procedures, w.locations)
+        let place : i + record_size * n + 2 * l + 2 * k ≡ records_at p + record_size * length p.procs + 2 * length p.sizes + 2 * k =
+        omega (arith, start, procs, places, w.records, w.procedures, w.locations)
         in
-        e ∙ rw same (omega (arith, two_bytes m s (main_small p w k m f)));
+        same ∙ e ∙ rw place (omega (arith, two_bytes m s (main_small p w k m f)));
   }
 
   -- ---- the places
@@ -82,24 +78,25 @@ module _ {t : List ℕ} {h : Shape} where
   site_past {m} l = record { gives = λ p q w e. absurd (omega (arith, w.sound.procs.high, at_below p.procs m e)) }
 
   -- the site of a procedure
-  pub site : {m n b : ℕ} → LocalsAt t h m n → b ≡ get_or h.starts m 0
-      → SiteAt t h m (record { locals = n; pct = h.locations + 1; from = h.locations + 2 + m; home = h.locations + 2 + h.procedures + b })
-  site {m} {n} {b} L start = record {
+  pub site : {m n b l k : ℕ} → LocalsAt t h m n → l ≡ h.locations → k ≡ h.procedures → b ≡ get_or h.starts m 0
+      → SiteAt t h m (record { locals = n; pct = l + 1; from = l + 2 + m; home = l + 2 + k + b })
+  site {m} {n} {b} {l} {k} L places procs start = record {
     gives = λ p q w e. record {
       locals = L.gives p w ∙ ap locals_of e;
       few = (proc_sound w.sound m q e).locals;
-      pct = omega (arith, w.locations);
-      from = omega (arith, w.locations);
-      home = λ x. omega (arith, w.locations, w.procedures, start, w.starts m (at_below p.procs m e));
+      pct = omega (arith, places, w.locations);
+      from = omega (arith, places, w.locations);
+      home = λ x. omega (arith, places, procs, w.locations, w.procedures, start, w.starts m (at_below p.procs m e));
     };
   }
 
 -- the locations of size T
-pub rows : {h : Shape} → h.procedures < 2 ^ 16 → h.row < 2 ^ 16 → RowsAt h (1 + h.procedures + h.row)
-rows {h} a b = record {
-  gives = λ t p w. ap₂ (λ (n k : ℕ). p.sizes ++ (1 ∷ replicate (1 + n + k) (length p.mains))) (sym w.procedures) (sym w.row);
+pub rows : {h : Shape} {n k : ℕ} → h.procedures < 2 ^ 16 → h.row < 2 ^ 16 → n ≡ h.procedures → k ≡ h.row → RowsAt h (1 + n + k)
+rows {h} a b procs row = record {
+  gives = λ t p w.
+      ap₂ (λ (n k : ℕ). p.sizes ++ (1 ∷ replicate (1 + n + k) (length p.mains))) (sym w.procedures ∙ sym procs) (sym w.row ∙ sym row);
   most = omega arith;
 }
 
 -- one law for each way
-pub ruleset place_ways = (rows, locals_past, locals_in, main_past, main_in, hub, site_past, site)
+pub ruleset place_ways = (rows, locals_past, locals_in, main_past, main_in, site_past, site)

@@ -1,22 +1,20 @@
 -- One law for each way through the code of assign, read and write.
-use Rattle.std.proofs.Common.{◌≡◌, ℕ, ◌+◌, ◌%◌, ◌<◌, ◌≤◌, List, [], ◌∷◌, get_or, sym, ap, ◌∙◌, arith}
-use Rattle.value.proofs.Laws.Tests.{either_false}
+use Rattle.std.proofs.Common.{◌≡◌, ℕ, ◌+◌, ◌%◌, ◌<◌, ◌≤◌, List, [], ◌∷◌, get_or, ap, ◌∙◌, arith}
 use Rattle.format.specs.Syntax.{Expr, constant, local, one, two, Instr, assign, write, read, while, if, call, atomic, select}
 use Rattle.format.specs.Encode.{expr}
 use Rattle.format.proofs.Laws.Stands.{first}
 use Rattle.format.proofs.Laws.Grammar.{ExprAt, InstrAt, AssignAt, WriteAt, ReadAt, assign_here, write_here, read_here}
-use Rattle.labels.specs.Walks.{Gathers, ExprEnds}
+use Rattle.labels.specs.Walks.{ExprEnds}
 use Rattle.format.specs.Decode.{max_depth}
 use Rattle.format.specs.Rules.{max_locals}
-use Rattle.labels.specs.declared.variables.Gathered.{Gathered}
 use Rattle.translation.specs.Layout.{Layout}
-use Rattle.translation.specs.Code.{loc, tmp, moved, mentioned, shift, inside_i}
-use Rattle.writer.specs.Laws.Put.{Put, PutInstr, Writes}
-use Rattle.emit.specs.Laws.Sources.{Low, Copies, Sited, Loads, LoadsAll, LoadsOf, Stores, Holds, LoadsWrite, Sets, Gets, InPlaceI}
+use Rattle.translation.specs.Code.{loc, tmp, moved, shift, inside_i}
+use Rattle.writer.specs.Laws.Pages.{Puts, PutsInstr, Writes}
+use Rattle.emit.specs.Laws.Sources.{Low, Copies, Sited, Loads, LoadsOf, Stores, Holds, LoadsWrite, Sets, Gets, InPlaceI}
 use Rattle.emit.specs.Laws.Sources.{Plain, PlainIf}
-use Rattle.emit.specs.declared.exprs.Copied.{Copied}
+use Rattle.writer.specs.declared.page.Page.{Page}
 use Rattle.emit.specs.declared.layout.Site.{Site}
-use Rattle.writer.proofs.Puts.{put_then, put_cons}
+use Rattle.writer.proofs.Paging.{puts_then}
 use Rattle.emit.proofs.Coding.{writes_instr, writes_then, kept}
 
 -- locals below n are below more
@@ -30,32 +28,14 @@ low_more (two o a b) h l = (low_more a h l.0, low_more b h l.1)
 moved_byte : {x y : ℕ} → y ≡ (x + 3) % 256 → x < max_locals → y ≡ moved x
 moved_byte e h = omega (arith, e, h)
 
--- local x into its location
-pub held : {s : Site} {x l y : ℕ} {o o₁ o₂ o₃ o₄ : List ℕ} {p p₁ p₂ p₃ p₄ : ℕ} → l ≡ s.home + x → PutInstr o p (assign tmp (loc l)) o₁ p₁
-    → Put o₁ p₁ (0x21 ∷ 1 ∷ 5 ∷ 0 ∷ []) o₂ p₂ → Put o₂ p₂ (5 ∷ []) o₃ p₃ → y ≡ (x + 3) % 256 → Put o₃ p₃ (y ∷ []) o₄ p₄ → Holds s x o p o₄ p₄
-held {s} {x} {l} {y} e A B C f D = record {
-  gives = λ G m n h low.
-      let place : l ≡ G.home m x = e ∙ h.home x in
-      let name : y ≡ moved x = moved_byte f (omega (arith, low, h.few)) in
-      writes_then (writes_instr (rw place at A)) (writes_instr (kept B (record { puts = put_cons C (rw name at D) })));
-}
-
 module _ {t : List ℕ} where
   -- ---- loads
-
-  -- those of an expression's variables
-  pub loads_of : {i : ℕ} {g : Gathered} {s : Site} {o o' : List ℕ} {p r : ℕ} → Gathers t i max_depth g → LoadsAll s g.set o p o' r
-      → LoadsOf t i s o p o' r
-  loads_of {g = g} A L = record {
-    gives = λ G m n e j h at.
-        L.gives G m n (e ∷ []) h (λ x l. A.set e j at.stands x l ∙ sym (either_false (mentioned x e)));
-  }
 
   -- ---- stores
 
   -- tmp := location l; tmp[tid] := e
-  pub store : {i l : ℕ} {o o₁ o₂ o₃ : List ℕ} {p p₁ p₂ : ℕ} {r : Copied} → PutInstr o p (assign tmp (loc l)) o₁ p₁
-      → Put o₁ p₁ (0x21 ∷ 1 ∷ 5 ∷ 0 ∷ []) o₂ p₂ → Copies t i max_depth o₂ p₂ o₃ r → Stores t i l o p o₃ r
+  pub store : {i l : ℕ} {o o₁ o₂ o₃ : Page} {r : ℕ} → PutsInstr o (assign tmp (loc l)) o₁
+      → Puts o₁ (0x21 ∷ 1 ∷ 5 ∷ 0 ∷ []) o₂ → Copies t i max_depth o₂ o₃ r → Stores t i l o o₃ r
   store A B C = record {
     gives = λ G m n e j h low. writes_then (writes_instr A) (writes_instr (kept B (record { puts = C.copied e j h low })));
     ends = C.ends;
@@ -63,25 +43,25 @@ module _ {t : List ℕ} where
   }
 
   -- assign
-  pub assigned : {i x l : ℕ} {s : Site} {o o₁ o₂ : List ℕ} {p p₁ : ℕ} {r : Copied} → get_or t i 0 ≡ 0x20 → LoadsOf t (i + 2) s o p o₁ p₁
-      → x ≡ get_or t (i + 1) 0 → l ≡ s.home + x → Stores t (i + 2) l o₁ p₁ o₂ r → Plain t i s o p o₂ r
-  assigned {i} {x} {l} {s} {o} {o₁} {o₂} {p} {p₁} {r} b L same place S = record {
+  pub assigned : {i x l : ℕ} {s : Site} {o o₁ o₂ : Page} {r : ℕ} → get_or t i 0 ≡ 0x20 → LoadsOf t (i + 2) s o o₁
+      → x ≡ get_or t (i + 1) 0 → l ≡ s.home + x → Stores t (i + 2) l o₁ o₂ r → Plain t i s o o₂ r
+  assigned {i} {x} {l} {s} {o} {o₁} {o₂} {r} b L same place S = record {
     gives = λ G m n d a j h at ok. gives G m n d a j h ok (assign_here at b);
     ends = λ n d a j few at ok. ends n d a j few ok (assign_here at b);
     forward = omega (arith, S.forward);
   }
     where
       gives : (G : Layout) (m n d : ℕ) (a : Instr ℕ) (j : ℕ) → Sited G m n s → InPlaceI n a → AssignAt t i d a j
-          → Writes o p (inside_i G m n a) o₂ r.to
+          → Writes o (inside_i G m n a) o₂
       gives G m n d a j h ok w =
           let ok' : (get_or t (i + 1) 0 < n) × Low n w.e = rw w.is at ok in
           let home : l ≡ G.home m (get_or t (i + 1) 0) = place ∙ ap (λ (y : ℕ). s.home + y) same ∙ h.home _ in
-          let S' : Stores t (i + 2) (G.home m (get_or t (i + 1) 0)) o₁ p₁ o₂ r = rw home at S in
+          let S' : Stores t (i + 2) (G.home m (get_or t (i + 1) 0)) o₁ o₂ r = rw home at S in
           rw w.is
           (writes_then (L.gives G m n w.e j h (record { stands = w.source; low = ok'.1 }))
           (S'.gives G m n w.e j w.source (low_more w.e h.few ok'.1)))
 
-      ends : (n d : ℕ) (a : Instr ℕ) (j : ℕ) → n ≤ max_locals → InPlaceI n a → AssignAt t i d a j → r.next ≡ j
+      ends : (n d : ℕ) (a : Instr ℕ) (j : ℕ) → n ≤ max_locals → InPlaceI n a → AssignAt t i d a j → r ≡ j
       ends n d a j few ok w =
           let ok' : (get_or t (i + 1) 0 < n) × Low n w.e = rw w.is at ok in
           S.ends w.e j w.source (low_more w.e few ok'.1)
@@ -89,39 +69,40 @@ module _ {t : List ℕ} where
   -- ---- write
 
   -- the loads
-  pub write_loads : {i k y : ℕ} {s : Site} {o o₁ o₂ o₃ : List ℕ} {p p₁ p₂ p₃ : ℕ} → LoadsOf t k s o p o₁ p₁ → LoadsOf t i s o₁ p₁ o₂ p₂
-      → Loads s y o₂ p₂ o₃ p₃ → LoadsWrite t i k s y o p o₃ p₃
+  pub write_loads : {i k y : ℕ} {s : Site} {o o₁ o₂ o₃ : Page} → LoadsOf t k s o o₁ → LoadsOf t i s o₁ o₂
+      → Loads s y o₂ o₃ → LoadsWrite t i k s y o o₃
   write_loads {k = k} E A L = record {
     gives = λ G m n a e j h sa se low.
         writes_then (E.gives G m n e j h se) (writes_then (A.gives G m n a k h sa) (L.gives G m n h low));
   }
 
   -- y[a] := e
-  pub set_one_lem : {i y z : ℕ} {o o₁ o₂ o₃ o₄ : List ℕ} {p p₁ p₂ : ℕ} {u r : Copied} → Put o p (0x21 ∷ []) o₁ p₁ → z ≡ (y + 3) % 256
-      → Put o₁ p₁ (z ∷ []) o₂ p₂ → Copies t i max_depth o₂ p₂ o₃ u → Copies t u.next max_depth o₃ u.to o₄ r → Sets t i y o p o₄ r
-  set_one_lem {i} {y} {z} {o} {o₁} {o₂} {o₃} {o₄} {p} {p₁} {p₂} {u} {r} A b B C D = record {
+  pub set_one_lem : {i y z : ℕ} {o o₁ o₂ o₃ : Page} {u r : ℕ} → z ≡ (y + 3) % 256 → Puts o (0x21 ∷ z ∷ []) o₁ → Copies t i max_depth o₁ o₂ u
+      → Copies t u max_depth o₂ o₃ r → Sets t i y o o₃ r
+  set_one_lem {i} {y} {z} {o} {o₁} {u = u} b A C D = record {
     gives = λ a e k j ha la he le low.
-        let mid : u.next ≡ k = C.ends a k ha la in
+        let mid : u ≡ k = C.ends a k ha la in
         let name : z ≡ moved y = moved_byte b low in
+        let first : Puts o (0x21 ∷ moved y ∷ []) o₁ = rw name at A in
         record {
-          puts = put_cons A
-              (put_cons (rw name at B) (put_then (expr (shift a)) (expr (shift e)) (C.copied a k ha la) (D.copied e j (rw mid he) le)));
+          puts = puts_then (0x21 ∷ moved y ∷ []) _ first
+              (puts_then (expr (shift a)) (expr (shift e)) (C.copied a k ha la) (D.copied e j (rw mid he) le));
         };
-    ends = λ a e k j ha la he le. let mid : u.next ≡ k = C.ends a k ha la in D.ends e j (rw mid he) le;
+    ends = λ a e k j ha la he le. let mid : u ≡ k = C.ends a k ha la in D.ends e j (rw mid he) le;
     forward = omega (arith, C.forward, D.forward);
   }
 
   -- write
-  pub written : {i k y : ℕ} {s : Site} {o o₁ o₂ : List ℕ} {p p₁ : ℕ} {r : Copied} → get_or t i 0 ≡ 0x21 → y ≡ get_or t (i + 1) 0 → ExprEnds t (i + 2) k
-      → LoadsWrite t (i + 2) k s y o p o₁ p₁ → Sets t (i + 2) y o₁ p₁ o₂ r → Plain t i s o p o₂ r
-  written {i} {k} {y} {s} {o} {o₁} {o₂} {p} {p₁} {r} b same K L S = record {
+  pub written : {i k y : ℕ} {s : Site} {o o₁ o₂ : Page} {r : ℕ} → get_or t i 0 ≡ 0x21 → y ≡ get_or t (i + 1) 0 → ExprEnds t (i + 2) k
+      → LoadsWrite t (i + 2) k s y o o₁ → Sets t (i + 2) y o₁ o₂ r → Plain t i s o o₂ r
+  written {i} {k} {y} {s} {o} {o₁} {o₂} {r} b same K L S = record {
     gives = λ G m n d a j h at ok. gives G m n d a j h ok (write_here at b);
     ends = λ n d a j few at ok. ends n d a j few ok (write_here at b);
     forward = omega (arith, S.forward);
   }
     where
       gives : (G : Layout) (m n d : ℕ) (a : Instr ℕ) (j : ℕ) → Sited G m n s → InPlaceI n a → WriteAt t i d a j
-          → Writes o p (inside_i G m n a) o₂ r.to
+          → Writes o (inside_i G m n a) o₂
       gives G m n d a j h ok w =
           let ok' : (get_or t (i + 1) 0 < n) × Low n w.o × Low n w.e = rw w.is at ok in
           let mid : k ≡ w.k = K.ends w.o w.k w.offset in
@@ -134,37 +115,25 @@ module _ {t : List ℕ} where
           (S.gives w.o w.e k j offset (low_more w.o h.few ok'.1) source (low_more w.e h.few ok'.2)
           (omega (arith, low, h.few)))))
 
-      ends : (n d : ℕ) (a : Instr ℕ) (j : ℕ) → n ≤ max_locals → InPlaceI n a → WriteAt t i d a j → r.next ≡ j
+      ends : (n d : ℕ) (a : Instr ℕ) (j : ℕ) → n ≤ max_locals → InPlaceI n a → WriteAt t i d a j → r ≡ j
       ends n d a j few ok w =
           let ok' : (get_or t (i + 1) 0 < n) × Low n w.o × Low n w.e = rw w.is at ok in
           S.ends w.o w.e w.k j w.offset (low_more w.o few ok'.1) w.source (low_more w.e few ok'.2)
 
   -- ---- read
 
-  -- x := y[a]
-  pub get_one : {i x y u v : ℕ} {o o₁ o₂ : List ℕ} {p p₁ : ℕ} {r : Copied} → u ≡ (x + 3) % 256 → v ≡ (y + 3) % 256
-      → Put o p (0x22 ∷ u ∷ v ∷ []) o₁ p₁ → Copies t i max_depth o₁ p₁ o₂ r → Gets t i x y o p o₂ r
-  get_one {x = x} {y} {u} {v} a b A C = record {
-    gives = λ e j h low lx ly.
-        let first : u ≡ moved x = moved_byte a lx in
-        let second : v ≡ moved y = moved_byte b ly in
-        record { puts = put_then (0x22 ∷ moved x ∷ moved y ∷ []) (expr (shift e)) (rw (first, second) at A) (C.copied e j h low) };
-    ends = C.ends;
-    forward = C.forward;
-  }
-
   -- read
-  pub got : {i x y : ℕ} {s : Site} {o o₁ o₂ o₃ o₄ : List ℕ} {p p₁ p₂ p₄ : ℕ} {r : Copied} → get_or t i 0 ≡ 0x22 → x ≡ get_or t (i + 1) 0
+  pub got : {i x y : ℕ} {s : Site} {o o₁ o₂ o₃ o₄ : Page} {r : ℕ} → get_or t i 0 ≡ 0x22 → x ≡ get_or t (i + 1) 0
       → y ≡ get_or t (i + 2) 0
-      → LoadsOf t (i + 3) s o p o₁ p₁ → Loads s y o₁ p₁ o₂ p₂ → Gets t (i + 3) x y o₂ p₂ o₃ r → Holds s x o₃ r.to o₄ p₄
-      → Plain t i s o p o₄ (record { next = r.next; to = p₄ })
-  got {i} {x} {y} {s} {o} {o₄ = o₄} {p} {p₄ = p₄} {r} b xs ys L O S H = record {
+      → LoadsOf t (i + 3) s o o₁ → Loads s y o₁ o₂ → Gets t (i + 3) x y o₂ o₃ r → Holds s x o₃ o₄
+      → Plain t i s o o₄ r
+  got {i} {x} {y} {s} {o} {o₄ = o₄} {r} b xs ys L O S H = record {
     gives = λ G m n d a j h at ok. gives G m n d a j h ok (read_here at b);
     ends = λ n d a j few at ok. ends n d a j few ok (read_here at b);
     forward = omega (arith, S.forward);
   }
     where
-      gives : (G : Layout) (m n d : ℕ) (a : Instr ℕ) (j : ℕ) → Sited G m n s → InPlaceI n a → ReadAt t i d a j → Writes o p (inside_i G m n a) o₄ p₄
+      gives : (G : Layout) (m n d : ℕ) (a : Instr ℕ) (j : ℕ) → Sited G m n s → InPlaceI n a → ReadAt t i d a j → Writes o (inside_i G m n a) o₄
       gives G m n d a j h ok w =
           let ok' : (get_or t (i + 1) 0 < n) × (get_or t (i + 2) 0 < n) × Low n w.o = rw w.is at ok in
           let lx : x < n = rw xs ok'.0 in
@@ -176,7 +145,7 @@ module _ {t : List ℕ} where
           (writes_instr (S.gives w.o j w.offset (low_more w.o h.few ok'.2) (omega (arith, lx, h.few)) (omega (arith, ly, h.few))))
           (H.gives G m n h lx))))
 
-      ends : (n d : ℕ) (a : Instr ℕ) (j : ℕ) → n ≤ max_locals → InPlaceI n a → ReadAt t i d a j → r.next ≡ j
+      ends : (n d : ℕ) (a : Instr ℕ) (j : ℕ) → n ≤ max_locals → InPlaceI n a → ReadAt t i d a j → r ≡ j
       ends n d a j few ok w =
           let ok' : (get_or t (i + 1) 0 < n) × (get_or t (i + 2) 0 < n) × Low n w.o = rw w.is at ok in
           S.ends w.o j w.offset (low_more w.o few ok'.2)
@@ -184,12 +153,12 @@ module _ {t : List ℕ} where
   -- ---- whichever it is
 
   -- one of the three
-  pub plain_one : {i : ℕ} {s : Site} {o o' : List ℕ} {p : ℕ} {r : Copied} → Plain t i s o p o' r → PlainIf t i s o p o' r
+  pub plain_one : {i : ℕ} {s : Site} {o o' : Page} {r : ℕ} → Plain t i s o o' r → PlainIf t i s o o' r
   plain_one P = record { gives = λ f. P; forward = P.forward }
 
   -- another: none of these may stand in an atomic block
-  pub plain_none : {i : ℕ} {s : Site} {o o' : List ℕ} {p q : ℕ} → (get_or t i 0 ≡ 0x20 → ⊥) → (get_or t i 0 ≡ 0x21 → ⊥) → (get_or t i 0 ≡ 0x22 → ⊥)
-      → PlainIf t i s o p o' (record { next = i + 1; to = q })
+  pub plain_none : {i : ℕ} {s : Site} {o o' : Page} → (get_or t i 0 ≡ 0x20 → ⊥) → (get_or t i 0 ≡ 0x21 → ⊥) → (get_or t i 0 ≡ 0x22 → ⊥)
+      → PlainIf t i s o o' (i + 1)
   plain_none {i} f g k = record {
     gives = λ b. record {
       gives = λ G m n d a j h at ok. absurd (never n d a j at ok b);
@@ -210,4 +179,4 @@ module _ {t : List ℕ} where
       never n d (select x y) j at ok b = ok
 
 -- one law for each way
-pub ruleset plain_ways = (loads_of, store, assigned, write_loads, set_one_lem, written, get_one, held, got, plain_one, plain_none)
+pub ruleset plain_ways = (store, assigned, write_loads, set_one_lem, written, got, plain_one, plain_none)

@@ -1,5 +1,5 @@
 // Where the copy keeps what: the locations after the source's. No other file knows their numbers.
-ghost use Rattle.std.specs.Prelude.{◌≡◌, ◌+◌, ◌^◌, ◌<◌};
+ghost use Rattle.std.specs.Prelude.{◌≡◌, ◌+◌};
 ghost use Rattle.emit.specs.Laws.Shapes.{LocalsAt, MainAt, HubAt, SiteAt, RowsAt};
 
 use basics::bytes::{byte_at, two_bytes};
@@ -8,6 +8,7 @@ use translation::Mode;
 
 // What is known of an accepted concurrent table: where its procedure records begin, and its counts; and where its copy's mode places the
 // locals: where those of each procedure begin in their row, and how long the row is.
+// stays: numbers of 16 bits here, and of 32 in a site, by which no sum of them wraps.
 #[derive(Clone, Copy)]
 pub struct Shape {
     pub records: u16,
@@ -41,39 +42,32 @@ pub struct Site {
 pub fn locals_of(t: &[u8], shape: Shape, m: usize) -> u8
     ensures { LocalsAt t.now shape m result }
 {
-    if shape.procedures as usize <= m {
+    if usize::from(shape.procedures) <= m {
         return 0;
     }
-    byte_at(t, shape.records as usize + RECORD * m + 1)
+    byte_at(t, usize::from(shape.records) + RECORD * m + 1)
 }
 
 // The main procedure of thread k.
 pub fn main_of(t: &[u8], shape: Shape, k: usize) -> usize
     ensures { MainAt t.now shape k result }
 {
-    if shape.threads as usize <= k {
+    if usize::from(shape.threads) <= k {
         return 0;
     }
-    let sizes = shape.records as usize + RECORD * (shape.procedures as usize);
-    two_bytes(t, sizes + SIZE * (shape.locations as usize) + MAIN * k) as usize
+    let sizes = usize::from(shape.records) + RECORD * usize::from(shape.procedures);
+    usize::from(two_bytes(t, sizes + SIZE * usize::from(shape.locations) + MAIN * k))
 }
 
 // "ptid (size 1), pct"
 pub fn hub_of(shape: Shape) -> Hub
     ensures { HubAt shape result }
 {
-    let first = shape.locations as usize;
+    let first = usize::from(shape.locations);
     Hub {
         ptid: first,
         pct: first + 1,
     }
-}
-
-// The start of a procedure's locals, as a number of locations.
-fn wide(start: u16) -> usize
-    ensures { (result ≡ start) × (result < 2 ^ 16) }
-{
-    start as usize
 }
 
 // "one from per procedure", and after these the row of locals
@@ -88,13 +82,13 @@ pub fn site_of(t: &[u8], shape: Shape, m: usize) -> Site
             home: 0,
         };
     }
-    let first = shape.locations as usize;
-    let homes = first + 2 + shape.procedures as usize;
+    let first = u32::from(shape.locations);
+    let homes = first + 2 + u32::from(shape.procedures);
     Site {
         locals: locals_of(t, shape, m),
-        pct: (first + 1) as u32,
-        from: (first + 2 + m) as u32,
-        home: (homes + wide(shape.starts[m])) as u32,
+        pct: first + 1,
+        from: first + 2 + m as u32,
+        home: homes + u32::from(shape.starts[m]),
     }
 }
 
@@ -102,12 +96,12 @@ pub fn site_of(t: &[u8], shape: Shape, m: usize) -> Site
 pub fn rows_of(shape: Shape) -> usize
     ensures { RowsAt shape result }
 {
-    1 + shape.procedures as usize + shape.row as usize
+    1 + usize::from(shape.procedures) + usize::from(shape.row)
 }
 
 // The location of local x.
 pub fn home(s: Site, x: u8) -> usize
     ensures { result ≡ s.home + x }
 {
-    s.home as usize + x as usize
+    s.home as usize + usize::from(x)
 }

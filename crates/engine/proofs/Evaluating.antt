@@ -6,6 +6,7 @@ use mathlib.Core.List.{List}
 use mathlib.Core.Bool.{true, false}
 use lib.ListN.{length, get_or}
 use lib.IntN.{ℤ}
+use Rattle.std.specs.Prelude.{Result, Ok}
 use lib.Dec.{eqb}
 use borrow.Author.Tests.{eqb-true, eqb-false}
 use mir.Syntax.{w32}
@@ -19,8 +20,7 @@ use Rattle.value.specs.Marks.{mark₁, mark₂, two_mark, mark_of, left_kind, of
 use Rattle.basics.specs.Columns.{row_of, operands_of, applied₁, applied₂}
 use Rattle.value.specs.declared.Value.{Value}
 use Rattle.value.specs.declared.Value.TheVariants.{Whole, Location, Truth}
-use Rattle.value.specs.declared.Answer.{Answer}
-use Rattle.value.specs.declared.Answer.TheVariants.{Is}
+use Rattle.value.specs.declared.Reason.{Reason}
 use Rattle.value.specs.declared.Reason.TheVariants.{WrongKind}
 use Rattle.value.proofs.Laws.Tests.{by_test}
 use Rattle.basics.specs.Laws.Places.{number_at_lem}
@@ -183,7 +183,7 @@ module _ {t ls : List ℕ} {fb i d : ℕ} where
   as_leaf l E = record { value = λ h. E.value (shallow l h); next = λ h. E.next (shallow l h) }
 
   -- an operator's
-  pub eval_one : {x : Valued} {k : ℕ} {a : Answer} → 6 ≤ get_or t i 0 → k ≡ operands_of (get_or t i 0) → (k ≡ 2 → ⊥) → Evaluates t ls fb (i + 1) (d - 1) x
+  pub eval_one : {x : Valued} {k : ℕ} {a : Result Value Reason} → 6 ≤ get_or t i 0 → k ≡ operands_of (get_or t i 0) → (k ≡ 2 → ⊥) → Evaluates t ls fb (i + 1) (d - 1) x
       → given a ≡ operated₁ (get_or t i 0) (given x.answer) → Evaluates t ls fb i d (valued a x.next)
   unfolding operated₁ only
   eval_one {x} {k} {a} l c n X g = record {
@@ -197,7 +197,7 @@ module _ {t ls : List ℕ} {fb i d : ℕ} where
     next = λ h. X.next (only h l (λ q. n (c ∙ q)));
   }
 
-  pub eval_two : {x y : Valued} {k : ℕ} {a : Answer} → 6 ≤ get_or t i 0 → k ≡ operands_of (get_or t i 0) → k ≡ 2 → Evaluates t ls fb (i + 1) (d - 1) x
+  pub eval_two : {x y : Valued} {k : ℕ} {a : Result Value Reason} → 6 ≤ get_or t i 0 → k ≡ operands_of (get_or t i 0) → k ≡ 2 → Evaluates t ls fb (i + 1) (d - 1) x
       → Evaluates t ls fb x.next (d - 1) y → given a ≡ operated₂ (get_or t i 0) (given x.answer) (given y.answer)
       → Evaluates t ls fb i d (valued a y.next)
   unfolding operated₂ left right
@@ -245,7 +245,7 @@ module _ {t ls : List ℕ} {fb i : ℕ} where
 
   -- what they give
   pub eval_whole : {n : ℕ} {z : ℤ} → get_or t i 0 ≡ 1 → n ≡ number_at 4 t (i + 1) → z ≡ unword n → SFits w32 z
-      → Evaluates t ls fb i 1 (valued (Is (Whole (to_z w32 (of_z w32 z)))) (i + 5))
+      → Evaluates t ls fb i 1 (valued (Ok (Whole (to_z w32 (of_z w32 z)))) (i + 5))
   eval_whole {n} {z} e q u f = record {
     value = λ h.
         let w = whole_here h.here e in
@@ -253,19 +253,19 @@ module _ {t ls : List ℕ} {fb i : ℕ} where
     next = λ h. sym (whole_here h.here e).1;
   }
 
-  pub eval_location : {n : ℕ} → get_or t i 0 ≡ 2 → n ≡ number_at 2 t (i + 1) → Evaluates t ls fb i 1 (valued (Is (Location n)) (i + 3))
+  pub eval_location : {n : ℕ} → get_or t i 0 ≡ 2 → n ≡ number_at 2 t (i + 1) → Evaluates t ls fb i 1 (valued (Ok (Location n)) (i + 3))
   eval_location e q = record {
     value = λ h. ap (λ l. has (Location l)) (q ∙ number_at_lem 2 t (i + 1)) ∙ sym (ap (eval h.env) (location_here h.here e).0);
     next = λ h. sym (location_here h.here e).1;
   }
 
-  pub eval_no : get_or t i 0 ≡ 3 → Evaluates t ls fb i 1 (valued (Is (Truth false)) (i + 1))
+  pub eval_no : get_or t i 0 ≡ 3 → Evaluates t ls fb i 1 (valued (Ok (Truth false)) (i + 1))
   eval_no e = record { value = λ h. sym (ap (eval h.env) (no_here h.here e).0); next = λ h. sym (no_here h.here e).1 }
 
-  pub eval_yes : get_or t i 0 ≡ 4 → Evaluates t ls fb i 1 (valued (Is (Truth true)) (i + 1))
+  pub eval_yes : get_or t i 0 ≡ 4 → Evaluates t ls fb i 1 (valued (Ok (Truth true)) (i + 1))
   eval_yes e = record { value = λ h. sym (ap (eval h.env) (yes_here h.here e).0); next = λ h. sym (yes_here h.here e).1 }
 
-  pub eval_local : {a : Answer} → (get_or t i 0 ≡ 1 → ⊥) → (get_or t i 0 ≡ 2 → ⊥) → (get_or t i 0 ≡ 3 → ⊥) → (get_or t i 0 ≡ 4 → ⊥)
+  pub eval_local : {a : Result Value Reason} → (get_or t i 0 ≡ 1 → ⊥) → (get_or t i 0 ≡ 2 → ⊥) → (get_or t i 0 ≡ 3 → ⊥) → (get_or t i 0 ≡ 4 → ⊥)
       → given a ≡ value_in (get_or ls (fb + get_or t (i + 1) 0) 0) → Evaluates t ls fb i 1 (valued a (i + 2))
   eval_local n₁ n₂ n₃ n₄ g = record {
     value = λ h.

@@ -5,6 +5,7 @@ use mathlib.Core.Path.{◌≡◌, refl, sym, ap, ◌∙◌}
 use mathlib.Core.List.{List, [], ◌∷◌}
 use mathlib.Core.Bool.{true, false}
 use lib.ListN.{get_or, take, get_or-eq_default}
+use Rattle.std.specs.Prelude.{Result, Ok, Err}
 use lib.IntN.{ℤ, pos, negsuc, nat_abs}
 use lib.Signed.{lt_z, non_neg}
 use lib.Dec.{T}
@@ -21,17 +22,12 @@ use Rattle.value.specs.Lists.{sum}
 use Rattle.value.specs.Values.{given}
 use Rattle.value.specs.declared.Value.{Value}
 use Rattle.value.specs.declared.Value.TheVariants.{Whole, Location, Truth}
-use Rattle.value.specs.declared.Answer.{Answer}
-use Rattle.value.specs.declared.Answer.TheVariants as A
-use Rattle.basics.specs.Reasons.{lack_of}
-use Rattle.basics.specs.Laws.Reasons.{None, none_lacks}
 use Rattle.value.specs.declared.Reason.{Reason}
 use Rattle.value.specs.declared.Reason.TheVariants.{WrongKind, IndexOutside}
 use Rattle.engine.specs.declared.memory.Spot.{Spot}
-use Rattle.engine.specs.declared.memory.Spot.TheVariants.{At, Nowhere}
-use Rattle.semantics.specs.Memory.{index, Memory, cell}
+use Rattle.semantics.specs.Memory.{index, Memory}
 use Rattle.value.specs.Values.{number, place}
-use Rattle.engine.specs.Work.{most_locations, amiss_of, Found, Finds, Placed, Places}
+use Rattle.engine.specs.Work.{most_locations, Found, Finds, Placed, Places}
 use Rattle.semantics.proofs.Laws.Cells.{shape}
 use Rattle.engine.specs.Laws.Holding.{no_cell}
 use Rattle.engine.specs.Laws.Starting.{next_start}
@@ -40,13 +36,13 @@ use Rattle.engine.specs.Laws.Starting.{next_start}
 
 module _ {bs : List ℕ} {l i : ℕ} where
   -- there is no such location
-  pub far : most_locations ≤ l → Finds bs l i (Nowhere IndexOutside)
+  pub far : most_locations ≤ l → Finds bs l i (Err IndexOutside)
   far h = record {
     found = λ η b. no_cell η l i (omega (arith, get_or-eq_default (shape η) 0 {n = l} (omega (arith, b.few))));
   }
 
   -- the index is below the size
-  pub here : {a e : ℕ} → l < most_locations → a ≡ get_or bs l 0 → e ≡ get_or bs (l + 1) 0 → a + i < e → Finds bs l i (At l i (a + i))
+  pub here : {a e : ℕ} → l < most_locations → a ≡ get_or bs l 0 → e ≡ get_or bs (l + 1) 0 → a + i < e → Finds bs l i (Ok (record { location = l; index = i; cell = a + i }))
   here {a} {e} h p q s = record {
     found = λ η b.
         let from : a ≡ sum (take l (shape η)) = p ∙ b.starts l (omega arith) in
@@ -55,7 +51,7 @@ module _ {bs : List ℕ} {l i : ℕ} where
   }
 
   -- it is not
-  pub past : {a e : ℕ} → l < most_locations → a ≡ get_or bs l 0 → e ≡ get_or bs (l + 1) 0 → e ≤ a + i → Finds bs l i (Nowhere IndexOutside)
+  pub past : {a e : ℕ} → l < most_locations → a ≡ get_or bs l 0 → e ≡ get_or bs (l + 1) 0 → e ≤ a + i → Finds bs l i (Err IndexOutside)
   past {a} {e} h p q s = record {
     found = λ η b.
         let from : a ≡ sum (take l (shape η)) = p ∙ b.starts l (omega arith) in
@@ -98,58 +94,31 @@ pub high_read : (z : ℤ) → SFits w32 z → lt_z (to_z w32 (of_z w32 z)) (pos 
     → T (non_neg (to_z w32 (of_z w32 z))) × Fits w32 (nat_abs (to_z w32 (of_z w32 z)))
 high_read z f h = rw (to_z-of_z f) (high_fits z f (rw (to_z-of_z f) at h))
 
--- what is amiss with an answer that is no location
-no_pointer : (p : Answer) → (given p ⟫ place) ≡ lacks (lack_of p) → (η : Memory) (z : ℤ)
-    → (given p ⟫ place ⟫ λ l. index z ⟫ λ i. cell η l i) ≡ lacks (lack_of p)
-no_pointer p e η z = rw e
-
-module _ (bs : List ℕ) (p o : Answer) where
-  -- the pointer is amiss; the index is judged first
-  amiss_pointer : {s : Spot} → (given p ⟫ place) ≡ lacks (lack_of p) → s ≡ Nowhere (amiss_of p o) → Places bs (given p) (given o) s
-  amiss_pointer e f = rw f (record { placed = λ η b. go o η })
-    where
-      go : (o : Answer) (η : Memory) → Placed η (given p) (given o) (Nowhere (amiss_of p o))
-      go (A.Is (Whole z)) η = no_pointer p e η z
-      go (A.Is (Location l)) η = refl
-      go (A.Is (Truth b)) η = refl
-      go A.OutOfRange η = refl
-      go A.WrongKind η = refl
-
-  -- it has no value
-  pub pointer_none : {s : Spot} → None p → s ≡ Nowhere (amiss_of p o) → Places bs (given p) (given o) s
-  pointer_none h f = amiss_pointer (rw (none_lacks p h)) f
-
-  -- it is no location
-  pub pointer_other : {v : Value} {s : Spot} → p ≡ A.Is v → OneOf (0 ∷ 2 ∷ []) (tag_of the_type v) → s ≡ Nowhere (amiss_of (A.Is v) o)
-      → Places bs (given p) (given o) s
-  pointer_other {v} e h f = amiss_pointer (rw (e, no_place v h)) (rw e f)
-
+module _ (bs : List ℕ) (p o : Result Value Reason) where
   -- the index has no value
-  pub index_none : {u : Value} {s : Spot} → p ≡ A.Is u → None o → s ≡ Nowhere (amiss_of (A.Is u) o) → Places bs (given p) (given o) s
-  index_none {u} e h f = rw (f, e) (record { placed = λ η b. go o h η })
-    where
-      go : (o : Answer) → None o → (η : Memory) → Placed η (given (A.Is u)) (given o) (Nowhere (amiss_of (A.Is u) o))
-      go (A.Is v) h η = absurd (miss (1 ∷ 2 ∷ []) 0 tt h)
-      go A.OutOfRange h η = refl
-      go A.WrongKind h η = refl
+  pub index_none : {r : Reason} → o ≡ Err r → Places bs (given p) (given o) (Err r)
+  index_none e = rw e (record { placed = λ η b. refl })
 
   -- it is no whole number
-  pub index_other : {u v : Value} {s : Spot} → p ≡ A.Is u → o ≡ A.Is v → OneOf (1 ∷ 2 ∷ []) (tag_of the_type v)
-      → s ≡ Nowhere (amiss_of (A.Is u) (A.Is v)) → Places bs (given p) (given o) s
-  index_other {u} {v} g e h f = rw (f, g, e) (record { placed = λ η b. go v h η })
-    where
-      go : (v : Value) → OneOf (1 ∷ 2 ∷ []) (tag_of the_type v) → (η : Memory) → Placed η (given (A.Is u)) (given (A.Is v)) (Nowhere (amiss_of (A.Is u) (A.Is v)))
-      go (Whole z) h η = absurd (miss (1 ∷ 2 ∷ []) 0 tt h)
-      go (Location l) h η = refl
-      go (Truth b) h η = refl
+  pub index_other : {v : Value} → o ≡ Ok v → OneOf (1 ∷ 2 ∷ []) (tag_of the_type v) → Places bs (given p) (given o) (Err WrongKind)
+  index_other {v} e h = rw e (record { placed = λ η b. rw (no_number v h) })
+
+  -- it is, and the pointer has no value
+  pub pointer_none : {u : Value} {z : ℤ} {r : Reason} → o ≡ Ok u → u ≡ Whole z → p ≡ Err r → Places bs (given p) (given o) (Err r)
+  pointer_none e q f = rw (e, q, f) (record { placed = λ η b. refl })
+
+  -- it is no location
+  pub pointer_other : {u v : Value} {z : ℤ} → o ≡ Ok u → u ≡ Whole z → p ≡ Ok v → OneOf (0 ∷ 2 ∷ []) (tag_of the_type v)
+      → Places bs (given p) (given o) (Err WrongKind)
+  pointer_other {v = v} e q f h = rw (e, q, f) (record { placed = λ η b. rw (no_place v h) })
 
   -- both are at hand, and the index is below zero
-  pub index_low : {u v : Value} {z : ℤ} {l : ℕ} → p ≡ A.Is v → v ≡ Location l → o ≡ A.Is u → u ≡ Whole z → SFits w32 z
-      → lt_z (to_z w32 (of_z w32 z)) (pos 0) ≡ true → Places bs (given p) (given o) (Nowhere IndexOutside)
+  pub index_low : {u v : Value} {z : ℤ} {l : ℕ} → p ≡ Ok v → v ≡ Location l → o ≡ Ok u → u ≡ Whole z → SFits w32 z
+      → lt_z (to_z w32 (of_z w32 z)) (pos 0) ≡ true → Places bs (given p) (given o) (Err IndexOutside)
   index_low {z = z} f r e q w h = record { placed = λ η b. rw (e, q, f, r, low_index z (rw (to_z-of_z w) at h)) }
 
   -- it is not
-  pub spot : {u v : Value} {z : ℤ} {l : ℕ} {s : Spot} → p ≡ A.Is v → v ≡ Location l → o ≡ A.Is u → u ≡ Whole z → SFits w32 z
+  pub spot : {u v : Value} {z : ℤ} {l : ℕ} {s : Result Spot Reason} → p ≡ Ok v → v ≡ Location l → o ≡ Ok u → u ≡ Whole z → SFits w32 z
       → lt_z (to_z w32 (of_z w32 z)) (pos 0) ≡ false → Finds bs l (nat_abs (to_z w32 (of_z w32 z))) s → Places bs (given p) (given o) s
   spot {z = z} {l} {s} f r e q w h F =
       let read : to_z w32 (of_z w32 z) ≡ z = to_z-of_z w in
@@ -157,32 +126,9 @@ module _ (bs : List ℕ) (p o : Answer) where
       let to : (given p ⟫ place) ≡ has l = rw (f, r) in
       record { placed = λ η b. go η s (rw read at (F.found η b)) at to }
     where
-      go : (η : Memory) {i : ℕ} (s : Spot) → Found η l i s → (given o ⟫ number) ≡ has (pos i) → (given p ⟫ place) ≡ has l
+      go : (η : Memory) {i : ℕ} (s : Result Spot Reason) → Found η l i s → (given o ⟫ number) ≡ has (pos i) → (given p ⟫ place) ≡ has l
           → Placed η (given p) (given o) s
-      go η (At m j k) h at to = rw (h.0, h.1) (at, to, h.2)
-      go η (Nowhere r) h at to = rw (at, to) h
-
--- why they have no cell
-module _ (p o : Answer) where
-  pub no_index : None o → {q : Reason} → q ≡ lack_of o → Nowhere q ≡ Nowhere (amiss_of p o)
-  no_index h e = ap Nowhere (e ∙ go o h)
-    where
-      go : (o : Answer) → None o → lack_of o ≡ amiss_of p o
-      go (A.Is v) h = absurd (miss (1 ∷ 2 ∷ []) 0 tt h)
-      go A.OutOfRange h = refl
-      go A.WrongKind h = refl
-
-  pub other_index : {v : Value} → o ≡ A.Is v → OneOf (1 ∷ 2 ∷ []) (tag_of the_type v) → Nowhere WrongKind ≡ Nowhere (amiss_of p o)
-  other_index {v} e h = rw e (go v h)
-    where
-      go : (v : Value) → OneOf (1 ∷ 2 ∷ []) (tag_of the_type v) → Nowhere WrongKind ≡ Nowhere (amiss_of p (A.Is v))
-      go (Whole z) h = absurd (miss (1 ∷ 2 ∷ []) 0 tt h)
-      go (Location l) h = refl
-      go (Truth b) h = refl
-
-  pub right_index : {v : Value} {z : ℤ} {q : Reason} → o ≡ A.Is v → v ≡ Whole z → q ≡ lack_of p → Nowhere q ≡ Nowhere (amiss_of p o)
-  right_index e f g = rw (e, f) (ap Nowhere g)
+      go η (Ok s) h at to = rw (h.0, h.1) (at, to, h.2)
+      go η (Err r) h at to = rw (at, to) h
 
 pub ruleset place_ways = (index_none, index_other, pointer_none, pointer_other, index_low, spot)
-
-pub ruleset nowhere_ways = (no_index, other_index, right_index)

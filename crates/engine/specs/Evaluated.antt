@@ -1,5 +1,5 @@
 -- What the evaluator is asked and answers: the expression that stands at a place of a table, over a frame of locals.
-use Rattle.std.specs.Prelude.{ℕ, ◌<◌, ◌≡◌, List, Bool, false, length}
+use Rattle.std.specs.Prelude.{ℕ, ◌<◌, ◌≡◌, List, Bool, false, length, Result, Ok, Err}
 use Rattle.value.specs.Maybe.{pick}
 use Rattle.value.specs.Try.{Try, has, ◌⟫◌, provided}
 use Rattle.value.specs.Values.{given}
@@ -7,7 +7,7 @@ use Rattle.value.specs.Marks.{Mark, whole_mark, location_mark, no_mark, yes_mark
 use Rattle.basics.specs.Columns.{row_of, applied₁, applied₂}
 use Rattle.value.specs.declared.Value.{Value}
 use Rattle.value.specs.declared.Value.TheVariants.{Truth}
-use Rattle.value.specs.declared.Answer.{Answer}
+use Rattle.value.specs.declared.Reason.{Reason}
 use Rattle.value.specs.declared.Reason.TheVariants.{WrongKind}
 use Rattle.format.specs.Syntax.{Expr, constant, local, one, two}
 use Rattle.format.proofs.Laws.Grammar.{ExprAt}
@@ -38,6 +38,11 @@ decided_at no_expr u = false
 unfoldable pub operated₂ : ℕ → Try Value → Try Value → Try Value
 operated₂ m a b = a ⟫ suited (mark_of m) ⟫ λ u. pick (decided_at (mark_of m) u) (has (Truth false)) (b ⟫ λ v. applied₂ (mark_of m) u v)
 
+-- the right operand, which is judged after the left one's kind
+abbrev pub right_judged : ℕ → Value → Result Value Reason → Result Value Reason
+right_judged k u (Ok v) = Ok v
+right_judged k u (Err r) = pick (of_kind k u) (Err r) (Err WrongKind)
+
 -- each local of an expression is below n
 abbrev pub Below : ℕ → Expr → Type 0
 Below n (constant v) = Unit {0}
@@ -55,7 +60,7 @@ pub record Ready (t ls : List ℕ) (fb i d : ℕ) : Type 0 where
   pub below : Below (length env) e
 
 -- an answer, and where the expression ends
-abbrev pub valued : Answer → ℕ → Valued
+abbrev pub valued : Result Value Reason → ℕ → Valued
 valued a j = record { answer = a; next = j }
 
 -- its value, and where it ends

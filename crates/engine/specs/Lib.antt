@@ -1,4 +1,4 @@
--- What both machines are made of: words, locals, cells, events and the evaluator.
+-- What both machines are made of: words, locals, cells, events, ends of runs and the evaluator.
 
 -- values at work: one word each
 pub mod Words
@@ -8,5 +8,7 @@ pub mod Work
 pub mod Evaluated
 -- events that the code writes
 pub mod Events
+-- how a run ends, as the code says it
+pub mod Ends
 -- what these are worth
 pub mod Laws

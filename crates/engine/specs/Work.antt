@@ -1,19 +1,13 @@
 -- What the machines keep at work: arrays of words, the locals of a frame, the cells of memory.
-use Rattle.std.specs.Prelude.{ℕ, zero, suc, ◌+◌, ◌*◌, ◌≤◌, ◌<◌, ◌≡◌, List, [], ◌∷◌, ◌++◌, length, get_or, take, set, pos}
+use Rattle.std.specs.Prelude.{ℕ, zero, suc, ◌+◌, ◌*◌, ◌≤◌, ◌<◌, ◌≡◌, List, [], ◌∷◌, ◌++◌, length, get_or, take, set, pos, Result, Ok, Err}
 use Rattle.value.specs.Maybe.{is}
 use Rattle.value.specs.Try.{Try, has, lacks, ◌⟫◌}
 use Rattle.value.specs.Lists.{at, sum, over}
 use Rattle.value.specs.Values.{cell_size, number, place}
 use Rattle.value.specs.declared.Value.{Value}
 use Rattle.basics.specs.Places.{number_at, with_value}
-use Rattle.basics.specs.Reasons.{lack_of}
-use Rattle.value.specs.declared.Value.TheVariants.{Whole, Location, Truth}
-use Rattle.value.specs.declared.Answer.{Answer}
-use Rattle.value.specs.declared.Answer.TheVariants as A
 use Rattle.value.specs.declared.Reason.{Reason}
-use Rattle.value.specs.declared.Reason.TheVariants.{OutOfRange, WrongKind, IndexOutside}
 use Rattle.engine.specs.declared.memory.Spot.{Spot}
-use Rattle.engine.specs.declared.memory.Spot.TheVariants.{At, Nowhere}
 use Rattle.semantics.specs.Memory.{Env, lookup, index, Memory, cell}
 use Rattle.semantics.specs.Buffers.{cells}
 pub use Rattle.basics.specs.Sizes.{frame_words, local_words, thread_words, most_locations, start_words, cell_words, program_words}
@@ -80,34 +74,21 @@ pub record IsCell (η : Memory) (l i k : ℕ) : Type 0 where
   pub size : i < get_or (shape η) l 0
 
 -- where index i of location l is
-abbrev pub Found : Memory → ℕ → ℕ → Spot → Type 0
-Found η l i (At m j k) = (m ≡ l) × (j ≡ i) × IsCell η l i k
-Found η l i (Nowhere r) = cell η l i ≡ lacks r
+abbrev pub Found : Memory → ℕ → ℕ → Result Spot Reason → Type 0
+Found η l i (Ok s) = (s.location ≡ l) × (s.index ≡ i) × IsCell η l i s.cell
+Found η l i (Err r) = cell η l i ≡ lacks r
 
 -- the same, over all memories of these first cells
-pub record Finds (bs : List ℕ) (l i : ℕ) (s : Spot) : Type 0 where
+pub record Finds (bs : List ℕ) (l i : ℕ) (s : Result Spot Reason) : Type 0 where
   pub found : (η : Memory) → Bases (shape η) bs → Found η l i s
 
--- why there is none, where one of them has no value or is of the wrong kind: the index is judged first
-abbrev pub amiss_of : Answer → Answer → Reason
-amiss_of p (A.Is (Whole z)) = lack_of p
-amiss_of p (A.Is (Location l)) = WrongKind
-amiss_of p (A.Is (Truth b)) = WrongKind
-amiss_of p A.OutOfRange = OutOfRange
-amiss_of p A.WrongKind = WrongKind
-
--- the reason that a spot has; one with a cell is not asked
-abbrev pub spot_reason : Spot → Reason
-spot_reason (At l i k) = IndexOutside
-spot_reason (Nowhere r) = r
-
 -- where the cell of a pointer and an index is, if they have values of the right kinds: the wanted cell of a read or a write, or why there is none
-abbrev pub Placed : Memory → Try Value → Try Value → Spot → Type 0
-Placed η p o (At l i k) = ((o ⟫ number) ≡ has (pos i)) × ((p ⟫ place) ≡ has l) × IsCell η l i k
-Placed η p o (Nowhere r) = (o ⟫ number ⟫ λ z. p ⟫ place ⟫ λ l. index z ⟫ λ i. cell η l i) ≡ lacks r
+abbrev pub Placed : Memory → Try Value → Try Value → Result Spot Reason → Type 0
+Placed η p o (Ok s) = ((o ⟫ number) ≡ has (pos s.index)) × ((p ⟫ place) ≡ has s.location) × IsCell η s.location s.index s.cell
+Placed η p o (Err r) = (o ⟫ number ⟫ λ z. p ⟫ place ⟫ λ l. index z ⟫ λ i. cell η l i) ≡ lacks r
 
 -- the same, over all memories of these first cells
-pub record Places (bs : List ℕ) (p o : Try Value) (s : Spot) : Type 0 where
+pub record Places (bs : List ℕ) (p o : Try Value) (s : Result Spot Reason) : Type 0 where
   pub placed : (η : Memory) → Bases (shape η) bs → Placed η p o s
 
 -- the bytes of a word's value were written over those of a buffer, where they fit

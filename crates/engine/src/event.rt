@@ -34,10 +34,12 @@ fn write_two(out: &mut [u8], at: usize, n: usize)
 fn way(writes: bool) -> u8
     ensures { result ≡ way_byte (way_of writes) }
 {
-    if writes { 1 } else { 0 }
+    u8::from(writes)
 }
 
 // "thread, 0 read or 1 write, location (2), index (2), value (5)", label (2): event number `count`, if it fits whole.
+// Inside the loop this costs 4 instructions a step on b and c (73.4 against 69.6, 97.1 against 93.5).
+#[inline(never)]
 pub fn write_event(out: &mut [u8], count: usize, e: Event)
     ensures { out.new ≡ with_event out.old count (event_of e) }
 {

@@ -5,10 +5,10 @@ ghost use Rattle.engine.specs.Words.{value_in};
 ghost use Rattle.engine.specs.Work.{Puts, Clears};
 
 use super::word;
-use value::{Answer, Value};
+use value::{Reason, Value};
 
 // What local `x` of the frame at `base` holds.
-pub fn get(locals: &[u64], base: usize, x: usize) -> Answer
+pub fn get(locals: &[u64], base: usize, x: usize) -> Result<Value, Reason>
     requires { base + x < length locals.now }
     ensures { given result ≡ value_in (get_or locals.now (base + x) 0) }
 {
@@ -28,9 +28,5 @@ pub fn clear(locals: &mut [u64], from: usize, to: usize)
     requires { (from ≤ to) × (to ≤ length locals.old) }
     ensures { Clears locals.old locals.new from to }
 {
-    let mut i = from;
-    while i < to {
-        locals[i] = 0;
-        i += 1;
-    }
+    locals[from..to].fill(0);
 }

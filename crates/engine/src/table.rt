@@ -1,4 +1,5 @@
 // Numbers that are known to stand in a table, low byte first.
+// stays: the checked ones of basics::bytes cost 22 instructions a step on b (92.4 against 70.6), 20 on c (133.9 against 113.8), counted in an unproved build
 ghost use Rattle.std.specs.Prelude.{◌≡◌, ◌+◌, ◌≤◌, ◌<◌, length, get_or};
 ghost use Rattle.basics.specs.Places.{number_at};
 

@@ -4,7 +4,7 @@ ghost use Rattle.value.specs.Maybe.{is};
 ghost use Rattle.value.specs.Values.{given};
 ghost use Rattle.engine.specs.Words.{held, value_in};
 
-use value::{Answer, Value};
+use value::{Reason, Value};
 
 // "All cells start as number 0": the word of that number.
 pub const ZERO: u64 = 4294967296;
@@ -30,7 +30,7 @@ pub fn pack(v: Value) -> u64
 }
 
 // The value that a word holds.
-pub fn unpack(w: u64) -> Answer
+pub fn unpack(w: u64) -> Result<Value, Reason>
     ensures { given result ≡ value_in w }
 {
     basics::bytes::value_of((w / KIND % 256) as u8, (w % KIND) as u32)

@@ -1,11 +1,11 @@
 -- One law for each way through the reader of the run program's input.
-use Prim.Native.Nat.{ℕ, ◌+◌, ◌-◌, ◌≤◌, ◌<◌, min}
+use Prim.Native.Nat.{ℕ, ◌-◌, ◌≤◌, ◌<◌, min}
 use native.Mathlib.Omega.{arith}
 use native.Mathlib.Decide.{dec_le}
 use mathlib.Core.Path.{◌≡◌, sym, ap, ◌∙◌}
 use mathlib.Core.List.{List}
 use lib.ListN.{length, take, drop, length-drop, drop_of_length-le}
-use lib.Seq.{take_all, drop-drop}
+use lib.Seq.{take_all}
 use borrow.Author.Tests.{lt-ltb, le-ltb}
 use Rattle.value.specs.Values.{unbytes}
 use Rattle.basics.specs.Places.{number_at}
@@ -39,22 +39,20 @@ module _ (input : List ℕ) {r : Figures} where
   unfolding told
   input_large h e = e ∙ rw (lt-ltb max_input (length input) h)
 
-  -- two bytes, then the schedule from `start` to `stop`, then the table
-  pub input_split : {start n stop : ℕ} → length input ≤ max_input → start ≡ min 2 (length input) → n ≡ number_at 2 input 0
-      → stop ≡ min (start + n) (length input)
-      → r ≡ figures_call Own (take (length input - stop) (drop stop input)) (take (stop - start) (drop start input)) → r ≡ told input
+  -- two bytes, then the rest, whose first n are the schedule
+  pub input_split : {k n mid : ℕ} {rest schedule table : List ℕ} → length input ≤ max_input → k ≡ min (length input) 2
+      → rest ≡ take (length input - k) (drop k input) → n ≡ number_at 2 input 0 → mid ≡ min n (length rest)
+      → schedule ≡ take mid rest → table ≡ drop mid rest → r ≡ figures_call Own table schedule → r ≡ told input
   unfolding told
-  input_split {start} {n} {stop} h first number second e =
+  input_split {k} {n} {mid} {rest} {schedule} {table} h start remains number cut first second e =
       let two : n ≡ unbytes (take 2 input) = number ∙ number_at_lem 2 input 0 in
-      let long : length (drop 2 input) ≡ length input - 2 = length-drop 2 input in
-      let table : take (length input - stop) (drop stop input) ≡ table_of input
-      = take_all (length input - stop) (drop stop input) (simp length-drop (omega arith))
-      ∙ cut_drop stop (2 + unbytes (take 2 input)) input (omega arith)
-      ∙ sym (drop-drop (unbytes (take 2 input)) 2 input) in
-      let schedule : take (stop - start) (drop start input) ≡ schedule_of input
-      = ap (take (stop - start)) (cut_drop start 2 input first)
-      ∙ cut_take (stop - start) (unbytes (take 2 input)) (drop 2 input) (omega arith) in
-      e ∙ rw (table, schedule, le-ltb max_input (length input) h)
+      let behind : rest ≡ drop 2 input
+      = remains ∙ take_all (length input - k) (drop k input) (simp length-drop (omega arith)) ∙ cut_drop k 2 input (omega arith) in
+      let after : table ≡ table_of input
+      = second ∙ cut_drop mid n rest cut ∙ ap (λ x. drop n x) behind ∙ ap (λ m. drop m (drop 2 input)) two in
+      let before : schedule ≡ schedule_of input
+      = first ∙ cut_take mid n rest cut ∙ ap (λ x. take n x) behind ∙ ap (λ m. take m (drop 2 input)) two in
+      e ∙ rw (after, before, le-ltb max_input (length input) h)
 
 -- the figures of an input, then their line
 pub input_lined : (input o : List ℕ) {f : Figures} {o' : List ℕ} {n : ℕ} → f ≡ told input → record { count = n; out = o' } ≡ lined (line f) o

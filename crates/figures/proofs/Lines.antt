@@ -1,98 +1,91 @@
 -- One law for each way through the writer of the run program's line.
-use Prim.Native.Nat.{ℕ, zero, suc, ◌+◌, ◌-◌, ◌/◌, ◌%◌, ◌≤◌, ◌<◌}
+use Prim.Native.Nat.{ℕ, zero, suc, ◌+◌, ◌*◌, ◌/◌, ◌%◌, ◌^◌, ◌≤◌, ◌<◌}
 use native.Mathlib.Omega.{arith}
-use mathlib.Core.Path.{◌≡◌, refl, ap, ◌∙◌}
-use mathlib.Core.List.{List, [], ◌∷◌, ◌++◌}
-use lib.ListN.{length, drop, length-append}
-use lib.Seq.{sets-eq}
-use borrow.Author.Tests.{lt-ltb, le-ltb, eq-eqb, ne_eqb}
+use mathlib.Core.Path.{◌≡◌, sym, ap, subst, ◌∙◌}
+use mathlib.Core.List.{List, [], ◌∷◌, ◌++◌, append_assoc}
+use lib.ListN.{length, get_or, take, drop, length-append}
+use lib.Seq.{sets-eq, take_all}
+use borrow.Author.Tests.{eq-eqb, ne_eqb, ltb-true, ltb-false}
 use lib.Dec.{ltb, eqb}
+use Rattle.std.specs.Fmt as Fmt
+use Rattle.std.specs.List.{flat_map}
+use Rattle.std.proofs.Math.Nat.{pow-suc, div-lt_iff_lt-mul}
+use Rattle.std.proofs.lemmas.Fmt.{decimal_digit, decimal_step}
+use Rattle.std.proofs.lemmas.List.{flat_map_more, take_more}
 use Rattle.value.specs.Lists.{over}
 use Rattle.value.proofs.Laws.Tests.{by_test}
 use Rattle.writer.specs.Laws.Put.{Put}
-use Rattle.writer.proofs.Puts.{put_none, put_then, put_cons, put_same}
+use Rattle.writer.proofs.Puts.{put_then, put_cons, put_same}
 use Rattle.agreement.specs.declared.Figures.{Figures}
-use Rattle.agreement.specs.Line.{digits, spaced, end_word, finished_word, used_word, blocked_word}
+use Rattle.agreement.specs.Line.{digits, spaced, end_word}
 use Rattle.agreement.specs.Line.{refused_word, newline, refused_line, numbers, line, lined}
 
 -- ---- numbers
 
--- a number below 10 is one digit
-one_digit : (m n : ℕ) → (m ≡ 0 → ⊥) → n < 10 → (48 + n) ∷ [] ≡ digits m n
+-- the library's digits are these
+decimal_same : (k n : ℕ) → n < 10 ^ k → 0 < k → n < 2 ^ 64 → Fmt.decimal n ≡ digits k n
 unfolding digits
-one_digit zero n z l = absurd (z refl)
-one_digit (suc k) n z l = rw (lt-ltb n 10 l, digits)
-
--- another ends with its last digit
-more_digits : (m n : ℕ) → (m ≡ 0 → ⊥) → 10 ≤ n → digits (m - 1) (n / 10) ++ ((48 + n % 10) ∷ []) ≡ digits m n
-unfolding digits
-more_digits zero n z l = absurd (z refl)
-more_digits (suc k) n z l = let before : suc k - 1 ≡ k = omega arith in rw (before, le-ltb n 10 l, digits)
-
-module _ {o : List ℕ} {p : ℕ} (m n : ℕ) where
-  -- no digit is left to write
-  pub digits_none : m ≡ 0 → Put o p (digits m n) o p
-  unfolding digits
-  digits_none e = rw e put_none
-
-  -- the first digit
-  pub digits_first : {o' : List ℕ} {r : ℕ} → (m ≡ 0 → ⊥) → n < 10 → Put o p ((48 + n) ∷ []) o' r → Put o p (digits m n) o' r
-  digits_first z l P = put_same (one_digit m n z l) P
-
-  -- those before the last, and the last
-  pub digits_last : {o' o'' : List ℕ} {q r : ℕ} → (m ≡ 0 → ⊥) → 10 ≤ n → Put o p (digits (m - 1) (n / 10)) o' q → Put o' q ((48 + n % 10) ∷ []) o'' r
-      → Put o p (digits m n) o'' r
-  digits_last z l P Q = put_same (more_digits m n z l) (put_then (digits (m - 1) (n / 10)) ((48 + n % 10) ∷ []) P Q)
+decimal_same zero n f z w = absurd (omega arith)
+decimal_same (suc k) n f z w =
+    by_test (ltb n 10)
+    (λ e. rw (e, digits) (decimal_digit n (ltb-true _ _ e)))
+    (λ e.
+    let ten : 10 ≤ n = omega (arith, ltb-false _ _ e) in
+    let less : n < 10 ^ k * 10 = subst (λ (x : ℕ). n < x) (pow-suc 10 k) f in
+    let before : n / 10 < 10 ^ k = (div-lt_iff_lt-mul {k = 10} {x = n} {y = 10 ^ k} (omega arith)).1 less in
+    let small : n / 10 < 2 ^ 64 = omega arith in
+    let more : 0 < k = more_than_one k ten f in
+    rw (e, digits) (decimal_step n ten w ∙ ap (λ ds. ds ++ ((48 + n % 10) ∷ [])) (decimal_same k (n / 10) before more small)))
+  where
+    more_than_one : (k : ℕ) {n : ℕ} → 10 ≤ n → n < 10 ^ suc k → 0 < k
+    more_than_one zero h l = absurd (omega (arith, h, l))
+    more_than_one (suc k) h l = omega arith
 
 -- a space, then a number
-pub spaced_digits : {o o' o'' : List ℕ} {p q r : ℕ} (n : ℕ) → Put o p (32 ∷ []) o' q → Put o' q (digits 20 n) o'' r → Put o p (spaced n) o'' r
-spaced_digits n = put_cons
+pub spaced_number : {o o' o'' : List ℕ} {p q r : ℕ} (n : ℕ) → n < 2 ^ 64 → Put o p (32 ∷ []) o' q → Put o' q (Fmt.decimal n) o'' r → Put o p (spaced n) o'' r
+spaced_number n w P Q = put_cons P (put_same (decimal_same 20 n (omega arith) (omega arith) w) Q)
 
--- ---- words
-
-module _ {o o' : List ℕ} {p r : ℕ} (end : ℕ) where
-  -- finished
-  pub end_finished : end ≡ 0 → Put o p finished_word o' r → Put o p (end_word end) o' r
-  end_finished e P = rw e P
-
-  -- used
-  pub end_used : end ≡ 1 → Put o p used_word o' r → Put o p (end_word end) o' r
-  end_used e P = rw e P
-
-  -- blocked
-  pub end_blocked : (end ≡ 0 → ⊥) → (end ≡ 1 → ⊥) → Put o p blocked_word o' r → Put o p (end_word end) o' r
-  end_blocked a b P = put_same (word end a b) P
+-- numbers one after the other
+module _ {o o' : List ℕ} {p q : ℕ} (ns : List ℕ) where
+  -- one more
+  pub spaced_more : {o'' : List ℕ} {r : ℕ} (i : ℕ) → i < length ns → Put o p (flat_map spaced (take i ns)) o' q → Put o' q (spaced (get_or ns i 0)) o'' r
+      → Put o p (flat_map spaced (take (i + 1) ns)) o'' r
+  spaced_more i h P Q = put_same (one_more i h) (put_then (flat_map spaced (take i ns)) (spaced (get_or ns i 0)) P Q)
     where
-      word : (e : ℕ) → (e ≡ 0 → ⊥) → (e ≡ 1 → ⊥) → blocked_word ≡ end_word e
-      word zero a b = absurd (a refl)
-      word (suc zero) a b = absurd (b refl)
-      word (suc (suc e)) a b = refl
+      one_more : (i : ℕ) → i < length ns → flat_map spaced (take i ns) ++ spaced (get_or ns i 0) ≡ flat_map spaced (take (i + 1) ns)
+      one_more i h = flat_map_more spaced [] (take i ns) (get_or ns i 0) ∙ ap (flat_map spaced) (sym (take_more ns i 0 h))
+
+  -- all, and the end of the line
+  pub spaced_all : {o'' : List ℕ} {r : ℕ} (i : ℕ) → length ns ≤ i → Put o p (flat_map spaced (take i ns)) o' q → Put o' q newline o'' r
+      → Put o p (flat_map spaced ns ++ newline) o'' r
+  spaced_all i h P Q = put_then (flat_map spaced ns) newline (put_same (ap (flat_map spaced) (take_all i ns h)) P) Q
 
 -- ---- the line
 
--- a refusal's
-pub refused_parts : {o o₁ o₂ o₃ : List ℕ} {p q r s : ℕ} (n : ℕ) → Put o p refused_word o₁ q → Put o₁ q (spaced n) o₂ r → Put o₂ r newline o₃ s
-    → Put o p (refused_line n) o₃ s
-refused_parts n A B C = put_then refused_word (spaced n ++ newline) A (put_then (spaced n) newline B C)
+-- the first of its numbers, and the others
+spaced_first : (n : ℕ) (ns : List ℕ) → flat_map spaced (n ∷ ns) ++ newline ≡ spaced n ++ (flat_map spaced ns ++ newline)
+spaced_first n ns = append_assoc (spaced n) (flat_map spaced ns) newline
 
 -- of a refusal
-pub line_refused : {o o' : List ℕ} {p r : ℕ} (f : Figures) → (f.number ≡ 0 → ⊥) → Put o p (refused_line f.number) o' r → Put o p (line f) o' r
+pub line_refused : {o o' o'' : List ℕ} {p q r n : ℕ} (f : Figures) → (f.number ≡ 0 → ⊥) → n ≡ f.number → Put o p refused_word o' q
+    → Put o' q (flat_map spaced (n ∷ []) ++ newline) o'' r → Put o p (line f) o'' r
 unfolding line
-line_refused f z P = rw (ne_eqb _ _ z) P
+line_refused f z e A B = rw (ne_eqb _ _ z) (rw (← e) (put_then refused_word (spaced _ ++ newline) A (put_same (spaced_first _ []) B)))
 
--- five numbers
-pub five_numbers : {o o₁ o₂ o₃ o₄ o₅ o₆ : List ℕ} {p p₁ p₂ p₃ p₄ p₅ p₆ : ℕ} (a b c d e : ℕ) → Put o p (spaced a) o₁ p₁ → Put o₁ p₁ (spaced b) o₂ p₂
-    → Put o₂ p₂ (spaced c) o₃ p₃ → Put o₃ p₃ (spaced d) o₄ p₄ → Put o₄ p₄ (spaced e) o₅ p₅ → Put o₅ p₅ newline o₆ p₆
-    → Put o p (numbers a b c d e) o₆ p₆
+-- five of them
+five_numbers : (a b c d e : ℕ) → flat_map spaced (a ∷ b ∷ c ∷ d ∷ e ∷ []) ++ newline ≡ numbers a b c d e
 unfolding numbers
-five_numbers a b c d e A B C D E F =
-    put_then (spaced a) _ A (put_then (spaced b) _ B (put_then (spaced c) _ C (put_then (spaced d) _ D (put_then (spaced e) newline E F))))
+five_numbers a b c d e =
+    spaced_first a (b ∷ c ∷ d ∷ e ∷ [])
+    ∙ ap (spaced a ++◌) (spaced_first b (c ∷ d ∷ e ∷ []) ∙ ap (spaced b ++◌) (spaced_first c (d ∷ e ∷ [])
+    ∙ ap (spaced c ++◌) (spaced_first d (e ∷ []) ∙ ap (spaced d ++◌) (spaced_first e []))))
 
 -- of a run
-pub line_told : {o o₁ o₂ : List ℕ} {p q r : ℕ} (f : Figures) → f.number ≡ 0
-    → Put o p (end_word f.end) o₁ q → Put o₁ q (numbers f.steps f.copy f.unused f.events f.reason) o₂ r → Put o p (line f) o₂ r
+pub line_told : {o o' o'' : List ℕ} {p q r n : ℕ} (f : Figures) → f.number ≡ 0 → n ≡ f.reason → Put o p (end_word f.end) o' q
+    → Put o' q (flat_map spaced (f.steps ∷ f.copy ∷ f.unused ∷ f.events ∷ n ∷ []) ++ newline) o'' r → Put o p (line f) o'' r
 unfolding line
-line_told f z A B = rw (eq-eqb _ _ z) (put_then (end_word f.end) (numbers f.steps f.copy f.unused f.events f.reason) A B)
+line_told f z e A B =
+    rw (eq-eqb _ _ z, ← e) (put_then (end_word f.end) (numbers f.steps f.copy f.unused f.events _) A (put_same (five_numbers f.steps f.copy f.unused f.events _) B))
 
 -- ---- its length
 
@@ -150,18 +143,3 @@ line_whole {o} {o'} {r} f h P =
     let count : r ≡ length (line f) = P.next (omega arith) ∙ from in
     let bytes : o' ≡ over (line f) o = P.wrote (omega arith) ∙ sets-eq (line f) o 0 (omega arith) ∙ rw from in
     rw (count, bytes)
-
--- one law for each way
-pub ruleset line_ways = (
-  digits_none,
-  digits_first,
-  digits_last,
-  spaced_digits,
-  end_finished,
-  end_used,
-  end_blocked,
-  refused_parts,
-  line_refused,
-  five_numbers,
-  line_told,
-)

@@ -22,8 +22,7 @@ fn run_program(table: &[u8], schedule: &[u8]) -> RunAnswer
     ensures { result ≡ program_answer table.now schedule.now }
 {
     let mut cells = [0u8; PROGRAM_CELLS];
-    let mut events = [0u8; 0];
-    run_concurrent(table, schedule, &mut cells, &mut events)
+    run_concurrent(table, schedule, &mut cells, &mut [])
 }
 
 // The copy's run, with room for the most cells; "comparison uses h = M".
@@ -31,8 +30,7 @@ fn run_copy(copy: &[u8], schedule: &[u8], locations: usize) -> RunAnswer
     ensures { result ≡ copy_answer copy.now schedule.now locations }
 {
     let mut cells = [0u8; COPY_CELLS];
-    let mut events = [0u8; 0];
-    run_sequential(copy, schedule, BUDGET, locations, &mut cells, &mut events)
+    run_sequential(copy, schedule, BUDGET, locations, &mut cells, &mut [])
 }
 
 // Both runs; the copy runs only where the program does.
@@ -41,6 +39,7 @@ fn run_both(table: &[u8], schedule: &[u8], copy: &[u8]) -> Figures
         (copy_answer copy.now schedule.now (read_call concurrent table.now).locations) }
 {
     let program = run_program(table, schedule);
+    // stays: the call's answer is the paper's, with its number, and so is this one; a `Result` between them would be made and taken apart at once.
     if program.number != 0 {
         return refused(program.number);
     }
@@ -63,6 +62,7 @@ pub fn figures(table: &[u8], mode: Mode, schedule: &[u8]) -> Figures
 {
     let mut copy = [0u8; LONGEST];
     let written = translate(table, mode, &mut copy);
+    // stays: as in `run_both`
     if written.number != 0 {
         return refused(written.number);
     }

@@ -1,5 +1,5 @@
 // The run program from its input to its line.
-ghost use Rattle.std.specs.Prelude.{◌≡◌, min};
+ghost use Rattle.std.specs.Prelude.{◌≡◌};
 ghost use Rattle.agreement.specs.Line.{told, printed, lined};
 
 use super::compare::figures;
@@ -8,32 +8,25 @@ use super::refused;
 use agreement::Figures;
 use basics::bytes::two_bytes;
 use basics::numbers::LONGEST_INPUT;
+use basics::refusals::Refusal;
 use translation::Mode;
 
 // A buffer that is large enough for a line: it has at most 114 bytes.
 pub const LINE: usize = 128;
-
-// The place, or the end if that comes first.
-fn at_most(place: usize, end: usize) -> usize
-    ensures { result ≡ min place end }
-{
-    if place < end { place } else { end }
-}
 
 // "A schedule length (2 bytes), the schedule, a concurrent table. If the input ends before the schedule does, the table is empty." The copy
 // is that of the old mode.
 pub fn figures_of_input(input: &[u8]) -> Figures
     ensures { result ≡ told input.now }
 {
-    let end = input.len();
     // "An input over 20,482 bytes is answered 2".
-    if LONGEST_INPUT < end {
-        return refused(2);
+    if LONGEST_INPUT < input.len() {
+        return refused(Refusal::Counts.number());
     }
-    let start = at_most(2, end);
-    let entries = two_bytes(input, 0) as usize;
-    let stop = at_most(start + entries, end);
-    figures(&input[stop..end], Mode::Own, &input[start..stop])
+    let entries = usize::from(two_bytes(input, 0));
+    let rest = &input[input.len().min(2)..];
+    let (schedule, table) = rest.split_at(entries.min(rest.len()));
+    figures(table, Mode::Own, schedule)
 }
 
 // The run program: the line that it prints for its standard input, and the line's length.

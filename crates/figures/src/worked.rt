@@ -14,7 +14,7 @@ use machines::run_concurrent;
 use reader::read_concurrent;
 use translation::{Mode, WriteAnswer};
 use translator::translate;
-use value::{Answer, Value};
+use value::{Reason, Value};
 
 // "25 bytes, one thread, empty body".
 const A: [u8; 25] = *b"\x00\
@@ -109,12 +109,7 @@ fn b_adds_twice() -> [u8; 5]
     ensures { result ≡ 1 ∷ 2 ∷ 0 ∷ 0 ∷ 0 ∷ [] }
 {
     let mut cells = [0u8; 5];
-    run_concurrent(
-        &B,
-        b"\x00\x00\x00\x00\x01\x01\x01\x01",
-        &mut cells,
-        &mut [0u8; 0],
-    );
+    run_concurrent(&B, b"\x00\x00\x00\x00\x01\x01\x01\x01", &mut cells, &mut []);
     cells
 }
 
@@ -123,12 +118,7 @@ fn b_loses_one() -> [u8; 5]
     ensures { result ≡ 1 ∷ 1 ∷ 0 ∷ 0 ∷ 0 ∷ [] }
 {
     let mut cells = [0u8; 5];
-    run_concurrent(
-        &B,
-        b"\x00\x00\x01\x01\x00\x01\x00\x01",
-        &mut cells,
-        &mut [0u8; 0],
-    );
+    run_concurrent(&B, b"\x00\x00\x01\x01\x00\x01\x00\x01", &mut cells, &mut []);
     cells
 }
 
@@ -161,21 +151,21 @@ fn b_blocks() -> Figures
 }
 
 // "2,147,483,647 + 1 .. no value": "1 outside the number range".
-fn sum_too_large() -> Answer
+fn sum_too_large() -> Result<Value, Reason>
     ensures { given result ≡ lacks OutOfRange }
 {
     operators::add(Value::Whole(2147483647), Value::Whole(1))
 }
 
 // "Negate of -2,147,483,648 .. no value".
-fn negate_too_large() -> Answer
+fn negate_too_large() -> Result<Value, Reason>
     ensures { given result ≡ lacks OutOfRange }
 {
     operators::negate(Value::Whole(-2147483648))
 }
 
 // "-2,147,483,648 itself has".
-fn lowest() -> Answer
+fn lowest() -> Result<Value, Reason>
     ensures { given result ≡ has (Whole (negsuc 2147483647)) }
 {
     operators::subtract(Value::Whole(-2147483647), Value::Whole(1))

@@ -18,6 +18,7 @@ use Rattle.ctext.specs.Prelude.{prelude}
 use Rattle.ctext.specs.Text.{numbered, location, area, declaration, definition, text}
 use Rattle.ctext.proofs.Laws.DefinitionText.{ProcFits}
 use Rattle.ctext.proofs.Laws.OneToOne.{program_text}
+use Rattle.typeset.specs.declared.pieces.Page.{Page}
 use Rattle.typeset.specs.Page.{Put}
 use Rattle.typeset.proofs.Setting.{put_then, put_same}
 use Rattle.frame.specs.Frames.{SizesAt, ShowsPlaces, RecordsAt, BodiesAt, ShowsDeclarations, ShowsDefinitions, ShowsText}
@@ -59,14 +60,14 @@ parts : (a b c d e f : List ℕ) → (a ++ (b ++ (c ++ (d ++ e)))) ++ f ≡ a ++
 parts a b c d e f = simp append_assoc
 
 -- the whole text
-pub text_put : {t x : List ℕ} {P M : ℕ} {o o₁ o₂ o₃ : List ℕ} {q r s : ℕ}
-    → ShowsPlaces t x (length t - 16 - (6 * P + 2 * M) + 6 * P) M o o₁ q
-    → ShowsDeclarations t x (length t - 16 - (6 * P + 2 * M)) P o₁ q o₂ r → ShowsDefinitions t x (length t - 16 - (6 * P + 2 * M)) P o₂ r o₃ s
-    → ShowsText t x P M o o₃ s
+pub text_put : {t : List ℕ} {P M : ℕ} {b q r s : Page}
+    → ShowsPlaces t (length t - 16 - (6 * P + 2 * M) + 6 * P) M b q
+    → ShowsDeclarations t (length t - 16 - (6 * P + 2 * M)) P q r → ShowsDefinitions t (length t - 16 - (6 * P + 2 * M)) P r s
+    → ShowsText t P M b s
 unfolding text
-text_put {t} {x} {P} {M} {o} {o₁} {o₂} {o₃} {q} {r} {s} A B C = record { shown = shown; kept = C.kept ∙ B.kept ∙ A.kept }
+text_put {t} {P} {M} {b} {q} {r} {s} A B C = record { shown = shown; kept = C.kept ∙ B.kept ∙ A.kept }
   where
-    shown : (p : Program Plain) → t ≡ table sequential p → Sound sequential p → P ≡ length p.procs → M ≡ length p.sizes → Put x o 0 (text p) o₃ s
+    shown : (p : Program Plain) → t ≡ table sequential p → Sound sequential p → P ≡ length p.procs → M ≡ length p.sizes → Put b (text p) s
     shown p e sound f g =
         let begin : length t - 16 - (6 * P + 2 * M) ≡ records_at p = rw (f, g) (sym (records_begin p e sound)) in
         let rows : SizesAt t (length t - 16 - (6 * P + 2 * M) + 6 * P) M p.sizes = rw (begin, f, g) (sizes_at_lem p e sound) in

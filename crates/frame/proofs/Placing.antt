@@ -11,42 +11,32 @@ use Rattle.basics.specs.Places.{number_at}
 use Rattle.ctext.specs.Pieces.{say, decimal}
 use Rattle.ctext.specs.Prelude.{prelude}
 use Rattle.ctext.specs.Text.{numbered, location, area}
+use Rattle.typeset.specs.declared.pieces.Page.{Page}
 use Rattle.typeset.specs.Page.{Put, Onto}
 use Rattle.typeset.proofs.Setting.{put_then, put_same, onto_start, onto_next, onto_end}
 use Rattle.lines.proofs.Plainly.{lit}
-use Rattle.frame.specs.Frames.{SizesAt, ShowsSizes, SizesFrom, ShowsPlaces}
+use Rattle.frame.specs.declared.heads.Line.{Line}
+use Rattle.frame.specs.Frames.{sized, SizesAt, ShowsSizes, SizesFrom, ShowsPlaces}
 use Rattle.frame.proofs.Heading.{five}
 
-module _ {x o : List ℕ} {p : ℕ} where
-  -- a location
-  pub location_put : {o₁ o₂ o₃ : List ℕ} {q r s : ℕ} (k n : ℕ) → Put x o p (lit "z_value m" ++ decimal k) o₁ q → Put x o₁ q (lit "[" ++ decimal n) o₂ r
-      → Put x o₂ r (lit "];\n") o₃ s
-      → Put x o p (location k n) o₃ s
-  unfolding say
-  location_put k n A B C =
-      put_same (five (say "z_value m") (decimal k) (say "[") (decimal n) (say "];\n"))
-      (put_then (say "z_value m" ++ decimal k) _ A (put_then (say "[" ++ decimal n) _ B C))
+-- a line with a number and a size
+pub sized_put : {p q r s : Page} (w : Line) (k n : ℕ) → Put p (w.before.now ++ decimal k) q → Put q (w.between.now ++ decimal n) r → Put r w.behind.now s
+    → Put p (sized w k n) s
+sized_put w k n A B C =
+    put_same (five w.before.now (decimal k) w.between.now (decimal n) w.behind.now)
+    (put_then (w.before.now ++ decimal k) _ A (put_then (w.between.now ++ decimal n) _ B C))
 
-  -- its entry
-  pub area_put : {o₁ o₂ o₃ : List ℕ} {q r s : ℕ} (k n : ℕ) → Put x o p (lit "  { m" ++ decimal k) o₁ q → Put x o₁ q (lit ", " ++ decimal n) o₂ r
-      → Put x o₂ r (lit " },\n") o₃ s
-      → Put x o p (area k n) o₃ s
-  unfolding say
-  area_put k n A B C =
-      put_same (five (say "  { m") (decimal k) (say ", ") (decimal n) (say " },\n"))
-      (put_then (say "  { m" ++ decimal k) _ A (put_then (say ", " ++ decimal n) _ B C))
-
-module _ (item : ℕ → ℕ → List ℕ) {t x : List ℕ} {i n : ℕ} {o : List ℕ} {p : ℕ} where
+module _ (item : ℕ → ℕ → List ℕ) {t : List ℕ} {i n : ℕ} {p : Page} where
   -- at the start
-  pub sizes_start : SizesFrom item t x i n o p 0 o p
+  pub sizes_start : SizesFrom item t i n p 0 p
   sizes_start = record { onto = λ ss h. onto_start; kept = refl }
 
   -- one more
-  pub sizes_next : {k q r w : ℕ} {o' o'' : List ℕ} → SizesFrom item t x i n o p k o' q → k < n → w ≡ number_at 2 t (i + 2 * k) → Put x o' q (item k w) o'' r
-      → SizesFrom item t x i n o p (k + 1) o'' r
-  sizes_next {k} {q} {r} {w} {o'} {o''} F l e P = record { onto = onto; kept = P.kept ∙ F.kept }
+  pub sizes_next : {q r : Page} {k w : ℕ} → SizesFrom item t i n p k q → k < n → w ≡ number_at 2 t (i + 2 * k) → Put q (item k w) r
+      → SizesFrom item t i n p (k + 1) r
+  sizes_next {q} {r} {k} {w} F l e P = record { onto = onto; kept = P.kept ∙ F.kept }
     where
-      onto : (ss : List ℕ) → SizesAt t i n ss → Onto x o p (numbered item 0 ss) o'' r (numbered item (k + 1) (drop (k + 1) ss))
+      onto : (ss : List ℕ) → SizesAt t i n ss → Onto p (numbered item 0 ss) r (numbered item (k + 1) (drop (k + 1) ss))
       onto ss h =
           let here : k < length ss = omega (arith, h.count) in
           let size : w ≡ get_or ss k 0 = e ∙ h.size k (at_get_d ss k 0 here) in
@@ -54,8 +44,8 @@ module _ (item : ℕ → ℕ → List ℕ) {t x : List ℕ} {i n : ℕ} {o : Lis
           (onto_next (item k (get_or ss k 0)) (numbered item (suc k) (drop (suc k) ss)) (rw (drop-cons ss k 0 here) at (F.onto ss h)) (rw size at P))
 
   -- no more
-  pub sizes_end : {k q : ℕ} {o' : List ℕ} → SizesFrom item t x i n o p k o' q → n ≤ k → ShowsSizes item t x i n o p o' q
-  sizes_end {k} F l = record {
+  pub sizes_end : {q : Page} {k : ℕ} → SizesFrom item t i n p k q → n ≤ k → ShowsSizes item t i n p q
+  sizes_end {k = k} F l = record {
     shown = λ ss h.
         let none : drop k ss ≡ [] = drop_of_length-le ss {i = k} (omega (arith, h.count)) in
         onto_end (rw none at (F.onto ss h));
@@ -63,9 +53,9 @@ module _ (item : ℕ → ℕ → List ℕ) {t x : List ℕ} {i n : ℕ} {o : Lis
   }
 
 -- prelude, locations and areas
-pub places_put : {t x : List ℕ} {i n : ℕ} {o o₁ o₂ o₃ o₄ o₅ : List ℕ} {q r s u v : ℕ} → Put x o 0 prelude o₁ q → ShowsSizes location t x i n o₁ q o₂ r
-    → Put x o₂ r (lit "const z_area z_areas[] = {\n") o₃ s → ShowsSizes area t x i n o₃ s o₄ u → Put x o₄ u (lit "  { 0, 0 }\n};\n\n") o₅ v
-    → ShowsPlaces t x i n o o₅ v
+pub places_put : {t : List ℕ} {i n : ℕ} {p q r s u v : Page} → Put p prelude q → ShowsSizes location t i n q r
+    → Put r (lit "const z_area z_areas[] = {\n") s → ShowsSizes area t i n s u → Put u (lit "  { 0, 0 }\n};\n\n") v
+    → ShowsPlaces t i n p v
 unfolding say
 places_put A B C D E = record {
   shown = λ ss h.
@@ -75,4 +65,4 @@ places_put A B C D E = record {
 }
 
 -- one law for each way
-pub ruleset place_ways = (location_put, area_put, sizes_start, sizes_next, sizes_end, places_put)
+pub ruleset place_ways = (sized_put, sizes_start, sizes_next, sizes_end, places_put)

@@ -14,10 +14,21 @@ use Rattle.format.proofs.Laws.Stands.{Stands}
 use Rattle.basics.specs.Places.{number_at}
 use Rattle.ctext.specs.Pieces.{say, joined, decimal}
 use Rattle.ctext.specs.Prelude.{prelude}
-use Rattle.ctext.specs.Text.{numbered, location, area, head, argument, unset, declaration, definition, text}
+use Rattle.ctext.specs.Text.{var, numbered, location, area, head, argument, unset, declaration, definition, text}
 use Rattle.ctext.proofs.Laws.LineText.{Flat}
-use Rattle.typeset.specs.Page.{Put, Onto}
-use Rattle.phrases.specs.declared.exprs.Shown.{Shown}
+use Rattle.typeset.specs.declared.pieces.Page.{Page}
+use Rattle.typeset.specs.Page.{lent, Put, Onto}
+use Rattle.frame.specs.declared.heads.Line.{Line}
+
+-- ---- lines that say two things
+
+-- the number of a location, and its size
+abbrev pub sized : Line → ℕ → ℕ → List ℕ
+sized w k s = w.before.now ++ (decimal k ++ (w.between.now ++ (decimal s ++ w.behind.now)))
+
+-- a local twice
+abbrev pub twice : Line → ℕ → List ℕ
+twice w j = w.before.now ++ (var j ++ (w.between.now ++ (var j ++ w.behind.now)))
 
 -- ---- locations
 
@@ -27,20 +38,20 @@ pub record SizesAt (t : List ℕ) (i n : ℕ) (ss : List ℕ) : Type 0 where
   pub size : (k : ℕ) {s : ℕ} → at ss k ≡ is s → number_at 2 t (i + 2 * k) ≡ s
 
 -- whatever sizes stand there, a piece is set for each
-pub record ShowsSizes (item : ℕ → ℕ → List ℕ) (t x : List ℕ) (i n : ℕ) (o : List ℕ) (p : ℕ) (o' : List ℕ) (r : ℕ) : Type 0 where
-  pub shown : (ss : List ℕ) → SizesAt t i n ss → Put x o p (numbered item 0 ss) o' r
-  pub kept : length o' ≡ length o
+pub record ShowsSizes (item : ℕ → ℕ → List ℕ) (t : List ℕ) (i n : ℕ) (p q : Page) : Type 0 where
+  pub shown : (ss : List ℕ) → SizesAt t i n ss → Put p (numbered item 0 ss) q
+  pub kept : lent q ≡ lent p
 
 -- those from k on remain
-pub record SizesFrom (item : ℕ → ℕ → List ℕ) (t x : List ℕ) (i n : ℕ) (o : List ℕ) (p k : ℕ) (o' : List ℕ) (q : ℕ) : Type 0 where
-  pub onto : (ss : List ℕ) → SizesAt t i n ss → Onto x o p (numbered item 0 ss) o' q (numbered item k (drop k ss))
-  pub kept : length o' ≡ length o
+pub record SizesFrom (item : ℕ → ℕ → List ℕ) (t : List ℕ) (i n : ℕ) (p : Page) (k : ℕ) (q : Page) : Type 0 where
+  pub onto : (ss : List ℕ) → SizesAt t i n ss → Onto p (numbered item 0 ss) q (numbered item k (drop k ss))
+  pub kept : lent q ≡ lent p
 
 -- prelude, locations and areas
-pub record ShowsPlaces (t x : List ℕ) (i n : ℕ) (o o' : List ℕ) (r : ℕ) : Type 0 where
+pub record ShowsPlaces (t : List ℕ) (i n : ℕ) (p q : Page) : Type 0 where
   pub shown : (ss : List ℕ) → SizesAt t i n ss
-      → Put x o 0 (prelude ++ (numbered location 0 ss ++ (say "const z_area z_areas[] = {\n" ++ (numbered area 0 ss ++ say "  { 0, 0 }\n};\n\n")))) o' r
-  pub kept : length o' ≡ length o
+      → Put p (prelude ++ (numbered location 0 ss ++ (say "const z_area z_areas[] = {\n" ++ (numbered area 0 ss ++ say "  { 0, 0 }\n};\n\n")))) q
+  pub kept : lent q ≡ lent p
 
 -- ---- procedures
 
@@ -57,14 +68,14 @@ pub record BodiesAt (t : List ℕ) (i : ℕ) (ps : List (Proc Plain)) (j : ℕ) 
   pub flat : Each (λ q. Flat q.body) ps
 
 -- whatever procedures stand there are declared
-pub record ShowsDeclarations (t x : List ℕ) (i n : ℕ) (o : List ℕ) (p : ℕ) (o' : List ℕ) (r : ℕ) : Type 0 where
-  pub shown : (ps : List (Proc Plain)) → RecordsAt t i n ps → Put x o p (numbered declaration 0 ps) o' r
-  pub kept : length o' ≡ length o
+pub record ShowsDeclarations (t : List ℕ) (i n : ℕ) (p q : Page) : Type 0 where
+  pub shown : (ps : List (Proc Plain)) → RecordsAt t i n ps → Put p (numbered declaration 0 ps) q
+  pub kept : lent q ≡ lent p
 
 -- those from k on remain
-pub record DeclarationsFrom (t x : List ℕ) (i n : ℕ) (o : List ℕ) (p k : ℕ) (o' : List ℕ) (q : ℕ) : Type 0 where
-  pub onto : (ps : List (Proc Plain)) → RecordsAt t i n ps → Onto x o p (numbered declaration 0 ps) o' q (numbered declaration k (drop k ps))
-  pub kept : length o' ≡ length o
+pub record DeclarationsFrom (t : List ℕ) (i n : ℕ) (p : Page) (k : ℕ) (q : Page) : Type 0 where
+  pub onto : (ps : List (Proc Plain)) → RecordsAt t i n ps → Onto p (numbered declaration 0 ps) q (numbered declaration k (drop k ps))
+  pub kept : lent q ≡ lent p
 
 -- the lines of procedure k before its body
 unfoldable pub opening : ℕ → ℕ → ℕ → List ℕ
@@ -74,28 +85,27 @@ opening k n l =
     each argument (upto 0 n) ∷ each unset (upto n (l - n)) ∷ [])
 
 -- whatever body stands at i, procedure k with it is defined
-pub record ShowsDefinition (t x : List ℕ) (i k n l : ℕ) (o : List ℕ) (p : ℕ) (o' : List ℕ) (r : Shown) : Type 0 where
+pub record ShowsDefinition (t : List ℕ) (i k n l : ℕ) (p q : Page) (e : ℕ) : Type 0 where
   pub shown : (b : Block Plain) (j : ℕ) → BlockAt t i max_nesting b j → Flat b
-      → Put x o p (definition {A = Plain} k (record { params = n; locals = l; body = b })) o' r.to
-  pub ends : (b : Block Plain) (j : ℕ) → BlockAt t i max_nesting b j → Flat b → r.next ≡ j
-  pub kept : length o' ≡ length o
+      → Put p (definition {A = Plain} k (record { params = n; locals = l; body = b })) q
+  pub ends : (b : Block Plain) (j : ℕ) → BlockAt t i max_nesting b j → Flat b → e ≡ j
+  pub kept : lent q ≡ lent p
 
 -- whatever procedures stand there are defined
-pub record ShowsDefinitions (t x : List ℕ) (i n : ℕ) (o : List ℕ) (p : ℕ) (o' : List ℕ) (r : ℕ) : Type 0 where
-  pub shown : (ps : List (Proc Plain)) (j : ℕ) → RecordsAt t i n ps → BodiesAt t 0 ps j → Put x o p (numbered definition 0 ps) o' r
-  pub kept : length o' ≡ length o
+pub record ShowsDefinitions (t : List ℕ) (i n : ℕ) (p q : Page) : Type 0 where
+  pub shown : (ps : List (Proc Plain)) (j : ℕ) → RecordsAt t i n ps → BodiesAt t 0 ps j → Put p (numbered definition 0 ps) q
+  pub kept : lent q ≡ lent p
 
 -- those from k on remain, their bodies from i' on
-pub record DefinitionsFrom (t x : List ℕ) (i n : ℕ) (o : List ℕ) (p k i' : ℕ) (o' : List ℕ) (q : ℕ) : Type 0 where
+pub record DefinitionsFrom (t : List ℕ) (i n : ℕ) (p : Page) (k i' : ℕ) (q : Page) : Type 0 where
   pub onto : (ps : List (Proc Plain)) (j : ℕ) → RecordsAt t i n ps → BodiesAt t 0 ps j
-      → Onto x o p (numbered definition 0 ps) o' q (numbered definition k (drop k ps))
+      → Onto p (numbered definition 0 ps) q (numbered definition k (drop k ps))
   pub bodies : (ps : List (Proc Plain)) (j : ℕ) → RecordsAt t i n ps → BodiesAt t 0 ps j → BodiesAt t i' (drop k ps) j
-  pub kept : length o' ≡ length o
+  pub kept : lent q ≡ lent p
 
 -- ---- the text
 
--- whatever sound program t is the table of, its text is set
-pub record ShowsText (t x : List ℕ) (P M : ℕ) (o o' : List ℕ) (r : ℕ) : Type 0 where
-  pub shown : (p : Program Plain) → t ≡ table sequential p → Sound sequential p → P ≡ length p.procs → M ≡ length p.sizes
-      → Put x o 0 (text p) o' r
-  pub kept : length o' ≡ length o
+-- whatever sound program t is the table of, its text is set: page b became page q
+pub record ShowsText (t : List ℕ) (P M : ℕ) (b q : Page) : Type 0 where
+  pub shown : (p : Program Plain) → t ≡ table sequential p → Sound sequential p → P ≡ length p.procs → M ≡ length p.sizes → Put b (text p) q
+  pub kept : lent q ≡ lent b

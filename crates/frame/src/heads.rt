@@ -2,111 +2,107 @@
 ghost use Rattle.std.specs.Prelude.{◌++◌, ◌-◌};
 ghost use Rattle.value.specs.Lists.{upto};
 ghost use Rattle.format.specs.Encode.{each};
-ghost use Rattle.ctext.specs.Pieces.{say, decimal};
+ghost use Rattle.ctext.specs.Pieces.{decimal};
 ghost use Rattle.ctext.specs.Text.{var, params, head, argument, unset};
 ghost use Rattle.ctext.proofs.Laws.FrameText.{another};
 ghost use Rattle.typeset.specs.Page.{Put};
+ghost use Rattle.frame.specs.Frames.{twice};
 
 use phrases::exprs::put_var;
-use typeset::pieces::{put, put_all, put_number};
+use typeset::pieces::Page;
 
-// A piece, then local j.
-fn put_named(piece: &[u8], j: u8, text: &[u8], out: &mut [u8], at: usize) -> usize
-    ensures { Put text.now out.old at (piece.now ++ var j) out.new result }
-{
-    let p = put_all(piece, text, out, at);
-    put_var(j, text, out, p)
+// The pieces of a line that says two things: before the first, between them, and behind the second.
+#[derive(Clone, Copy)]
+pub struct Line<'a> {
+    pub before: &'a [u8],
+    pub between: &'a [u8],
+    pub behind: &'a [u8],
 }
 
-// Parameter j, behind another one.
-fn put_another(j: u8, text: &[u8], out: &mut [u8], at: usize) -> usize
-    ensures { Put text.now out.old at (another j) out.new result }
+// A piece, then local j.
+fn put_named(piece: &[u8], j: u8, page: &mut Page)
+    ensures { Put page.old (piece.now ++ var j) page.new }
 {
-    put_named(b", z_value ", j, text, out, at)
+    page.put_all(piece);
+    put_var(j, page);
 }
 
 // The parameters behind the first.
-fn put_others(n: u8, text: &[u8], out: &mut [u8], at: usize) -> usize
-    ensures { Put text.now out.old at (each another (upto 1 (n - 1))) out.new result }
+fn put_others(n: u8, page: &mut Page)
+    ensures { Put page.old (each another (upto 1 (n - 1))) page.new }
 {
-    let mut j = 1;
-    let mut p = at;
-    while j < n {
-        p = put_another(j, text, out, p);
-        j += 1;
+    for j in 1..n {
+        put_named(b", z_value ", j, page);
     }
-    p
 }
 
 // So many parameters.
-fn put_params(n: u8, text: &[u8], out: &mut [u8], at: usize) -> usize
-    ensures { Put text.now out.old at (params n) out.new result }
+fn put_params(n: u8, page: &mut Page)
+    ensures { Put page.old (params n) page.new }
 {
     if n == 0 {
-        return put_all(b"void", text, out, at);
+        return page.put_all(b"void");
     }
-    let p = put_all(b"z_value x0", text, out, at);
-    put_others(n, text, out, p)
+    page.put_all(b"z_value x0");
+    put_others(n, page);
 }
 
 // A piece, then number k.
-pub fn put_counted(piece: &[u8], k: usize, text: &[u8], out: &mut [u8], at: usize) -> usize
-    ensures { Put text.now out.old at (piece.now ++ decimal k) out.new result }
+pub fn put_counted(piece: &[u8], k: usize, page: &mut Page)
+    ensures { Put page.old (piece.now ++ decimal k) page.new }
 {
-    let p = put_all(piece, text, out, at);
-    put_number(k, text, out, p)
+    page.put_all(piece);
+    page.put_number(k);
 }
 
 // Procedure k with n parameters.
-pub fn put_head(k: usize, n: u8, text: &[u8], out: &mut [u8], at: usize) -> usize
-    ensures { Put text.now out.old at (head k n) out.new result }
+pub fn put_head(k: usize, n: u8, page: &mut Page)
+    ensures { Put page.old (head k n) page.new }
 {
-    let p = put_counted(b"void p", k, text, out, at);
-    let q = put(text, out, p, b'(');
-    let r = put_params(n, text, out, q);
-    put(text, out, r, b')')
+    put_counted(b"void p", k, page);
+    page.put(b'(');
+    put_params(n, page);
+    page.put(b')');
 }
 
-// Parameter j, judged.
-fn put_argument(j: u8, text: &[u8], out: &mut [u8], at: usize) -> usize
-    ensures { Put text.now out.old at (argument j) out.new result }
+// A line that names local j twice.
+fn put_twice(line: Line, j: u8, page: &mut Page)
+    ensures { Put page.old (twice line.entry j) page.new }
 {
-    let p = put_named(b"  ", j, text, out, at);
-    let q = put_named(b" = z_arg(", j, text, out, p);
-    put_all(b");\n", text, out, q)
+    put_named(line.before, j, page);
+    put_named(line.between, j, page);
+    page.put_all(line.behind);
 }
 
-// All parameters.
-pub fn put_arguments(n: u8, text: &[u8], out: &mut [u8], at: usize) -> usize
-    ensures { Put text.now out.old at (each argument (upto 0 n)) out.new result }
+// One for each local from `from` up to n.
+fn put_lines(line: Line, from: u8, n: u8, page: &mut Page)
+    ensures { Put page.old (each (twice line.entry) (upto from (n - from))) page.new }
 {
-    let mut j = 0;
-    let mut p = at;
-    while j < n {
-        p = put_argument(j, text, out, p);
-        j += 1;
+    for j in from..n {
+        put_twice(line, j, page);
     }
-    p
 }
 
-// Another local.
-fn put_unset(j: u8, text: &[u8], out: &mut [u8], at: usize) -> usize
-    ensures { Put text.now out.old at (unset j) out.new result }
+// All parameters, judged.
+pub fn put_arguments(n: u8, page: &mut Page)
+    ensures { Put page.old (each argument (upto 0 n)) page.new }
 {
-    let p = put_named(b"  z_value ", j, text, out, at);
-    let q = put_named(b" = z_unset(); (void)", j, text, out, p);
-    put_all(b";\n", text, out, q)
+    let line = Line {
+        before: b"  ",
+        between: b" = z_arg(",
+        behind: b");\n",
+    };
+    put_lines(line, 0, n, page);
 }
 
-// The locals from `from` up to n.
-pub fn put_unsets(from: u8, n: u8, text: &[u8], out: &mut [u8], at: usize) -> usize
-    ensures { Put text.now out.old at (each unset (upto from (n - from))) out.new result }
+// The other locals, from `from` up to n.
+pub fn put_unsets(from: u8, n: u8, page: &mut Page)
+    ensures { Put page.old (each unset (upto from (n - from))) page.new }
 {
-    let mut j = from;
-    let mut p = at;
-    while j < n {
-        p = put_unset(j, text, out, p);
-        j += 1;
-    }
-    p
+    let line = Line {
+        before: b"  z_value ",
+        between: b" = z_unset(); (void)",
+        behind: b";\n",
+    };
+    put_lines(line, from, n, page);
 }

@@ -2,62 +2,54 @@
 ghost use Rattle.std.specs.Prelude.{◌+◌, ◌*◌, ◌^◌, ◌≤◌};
 ghost use Rattle.ctext.specs.Text.{location, area};
 ghost use Rattle.typeset.specs.Page.{Put};
-ghost use Rattle.frame.specs.Frames.{ShowsSizes};
+ghost use Rattle.frame.specs.Frames.{sized, ShowsSizes};
 
-use super::heads::put_counted;
+use super::heads::{Line, put_counted};
 use basics::bytes::two_bytes;
 use basics::numbers::SIZE;
-use typeset::pieces::put_all;
+use typeset::pieces::Page;
 
-// Location k.
-fn put_location(k: usize, size: usize, text: &[u8], out: &mut [u8], at: usize) -> usize
-    ensures { Put text.now out.old at (location k size) out.new result }
+// A line that says a location's number and its size.
+fn put_sized(line: Line, k: usize, size: usize, page: &mut Page)
+    ensures { Put page.old (sized line.entry k size) page.new }
 {
-    let p = put_counted(b"z_value m", k, text, out, at);
-    let q = put_counted(b"[", size, text, out, p);
-    put_all(b"];\n", text, out, q)
+    put_counted(line.before, k, page);
+    put_counted(line.between, size, page);
+    page.put_all(line.behind);
 }
 
-// Its entry.
-fn put_area(k: usize, size: usize, text: &[u8], out: &mut [u8], at: usize) -> usize
-    ensures { Put text.now out.old at (area k size) out.new result }
-{
-    let p = put_counted(b"  { m", k, text, out, at);
-    let q = put_counted(b", ", size, text, out, p);
-    put_all(b" },\n", text, out, q)
-}
-
-// The n locations whose sizes stand from `from` on.
-pub fn put_locations(
-    t: &[u8],
-    from: usize,
-    n: usize,
-    text: &[u8],
-    out: &mut [u8],
-    at: usize,
-) -> usize
+// One for each of the n locations whose sizes stand from `from` on.
+fn put_lines(line: Line, t: &[u8], from: usize, n: usize, page: &mut Page)
     requires { from + 2 * n ≤ 2 ^ 63 }
-    ensures { ShowsSizes location t.now text.now from n out.old at out.new result }
+    ensures { ShowsSizes (sized line.entry) t.now from n page.old page.new }
 {
-    let mut k = 0;
-    let mut p = at;
-    while k < n {
-        p = put_location(k, two_bytes(t, from + SIZE * k) as usize, text, out, p);
-        k += 1;
+    for k in 0..n {
+        put_sized(line, k, usize::from(two_bytes(t, from + SIZE * k)), page);
     }
-    p
+}
+
+// The locations.
+pub fn put_locations(t: &[u8], from: usize, n: usize, page: &mut Page)
+    requires { from + 2 * n ≤ 2 ^ 63 }
+    ensures { ShowsSizes location t.now from n page.old page.new }
+{
+    let line = Line {
+        before: b"z_value m",
+        between: b"[",
+        behind: b"];\n",
+    };
+    put_lines(line, t, from, n, page);
 }
 
 // Their entries.
-pub fn put_areas(t: &[u8], from: usize, n: usize, text: &[u8], out: &mut [u8], at: usize) -> usize
+pub fn put_areas(t: &[u8], from: usize, n: usize, page: &mut Page)
     requires { from + 2 * n ≤ 2 ^ 63 }
-    ensures { ShowsSizes area t.now text.now from n out.old at out.new result }
+    ensures { ShowsSizes area t.now from n page.old page.new }
 {
-    let mut k = 0;
-    let mut p = at;
-    while k < n {
-        p = put_area(k, two_bytes(t, from + SIZE * k) as usize, text, out, p);
-        k += 1;
-    }
-    p
+    let line = Line {
+        before: b"  { m",
+        between: b", ",
+        behind: b" },\n",
+    };
+    put_lines(line, t, from, n, page);
 }

@@ -2,14 +2,21 @@
 use Prim.Native.Nat.{ℕ, suc, ◌+◌, ◌^◌, ◌≤◌, ◌<◌}
 use native.Mathlib.Omega.{arith}
 use native.Mathlib.Nat.{zero-add}
-use native.Mathlib.Decide.{dec_le}
 use mathlib.Core.Path.{◌≡◌, refl, sym, ap, ap₂, subst, ◌∙◌}
 use mathlib.Core.List.{List, [], ◌∷◌, ◌++◌}
 use mathlib.Core.Bool.{Bool, true, false, not}
 use lib.ListN.{length, get_or, set, take, drop}
 use lib.Seq.{sets-eq, slice, drop-cons, drop-length, take-append_seam}
-use lib.Dec.{eqb}
-use borrow.Author.Tests.{lt-ltb, le-ltb, lt-leb, le-leb, eqb-true, eq-eqb}
+use lib.Dec.{eqb, ltb}
+use native.Mathlib.Decide.{dec_le}
+use borrow.Author.Tests.{lt-ltb, le-ltb, eqb-true, eq-eqb}
+use Rattle.std.specs.Prelude.{Option, Some, None, Result, Ok, Err}
+use Rattle.std.specs.Option.{option_eq}
+use Rattle.basics.specs.declared.refusals.Refusal.{Refusal}
+use Rattle.basics.specs.declared.refusals.Refusal.TheVariants.{NoRoom, NotOurs}
+use Rattle.answers.specs.Answers.{answer_of}
+use Rattle.reader.specs.declared.verdict.Counts.{Counts}
+use Rattle.reader.specs.Answers as reader
 use Rattle.value.specs.Maybe.{Maybe, is, nothing}
 use Rattle.value.specs.Lists.{over}
 use Rattle.value.proofs.Laws.Maybes.{missing}
@@ -18,19 +25,21 @@ use Rattle.value.proofs.Laws.Bytes.{Bytes}
 use Rattle.format.specs.Syntax.{Program, Plain, sequential}
 use Rattle.format.specs.Encode.{table}
 use Rattle.format.specs.Rules.{Verdict, refused, accepted}
-use Rattle.format.specs.Calls.{read_as, read_call}
-use Rattle.format.specs.declared.ReadAnswer.{ReadAnswer}
+use Rattle.format.specs.Calls.{read_call}
 use Rattle.format.proofs.Laws.Sound.{Sound}
 use Rattle.format.proofs.Laws.Accepted.{accepted_exactly}
-use Rattle.translation.specs.Calls.{Written, refusal, written, writes}
+use Rattle.translation.specs.Calls.{Written, written, writes}
 use Rattle.translation.specs.declared.WriteAnswer.{WriteAnswer}
 use Rattle.ctext.specs.Text.{text}
 use Rattle.ctext.specs.Calls.{read_text_call, untext}
 use Rattle.ctext.proofs.Laws.Reads.{TextOf, untext_exactly, reads, refuses}
-use Rattle.typeset.specs.Page.{Page, nowhere, otherwise, set_one, set_all}
+use Rattle.typeset.specs.declared.pieces.Page.{Page}
+use Rattle.typeset.specs.Page.{onward, otherwise, set_one, set_all, Begins}
+use Rattle.typeset.proofs.Setting.{set_nowhere}
 use Rattle.writer.specs.Laws.Put.{Put}
 use Rattle.frame.specs.Frames.{ShowsText}
 use Rattle.printer.specs.Accepted.{Accepts}
+use Rattle.printer.proofs.Printing.{refusal_not}
 use Rattle.retable.specs.Laws.Whole.{Reparses}
 use Rattle.fromtext.specs.Judged.{Judges}
 
@@ -40,44 +49,60 @@ left r o = record { answer = r; out = o }
 
 -- ---- what was set, held against the text
 
--- a place
-abbrev page : List ℕ → ℕ → Page
-page o p = record { out = o; at = p }
+-- where bytes that are set from p on, if there is a place, end
+ends_at : List ℕ → List ℕ → Option ℕ → List ℕ → Option ℕ
+ends_at x o p bs = (set_all x (record { out = o; at = p }) bs).at
 
--- one byte never goes back
-one_grows : (x o : List ℕ) (p b : ℕ) → p ≤ (set_one x (page o p) b).at
-unfolding set_one
-one_grows x o p b = elim (dec_le nowhere p) [
-  | yes far ↦ rw (le-leb nowhere p far, set_one) (omega arith)
-  | no near ↦
-      let l : p < nowhere = omega arith in
-      by_test (otherwise x p b)
-      (λ e. rw (lt-leb nowhere p l, set_one, e) (omega arith))
-      (λ e. rw (lt-leb nowhere p l, set_one, e) (omega arith))
-]
+-- one byte
+module _ (x o : List ℕ) (p b : ℕ) where
+  -- another stands there
+  one_other : otherwise x p b ≡ true → set_one x (record { out = o; at = Some p }) b ≡ record { out = o; at = None }
+  unfolding set_one
+  one_other t = rw (t, set_one) refl
 
--- nor do many
-all_grow : (x : List ℕ) (bs : List ℕ) (s : Page) → s.at ≤ (set_all x s bs).at
-all_grow x [] s = omega arith
-all_grow x (b ∷ bs) s =
-    let one : s.at ≤ (set_one x s b).at = one_grows x s.out s.at b in
-    let rest = all_grow x bs (set_one x s b) in
-    omega arith
+  -- it stands there, or the text has ended
+  one_so : {r : Option ℕ} → otherwise x p b ≡ false → onward p 1 ≡ r → set_one x (record { out = o; at = Some p }) b ≡ record { out = set o p b; at = r }
+  unfolding set_one
+  one_so t e = rw (t, set_one) (ap (λ r. record { out = set o p b; at = r }) e)
+
+-- there is a next place
+next_near : (p : ℕ) → p + 1 < 2 ^ 64 → onward p 1 ≡ Some (p + 1)
+unfolding onward
+next_near p l = let e : ltb (p + 1) (2 ^ 64) ≡ true = lt-ltb _ _ l in rw (e, onward) refl
+
+-- there is none
+next_far : (p : ℕ) → 2 ^ 64 ≤ p + 1 → onward p 1 ≡ None
+unfolding onward
+next_far p l = let e : ltb (p + 1) (2 ^ 64) ≡ false = le-ltb _ _ l in rw (e, onward) refl
+
+-- from no place nothing is found
+found_none : (x bs o : List ℕ) {k : ℕ} → ends_at x o None bs ≡ Some k → ⊥
+unfolding ends_at
+found_none x bs o {k} e = let none : ◌≡◌ {A = Option ℕ} None (Some k) = sym (ap (λ s. s.at) (set_nowhere x o bs)) ∙ e in cc none
+
+-- places never go back
+grows : (x bs o : List ℕ) (p k : ℕ) → ends_at x o (Some p) bs ≡ Some k → p ≤ k
+unfolding ends_at
+grows x [] o p k e = let same : p ≡ k = cc e in omega arith
+grows x (b ∷ bs) o p k e = by_test (otherwise x p b)
+    (λ t. absurd (found_none x bs o (sym (ap (λ s. (set_all x s bs).at) (one_other x o p b t)) ∙ e)))
+    (λ t. elim (dec_le (2 ^ 64) (p + 1)) [
+      | yes far ↦ absurd (found_none x bs (set o p b) (sym (ap (λ s. (set_all x s bs).at) (one_so x o p b t (next_far p far))) ∙ e))
+      | no near ↦
+          let more = grows x bs (set o p b) (p + 1) k (sym (ap (λ s. (set_all x s bs).at) (one_so x o p b t (next_near p (omega arith)))) ∙ e) in
+          omega arith
+    ])
 
 -- where they end with the text, they stand in it
-match_so : (x : List ℕ) (bs : List ℕ) (o : List ℕ) (p : ℕ) → p ≤ length x → length x < nowhere → (set_all x (page o p) bs).at ≡ length x → drop p x ≡ bs
-unfolding set_one otherwise
-match_so x [] o p l h e = rw e (drop-length x)
+match_so : (x bs o : List ℕ) (p : ℕ) → p ≤ length x → length x < 2 ^ 63 → ends_at x o (Some p) bs ≡ Some (length x) → drop p x ≡ bs
+unfolding ends_at otherwise
+match_so x [] o p l h e = let same : p ≡ length x = cc e in rw same (drop-length x)
 match_so x (b ∷ bs) o p l h e = by_test (otherwise x p b)
+    (λ t. absurd (found_none x bs o (sym (ap (λ s. (set_all x s bs).at) (one_other x o p b t)) ∙ e)))
     (λ t.
-    let one : set_one x (page o p) b ≡ page o nowhere = rw (lt-leb nowhere p (omega arith), set_one, t) in
-    let far : nowhere ≤ (set_all x (page o nowhere) bs).at = all_grow x bs (page o nowhere) in
-    absurd (omega (arith, h, far, sym (ap (λ s. (set_all x s bs).at) one) ∙ e)))
-    (λ t.
-    let one : set_one x (page o p) b ≡ page (set o p b) (p + 1) = rw (lt-leb nowhere p (omega arith), set_one, t) in
-    let end : (set_all x (page (set o p b) (p + 1)) bs).at ≡ length x = sym (ap (λ s. (set_all x s bs).at) one) ∙ e in
-    let more = all_grow x bs (page (set o p b) (p + 1)) in
-    let inside : p < length x = omega (arith, more, end) in
+    let end : ends_at x (set o p b) (Some (p + 1)) bs ≡ Some (length x) = sym (ap (λ s. (set_all x s bs).at) (one_so x o p b t (next_near p (omega arith)))) ∙ e in
+    let more = grows x bs (set o p b) (p + 1) (length x) end in
+    let inside : p < length x = omega arith in
     let byte : get_or x p 0 ≡ b = eqb-true (get_or x p 0) b (not_not (eqb (get_or x p 0) b) (rw (lt-ltb p (length x) inside) at t)) in
     let next : p + 1 ≡ suc p = omega arith in
     drop-cons x p 0 inside ∙ ap₂ (◌∷◌) byte (rw next at (match_so x bs (set o p b) (p + 1) (omega arith) h end)))
@@ -87,34 +112,47 @@ match_so x (b ∷ bs) o p l h e = by_test (otherwise x p b)
     not_not false e = absurd (never (sym e))
 
 -- where they stand in it, they end with it
-match_of : (x : List ℕ) (bs : List ℕ) (o : List ℕ) (p : ℕ) → p + length bs ≡ length x → length x < nowhere → drop p x ≡ bs → (set_all x (page o p) bs).at ≡ length x
-unfolding set_one otherwise
-match_of x [] o p l h e = omega arith
+match_of : (x bs o : List ℕ) (p : ℕ) → p + length bs ≡ length x → length x < 2 ^ 63 → drop p x ≡ bs → ends_at x o (Some p) bs ≡ Some (length x)
+unfolding ends_at otherwise
+match_of x [] o p l h e = ap (λ n. Some n) (omega arith)
 match_of x (b ∷ bs) o p l h e =
     let inside : p < length x = omega arith in
     let parts : get_or x p 0 ∷ drop (suc p) x ≡ b ∷ bs = sym (drop-cons x p 0 inside) ∙ e in
     let byte : get_or x p 0 ≡ b = ap (λ l. get_or l 0 0) parts in
     let t : otherwise x p b ≡ false = rw (lt-ltb p (length x) inside, eq-eqb (get_or x p 0) b byte) in
-    let one : set_one x (page o p) b ≡ page (set o p b) (p + 1) = rw (lt-leb nowhere p (omega arith), set_one, t) in
     let next : p + 1 ≡ suc p = omega arith in
-    ap (λ s. (set_all x s bs).at) one ∙ match_of x bs (set o p b) (p + 1) (omega arith) h (rw next (ap (drop 1) parts))
+    ap (λ s. (set_all x s bs).at) (one_so x o p b t (next_near p (omega arith))) ∙ match_of x bs (set o p b) (p + 1) (omega arith) h (rw next (ap (drop 1) parts))
+
+-- as the code asks for it
+pub end_same : (r : Option ℕ) (n : ℕ) {d : Bool} → d ≡ not (option_eq eqb r (Some n)) → d ≡ false → r ≡ Some n
+end_same None n e f = absurd (never (sym (sym e ∙ f)))
+end_same (Some k) n e f = by_test (eqb k n) (λ t. ap (λ k. Some k) (eqb-true k n t)) (λ t. absurd (never (sym (ap not (sym t) ∙ sym e ∙ f))))
+
+pub end_differs : (r : Option ℕ) (n : ℕ) {d : Bool} → d ≡ not (option_eq eqb r (Some n)) → d ≡ true → r ≡ Some n → ⊥
+end_differs r n {d} e f g =
+    let same : option_eq eqb r (Some n) ≡ true = rw g (eq-eqb n n refl) in
+    never (ap not (sym same) ∙ sym e ∙ f)
 
 -- ---- an accepted table
 
-module _ {x t : List ℕ} {a : ReadAnswer} (A : Accepts t a) {o₁ o₂ : List ℕ} {l : ℕ} (C : ShowsText t x a.procedures a.locations o₁ o₂ l)
-    (h : length x < 2 ^ 63) where
+module _ {x t m : List ℕ} {a : Counts} (A : Accepts t a) {b q : Page} (B : Begins x m b) (C : ShowsText t a.procedures a.locations b q) (h : length x < 2 ^ 63) where
   -- what was compared
-  ends : l ≡ (set_all x (page o₁ 0) (text A.program)).at
-  ends = ap (λ s. s.at) (C.shown A.program A.same A.sound A.procedures A.locations).puts
+  ends : q.at ≡ ends_at x m (Some 0) (text A.program)
+  unfolding ends_at
+  ends =
+      ap (λ s. s.at)
+      ((C.shown A.program A.same A.sound A.procedures A.locations).puts
+      ∙ ap₂ (λ x s. set_all x s (text A.program)) B.text (ap₂ (λ o r. record { out = o; at = r }) B.out B.at))
 
   -- another text
-  pub judge_other : {o : List ℕ} {r : WriteAnswer} → (l ≡ length x → ⊥) → r ≡ refusal 1 → Judges x t o o r
-  judge_other {o} {r} differs e = record {
+  pub judge_other : {o : List ℕ} {r : Option ℕ} → r ≡ q.at → (r ≡ Some (length x) → ⊥) → Judges x t o o (Err NotOurs)
+  judge_other {o} e differs = record {
     yes = λ w.
         let one : A.program ≡ w.p = accepted_one (sym A.verdict ∙ w.read) in
         let same : x ≡ text A.program = sym w.same ∙ ap text (sym one) in
-        absurd (differs (ends ∙ match_of x (text A.program) o₁ 0 (zero-add (length (text A.program)) ∙ ap length (sym same)) (omega arith) same));
-    no = λ w. ap (λ r. left r o) e;
+        absurd
+        (differs (e ∙ ends ∙ match_of x (text A.program) m 0 (zero-add (length (text A.program)) ∙ ap length (sym same)) (omega arith) same));
+    no = λ w. refl;
   }
     where
       accepted_one : {p q : Program Plain} → accepted p ≡ accepted q → p ≡ q
@@ -125,24 +163,24 @@ module _ {x t : List ℕ} {a : ReadAnswer} (A : Accepts t a) {o₁ o₂ : List �
           program (accepted q) = q
 
   -- its text
-  module _ (bytes : Bytes t) (same : l ≡ length x) where
+  module _ (bytes : Bytes t) {r : Option ℕ} (e : r ≡ q.at) (same : r ≡ Some (length x)) where
     found : TextOf t x
     found = record {
       bytes = bytes;
       p = A.program;
       read = A.verdict;
-      same = sym (match_so x (text A.program) o₁ 0 (omega arith) (omega arith) (sym ends ∙ same));
+      same = sym (match_so x (text A.program) m 0 (omega arith) (omega arith) (sym ends ∙ sym e ∙ same));
     }
 
     -- 10
-    pub judge_room : {o : List ℕ} {r : WriteAnswer} → length o < length t → r ≡ refusal 10 → Judges x t o o r
-    judge_room {o} {r} short e = record {
-      yes = λ w. ap (λ r. left r o) e ∙ rw (lt-ltb (length o) (length t) short, writes);
+    pub judge_room : {o : List ℕ} → length o < length t → Judges x t o o (Err NoRoom)
+    judge_room {o} short = record {
+      yes = λ w. rw (lt-ltb (length o) (length t) short, writes) refl;
       no = λ w. absurd (w found);
     }
 
     -- written
-    pub judge_writes : {o o' : List ℕ} {k : ℕ} → length t ≤ length o → Put o 0 (slice 0 (length t) t) o' k → Judges x t o o' (written (length t))
+    pub judge_writes : {o o' : List ℕ} {k : ℕ} → length t ≤ length o → Put o 0 (slice 0 (length t) t) o' k → Judges x t o o' (Ok (length t))
     judge_writes {o} {o'} {k} room P = record {
       yes = λ w.
           let all : slice 0 (length t) t ≡ t = take_all t in
@@ -161,13 +199,8 @@ module _ {x t : List ℕ} {a : ReadAnswer} (A : Accepts t a) {o₁ o₂ : List �
 
 -- ---- a table that may be refused
 
-pub judge_refused : {x : List ℕ} (t : List ℕ) {o : List ℕ} {a : ReadAnswer} {r : WriteAnswer} → a ≡ read_call sequential t → (a.number ≡ 0 → ⊥) → r ≡ refusal 1
-    → Judges x t o o r
-judge_refused t {o} {a} {r} same some e = record {
-  yes = λ w.
-      absurd (some (ap (λ (x : ReadAnswer). x.number) same ∙ ap (λ (v : Verdict). (read_as sequential v).number) w.read));
-  no = λ w. ap (λ r. left r o) e;
-}
+pub judge_refused : {x : List ℕ} (t o : List ℕ) (e : Refusal) → reader.answer_of (Err e) ≡ read_call sequential t → Judges x t o o (Err NotOurs)
+judge_refused t o e same = record { yes = λ w. absurd (refusal_not t e same w.read); no = λ w. refl }
 
 -- ---- the call
 
@@ -184,15 +217,14 @@ parsed {x} {o} {o'} {n} R wide u w =
 
 module _ {x s s' : List ℕ} {n : ℕ} (R : Reparses x s s' n) (wide : length s ≡ 65536) where
   -- no table is so long
-  pub call_long : {o : List ℕ} {r : WriteAnswer} → 65536 < n → r ≡ refusal 1 → left r o ≡ read_text_call x o
-  call_long {o} {r} far e =
-      ap (λ r. left r o) e ∙ sym (refuses x o (λ u w. omega (arith, (parsed R wide u w).0)))
+  pub call_long : {o : List ℕ} → 65536 < n → left (answer_of (Err NotOurs)) o ≡ read_text_call x o
+  call_long {o} far = sym (refuses x o (λ u w. omega (arith, (parsed R wide u w).0)))
 
   -- judged
-  pub call_judged : {o o' : List ℕ} {r : WriteAnswer} → Judges x (take n s') o o' r → left r o' ≡ read_text_call x o
+  pub call_judged : {o o' : List ℕ} {r : Result ℕ Refusal} → Judges x (take n s') o o' r → left (answer_of r) o' ≡ read_text_call x o
   call_judged {o} {o'} {r} K = by (untext x) refl
     where
-      by : (m : Maybe (List ℕ)) → untext x ≡ m → left r o' ≡ read_text_call x o
+      by : (m : Maybe (List ℕ)) → untext x ≡ m → left (answer_of r) o' ≡ read_text_call x o
       by nothing e =
           let none : (u : List ℕ) → TextOf u x → ⊥ = λ u w. missing (sym e ∙ (untext_exactly x u).1 w) in
           K.no (none (take n s')) ∙ sym (refuses x o none)

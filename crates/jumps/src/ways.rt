@@ -24,8 +24,7 @@ fn fill_block(t: &[u8], at: usize, depth: u8, after: usize, jumps: &mut [u16; LO
 {
     let mut i = at;
     while t[i] != END {
-        let one = count_instr(t, i, depth - 1);
-        let next = one.next;
+        let next = count_instr(t, i, depth - 1).next;
         let follow = onward(t, next, after);
         fill_instr(t, i, depth - 1, follow, jumps);
         i = next;
@@ -41,21 +40,20 @@ fn fill_instr(t: &[u8], at: usize, depth: u8, after: usize, jumps: &mut [u16; LO
     requires after_lt_positions { (after < positions) × (length t.now ≤ positions) }
     ensures { FillsInstr t.now at depth after jumps.old jumps.new }
 {
-    let form = t[at];
-    if form == WHILE {
-        jumps[at] = after as u16;
-        let body = after_expr(t, at + 1);
-        fill_block(t, body, depth, at, jumps);
-        return;
-    }
-    if form == IF {
-        let yes = after_expr(t, at + 1);
-        let counted = count_block(t, yes, depth);
-        let no = counted.next;
-        let other = onward(t, no, after);
-        jumps[at] = other as u16;
-        fill_block(t, yes, depth, after, jumps);
-        fill_block(t, no, depth, after, jumps);
+    match t[at] {
+        WHILE => {
+            jumps[at] = after as u16;
+            let body = after_expr(t, at + 1);
+            fill_block(t, body, depth, at, jumps);
+        }
+        IF => {
+            let yes = after_expr(t, at + 1);
+            let no = count_block(t, yes, depth).next;
+            jumps[at] = onward(t, no, after) as u16;
+            fill_block(t, yes, depth, after, jumps);
+            fill_block(t, no, depth, after, jumps);
+        }
+        _ => {}
     }
 }
 
@@ -64,14 +62,11 @@ pub fn fill(t: &[u8], procedures: usize, jumps: &mut [u16; LONGEST])
     requires { BodiesIn t.now 0 procedures × (length t.now ≤ positions) }
     ensures { FillsJumps t.now procedures jumps.old jumps.new }
 {
-    let mut m = 0;
     let mut at = 0;
-    while m < procedures {
-        let body = count_block(t, at, NESTING);
-        let next = body.next;
+    for _ in 0..procedures {
+        let next = count_block(t, at, NESTING).next;
         fill_block(t, at, NESTING, next - 1, jumps);
         at = next;
-        m += 1;
     }
 }
 
@@ -79,7 +74,7 @@ pub fn fill(t: &[u8], procedures: usize, jumps: &mut [u16; LONGEST])
 fn wide(entry: u16) -> usize
     ensures { (result ≡ entry) × (result < positions) }
 {
-    entry as usize
+    usize::from(entry)
 }
 
 // Where a run goes on whose next block, or the rest of one, stands at `at`.

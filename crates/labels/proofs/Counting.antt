@@ -20,29 +20,28 @@ use Rattle.format.proofs.Laws.Grammar
 use Rattle.format.proofs.Laws.Positions.{expr_read}
 use Rattle.format.proofs.Laws.Reading.{so}
 use Rattle.format.proofs.Laws.Rests.{Leaves, expr_leaves}
-use Rattle.parse.specs.declared.Ends.{Ends}
-use Rattle.parse.specs.declared.Ends.TheVariants.{At, Nothing}
+use Rattle.std.specs.Prelude.{Option, Some, None, unwrap_or}
 use Rattle.labels.specs.declared.count.Counted.{Counted}
 
 -- ---- expressions
 
 -- something that ends somewhere is something
-ends_nothing : {G : Type 0} {k : ℕ} → At k ≡ Nothing → G
+ends_nothing : {G : Type 0} {k : ℕ} → Some k ≡ None → G
 ends_nothing e = let z : ◌≡◌ {A = ℕ} 0 1 = cc in absurd (omega arith)
 
 -- and ends at one position
-ends_at : {j k : ℕ} → At j ≡ At k → j ≡ k
+ends_at : {j k : ℕ} → Some j ≡ Some k → j ≡ k
 ends_at e = cc
 
 module _ {t : List ℕ} {i : ℕ} where
   -- where the reader ends
-  read_ends : {f : Ends} {e : Expr} {j : ℕ} → ReadsExpr t i max_depth f → Grammar.ExprAt t i max_depth e j → f ≡ At j
+  read_ends : {f : Option ℕ} {e : Expr} {j : ℕ} → ReadsExpr t i max_depth f → Grammar.ExprAt t i max_depth e j → f ≡ Some j
   read_ends {f} {e} {j} R h =
       let left : length t - length (drop j t) ≡ j = rw length-drop (omega (arith, h.stands.fits)) in
-      R.same ∙ ap (end_of t) (expr_read h) ∙ ap At left
+      R.same ∙ ap (end_of t) (expr_read h) ∙ ap Some left
 
   -- it does not end before it begins
-  read_forward : {f : Ends} {k : ℕ} → f ≡ At k → ReadsExpr t i max_depth f → i ≤ k
+  read_forward : {f : Option ℕ} {k : ℕ} → f ≡ Some k → ReadsExpr t i max_depth f → i ≤ k
   read_forward {f} {k} q R =
       by_test (leb i (length t))
       (λ some. inside (leb-true i (length t) some) (D.expr max_depth (drop i t)) (expr_leaves max_depth (drop i t)) (sym q ∙ R.same))
@@ -50,45 +49,42 @@ module _ {t : List ℕ} {i : ℕ} where
       let none : drop i t ≡ [] = drop_of_length-le t {i = i} (omega (arith, leb-false i (length t) past)) in
       ends_nothing (sym q ∙ R.same ∙ ap (λ (bs : List ℕ). end_of t (D.expr max_depth bs)) none))
     where
-      inside : i ≤ length t → (m : D.Read Expr) → Leaves (drop i t) m → At k ≡ end_of t m → i ≤ k
+      inside : i ≤ length t → (m : D.Read Expr) → Leaves (drop i t) m → Some k ≡ end_of t m → i ≤ k
       inside l nothing n e = ends_nothing e
       inside l (is got) (so rest) e =
           let same : k ≡ length t - length got.1 = ends_at e in
           let left : length got.1 ≡ length (drop i t) - rest.taken = ap length rest.is ∙ length-drop rest.taken (drop i t) in
           omega (arith, length-drop i t, rest.few)
 
-  -- an expression that was read
-  pub after_read : {f : Ends} {k : ℕ} → f ≡ At k → ReadsExpr t i max_depth f → ExprEnds t i k
-  after_read {f} {k} q R = record { forward = read_forward q R; ends = λ e j h. ends_at (sym q ∙ read_ends R h) }
-
-  -- none was
-  pub after_none : {f : Ends} → f ≡ Nothing → ReadsExpr t i max_depth f → ExprEnds t i i
-  after_none {f} q R = record { forward = omega arith; ends = λ e j h. ends_nothing (sym (sym q ∙ read_ends R h)) }
-
-pub ruleset expr_end_ways = (after_read, after_none)
+  -- an expression that was read, or none was
+  pub after_read : {f : Option ℕ} → ReadsExpr t i max_depth f → ExprEnds t i (unwrap_or f i)
+  after_read {f = Some k} R = record { forward = read_forward refl R; ends = λ e j h. ends_at (read_ends R h) }
+  after_read {f = None} R = record { forward = omega arith; ends = λ e j h. ends_nothing (sym (read_ends R h)) }
 
 -- ---- several expressions
 
 -- what ends from k on with n left, ends from i on
-pub record Skipping (t : List ℕ) (i m k n : ℕ) : Type 0 where
-  pub back : (r : ℕ) → ExprsEnd t k n r → ExprsEnd t i m r
+pub record Skipping (t : List ℕ) (i m k c : ℕ) : Type 0 where
+  pub back : (r : ℕ) → ExprsEnd t k (m - c) r → ExprsEnd t i m r
 
 module _ (t : List ℕ) (i m : ℕ) where
-  pub skip_start : Skipping t i m i m
-  skip_start = record { back = λ r R. R }
+  pub skip_start : Skipping t i m i 0
+  skip_start = let all : m - 0 ≡ m = omega arith in record { back = λ r R. rw all at R }
 
-  pub skip_one : {k n r : ℕ} → Skipping t i m k n → 0 < n → ExprEnds t k r → Skipping t i m r (n - 1)
-  skip_one {k} {n} {r} S h R = record {
+  pub skip_one : {k c r : ℕ} → Skipping t i m k c → c < m → ExprEnds t k r → Skipping t i m r (c + 1)
+  skip_one {k} {c} {r} S h R = record {
     back = λ q Q. S.back q (record {
       ends = λ es j a.
-          let w : Grammar.MoreAt t k n es j = Grammar.exprs_more a h in
+          let w : Grammar.MoreAt t k (m - c) es j = Grammar.exprs_more a (omega arith) in
           let same : r ≡ w.k = R.ends w.e w.k w.here in
-          Q.ends w.rest j (subst (λ (x : ℕ). Grammar.ExprsAt t x (n - 1) w.rest j) (sym same) w.after);
+          let less : m - (c + 1) ≡ m - c - 1 = omega arith in
+          Q.ends w.rest j (subst (λ (x : ℕ). Grammar.ExprsAt t x (m - (c + 1)) w.rest j) (sym same)
+          (subst (λ (x : ℕ). Grammar.ExprsAt t w.k x w.rest j) (sym less) w.after));
     });
   }
 
-  pub skip_end : {k n : ℕ} → Skipping t i m k n → n ≤ 0 → ExprsEnd t i m k
-  skip_end {k} {n} S h = S.back k (record { ends = λ es j a. sym (Grammar.exprs_none_lem a (omega arith)).1 })
+  pub skip_end : {k c : ℕ} → Skipping t i m k c → m ≤ c → ExprsEnd t i m k
+  skip_end {k} {c} S h = S.back k (record { ends = λ es j a. sym (Grammar.exprs_none_lem a (omega arith)).1 })
 
 pub ruleset skip_ways = (skip_start, skip_one, skip_end)
 

@@ -6,11 +6,12 @@ use lib.Pow.{pow_mono, pow-lt}
 use mathlib.Core.Path.{◌≡◌, refl, sym, ap, ap₂, subst, ◌∙◌}
 use mathlib.Core.List.{List, []}
 use mathlib.Core.Bool.{Bool, true, false}
+use mathlib.Core.Logic.{◌⊎◌, inl, inr}
 use lib.ListN.{length, get_or}
 use lib.Bits.{bit_or}
 use lib.Count.{ones, ones_step, ones-le}
-use lib.Dec.{eqb}
-use borrow.Author.Tests.{eqb-true, eqb-false, eq-eqb, ne_eqb}
+use lib.Dec.{eqb, ltb}
+use borrow.Author.Tests.{eqb-true, eqb-false, eq-eqb, ne_eqb, le-ltb}
 use Rattle.value.specs.Maybe.{either}
 use Rattle.value.specs.Values.{One, not, neg, Two, add, sub, mul, less, equal, and}
 use Rattle.value.specs.Marks.{mark₁, mark₂}
@@ -57,12 +58,12 @@ unfolding bits
 has_low s x h = sym (bit_shift s x)
 
 -- no other
-pub has_high : (s x : ℕ) → s < 65536 → max_locals ≤ x → false ≡ bits s x
+pub has_high : (s x : ℕ) → s < 65536 → max_locals ≤ x → ltb x max_locals ≡ bits s x
 unfolding bits
 has_high s x f h =
     let most : 2 ^ 16 ≤ 2 ^ x = pow_mono h in
     let none : s / 2 ^ x ≡ 0 = div-eq_of_lt (omega arith) in
-    sym (rw (bit_shift s x, none))
+    le-ltb x max_locals h ∙ sym (rw (bit_shift s x, none))
 
 pub ruleset has_ways = (has_low, has_high)
 
@@ -87,9 +88,12 @@ pub ones_few : (s : ℕ) → s < 65536 → ones s < 18446744073709551616
 ones_few s f = omega (arith, ones-le 16 s f)
 
 -- the count of ones
-pub counts_ones : (s : ℕ) → s < 65536 → CountsSet s (ones s)
+pub counts_ones : (s : ℕ) {r : ℕ} → s < 65536 → r ≡ ones s → CountsSet s r
 unfolding bits
-counts_ones s f = record { few = ones-le 16 s f; counts = λ es h. ones_count max_locals s 0 es f (λ y q. h y q ∙ ap (λ (z : ℕ). mentions z es) (omega arith)) }
+counts_ones s f e = rw e (record {
+  few = ones-le 16 s f;
+  counts = λ es h. ones_count max_locals s 0 es f (λ y q. h y q ∙ ap (λ (z : ℕ). mentions z es) (omega arith));
+})
 
 pub ruleset count_set_ways = (counts_ones)
 
@@ -134,10 +138,10 @@ module _ {t : List ℕ} {i d j : ℕ} where
 abbrev pub gathered : ℕ → ℕ → Gathered
 gathered s j = record { set = s; next = j }
 
-module _ {t : List ℕ} {i n : ℕ} (payload : n ≡ payload_of (get_or t i 0)) where
+module _ {t : List ℕ} {i k n : ℕ} (payload : k ≡ payload_of (get_or t i 0)) (wide : n ≡ k) where
   -- it ends behind its payload
   ends_behind : (e : Expr) (d j : ℕ) → ExprAt t i d e j → arity e ≡ 0 → i + 1 + n ≡ j
-  ends_behind e d j h k = ap (λ (x : ℕ). i + 1 + x) payload ∙ leaf_ends e h k
+  ends_behind e d j h none = ap (λ (x : ℕ). i + 1 + x) (wide ∙ payload) ∙ leaf_ends e h none
 
   -- "05 + 1 byte: local variable"
   pub leaf_local : {s : ℕ} → get_or t i 0 ≡ 0x05 → Only (get_or t (i + 1) 0) s → GathersLeaf t i (gathered s (i + 1 + n))
@@ -175,11 +179,12 @@ pub ruleset leaf_ways = (leaf_local, leaf_cut, leaf_constant)
 
 module _ {t : List ℕ} {i d : ℕ} where
   -- nothing stands there
-  pub gathers_shallow : {r : Gathered} → d ≡ 0 → Gathers t i d r
-  gathers_shallow z = record { set = λ e j h. absurd (omega (arith, expr_deep h)); ends = λ e j h. absurd (omega (arith, expr_deep h)) }
-
-  pub gathers_past : {r : Gathered} → length t ≤ i → Gathers t i d r
-  gathers_past l = record { set = λ e j h. absurd (omega (arith, expr_inside h)); ends = λ e j h. absurd (omega (arith, expr_inside h)) }
+  pub gathers_none : {r : Gathered} → (d ≡ 0) ⊎ ((d ≡ 0 → ⊥) × (length t ≤ i)) → Gathers t i d r
+  gathers_none {r} none = record { set = λ e j h. absurd (no_room h none); ends = λ e j h. absurd (no_room h none) }
+    where
+      no_room : {e : Expr} {j : ℕ} → ExprAt t i d e j → (d ≡ 0) ⊎ ((d ≡ 0 → ⊥) × (length t ≤ i)) → ⊥
+      no_room h (inl z) = omega (arith, expr_deep h)
+      no_room h (inr l) = omega (arith, expr_inside h, l.1)
 
   -- one operand
   pub gathers_one : {k : ℕ} {x : Gathered} → k ≡ operands_of (get_or t i 0) → k ≡ 1 → Gathers t (i + 1) (d - 1) x → Gathers t i d x
@@ -235,7 +240,7 @@ module _ {t : List ℕ} {i d : ℕ} where
       leaf (one p a) h = absurd (n₁ (o ∙ operands_are (one p a) h))
       leaf (two p a b) h = absurd (n₂ (o ∙ operands_are (two p a b) h))
 
-pub ruleset gather_ways = (gathers_shallow, gathers_past, gathers_one, gathers_two, gathers_leaf)
+pub ruleset gather_ways = (gathers_none, gathers_one, gathers_two, gathers_leaf)
 
 -- ---- several expressions
 
@@ -246,19 +251,24 @@ either_assoc false b c = refl
 
 module _ {t : List ℕ} where
   -- before the first
-  pub each_start : {i k : ℕ} → Gathering t i k 0 i k
-  each_start = record {
-    back = λ M. record { gives = λ es j at x l. M.gives es j at x l ∙ ap (λ (b : Bool). either b (mentions x es)) (bits_none x) };
+  pub each_start : {i k : ℕ} → Gathering t i k 0 i 0
+  each_start {k = k} = let all : k - 0 ≡ k = omega arith in record {
+    back = λ M. record {
+      gives = λ es j at x l. (rw all at M).gives es j at x l ∙ ap (λ (b : Bool). either b (mentions x es)) (bits_none x);
+    };
   }
 
   -- one more
-  pub each_next : {i k i' left s : ℕ} {g : Gathered} → Gathering t i k s i' left → 0 < left → Gathers t i' max_depth g
-      → Gathering t i k (bit_or s g.set) g.next (left - 1)
-  each_next {i} {k} {i'} {left} {s} {g} F some A = record {
-    back = λ M. F.back (record { gives = λ es j at x l. one es j x l (exprs_more at some) M });
+  pub each_next : {i k i' done s : ℕ} {g : Gathered} → Gathering t i k s i' done → done < k → Gathers t i' max_depth g
+      → Gathering t i k (bit_or s g.set) g.next (done + 1)
+  each_next {i} {k} {i'} {done} {s} {g} F some A = record {
+    back = λ M. F.back (record { gives = λ es j at x l. one es j x l (exprs_more at (omega arith)) (rw less at M) });
   }
     where
-      one : {r : ℕ} (es : List Expr) (j x : ℕ) → x < max_locals → MoreAt t i' left es j → GathersMore t g.next (left - 1) (bit_or s g.set) r
+      less : k - (done + 1) ≡ k - done - 1
+      less = omega arith
+
+      one : {r : ℕ} (es : List Expr) (j x : ℕ) → x < max_locals → MoreAt t i' (k - done) es j → GathersMore t g.next (k - done - 1) (bit_or s g.set) r
           → bits r x ≡ either (bits s x) (mentions x es)
       one {r} es j x l w M =
           let next : g.next ≡ w.k = A.ends w.e w.k w.here in
@@ -270,7 +280,7 @@ module _ {t : List ℕ} where
           ∙ ap (λ (fs : List Expr). either (bits s x) (mentions x fs)) (sym w.is)
 
   -- after the last
-  pub each_end : {i k i' left s : ℕ} → Gathering t i k s i' left → left ≤ 0 → GathersEach t i k s
+  pub each_end : {i k i' done s : ℕ} → Gathering t i k s i' done → k ≤ done → GathersEach t i k s
   each_end {s = s} F none = F.back (record {
     gives = λ es j at x l.
         let empty : es ≡ [] = (exprs_none_lem at (omega arith)).0 in

@@ -87,9 +87,9 @@ pub record GathersMore (t : List ℕ) (i k s r : ℕ) : Type 0 where
 pub record GathersEach (t : List ℕ) (i k r : ℕ) : Type 0 where
   pub gives : (es : List Expr) (j : ℕ) → ExprsAt t i k es j → SetOf r es
 
--- what is gathered from there on is gathered from here on
-pub record Gathering (t : List ℕ) (i k s i' left : ℕ) : Type 0 where
-  pub back : {r : ℕ} → GathersMore t i' left s r → GathersEach t i k r
+-- what is gathered from there on is gathered from here on, where so many are done
+pub record Gathering (t : List ℕ) (i k s i' done : ℕ) : Type 0 where
+  pub back : {r : ℕ} → GathersMore t i' (k - done) s r → GathersEach t i k r
 
 -- how many are in a set: as many as there are variables
 pub record CountsSet (s r : ℕ) : Type 0 where

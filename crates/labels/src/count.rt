@@ -3,7 +3,6 @@
 ghost use Rattle.labels.specs.Walks.{ExprEnds, ExprsEnd, PlainEnds, BlockIn, InstrIn, CountsBlock, CountsInstr};
 
 use basics::numbers::{ASSIGN, ATOMIC, CALL, DEPTH, END, IF, READ, WHILE, WRITE};
-use parse::Ends;
 use parse::expression::read_expr;
 
 // Where a block or an instruction ends, and its labels.
@@ -14,13 +13,11 @@ pub struct Counted {
 }
 
 // Where an expression ends.
+#[tactic(auto, using(crate::proofs::Counting::after_read))]
 pub fn after_expr(t: &[u8], at: usize) -> usize
     ensures { ExprEnds t.now at result }
 {
-    let Ends::At(next) = read_expr(t, at, DEPTH) else {
-        return at;
-    };
-    next
+    read_expr(t, at, DEPTH).unwrap_or(at)
 }
 
 // Where n expressions end.
@@ -28,10 +25,8 @@ fn after_exprs(t: &[u8], at: usize, n: u8) -> usize
     ensures { ExprsEnd t.now at n result }
 {
     let mut i = at;
-    let mut left = n;
-    while 0 < left {
+    for _ in 0..n {
         i = after_expr(t, i);
-        left -= 1;
     }
     i
 }
@@ -61,32 +56,30 @@ pub fn count_instr(t: &[u8], at: usize, depth: u8) -> Counted
     requires { InstrIn t.now at depth }
     ensures { CountsInstr t.now at depth result }
 {
-    let form = t[at];
-    if form == WHILE {
-        let body = count_block(t, after_expr(t, at + 1), depth);
-        return Counted {
-            next: body.next,
-            labels: 1 + body.labels,
-        };
-    }
-    if form == IF {
-        let yes = count_block(t, after_expr(t, at + 1), depth);
-        let no = count_block(t, yes.next, depth);
-        return Counted {
-            next: no.next,
-            labels: 1 + yes.labels + no.labels,
-        };
-    }
-    if form == ATOMIC {
-        let body = count_block(t, at + 1, depth);
-        return Counted {
-            next: body.next,
+    match t[at] {
+        WHILE => {
+            let body = count_block(t, after_expr(t, at + 1), depth);
+            Counted {
+                next: body.next,
+                labels: 1 + body.labels,
+            }
+        }
+        IF => {
+            let yes = count_block(t, after_expr(t, at + 1), depth);
+            let no = count_block(t, yes.next, depth);
+            Counted {
+                next: no.next,
+                labels: 1 + yes.labels + no.labels,
+            }
+        }
+        ATOMIC => Counted {
+            next: count_block(t, at + 1, depth).next,
             labels: 1,
-        };
-    }
-    Counted {
-        next: after_plain(t, at),
-        labels: 1,
+        },
+        _ => Counted {
+            next: after_plain(t, at),
+            labels: 1,
+        },
     }
 }
 
@@ -95,18 +88,11 @@ fn after_plain(t: &[u8], at: usize) -> usize
     requires { InstrIn t.now at 0 }
     ensures { PlainEnds t.now at result }
 {
-    let form = t[at];
-    if form == ASSIGN {
-        return after_expr(t, at + 2);
+    match t[at] {
+        ASSIGN => after_expr(t, at + 2),
+        WRITE => after_expr(t, after_expr(t, at + 2)),
+        READ => after_expr(t, at + 3),
+        CALL => after_exprs(t, at + 4, t[at + 3]),
+        _ => at + 5,
     }
-    if form == WRITE {
-        return after_expr(t, after_expr(t, at + 2));
-    }
-    if form == READ {
-        return after_expr(t, at + 3);
-    }
-    if form == CALL {
-        return after_exprs(t, at + 4, t[at + 3]);
-    }
-    at + 5
 }

@@ -54,12 +54,11 @@ fn put_bounds(bounds: &mut [usize; BOUNDS], proc: usize, begin: usize, end: usiz
 fn begin(t: &[u8], at: usize, label: usize, after: usize) -> usize
     ensures { BeginsAt t.now at label after result }
 {
-    if at < t.len() {
-        if t[at] == END {
-            return after;
-        }
+    if at < t.len() && t[at] == END {
+        after
+    } else {
+        label
     }
-    label
 }
 
 // The nodes of a block's labels, from `label` on. The label `after` follows the block.
@@ -106,27 +105,26 @@ fn fill_instr(
     requires label_bound { label ≤ at + 1 }
     ensures { FillsInstr t.now at depth label after proc map.old map.new }
 {
-    let form = t[at];
-    if form == WHILE {
-        let body = after_expr(t, at + 1);
-        let first = begin(t, body, label + 1, label);
-        put_node(map, label, at, proc, first, after);
-        fill_block(t, body, depth, label + 1, label, proc, map);
-        return;
+    match t[at] {
+        WHILE => {
+            let body = after_expr(t, at + 1);
+            let first = begin(t, body, label + 1, label);
+            put_node(map, label, at, proc, first, after);
+            fill_block(t, body, depth, label + 1, label, proc, map);
+        }
+        IF => {
+            let yes = after_expr(t, at + 1);
+            let counted = count_block(t, yes, depth);
+            let no = counted.next;
+            let second = label + 1 + counted.labels;
+            let then_first = begin(t, yes, label + 1, after);
+            let else_first = begin(t, no, second, after);
+            put_node(map, label, at, proc, then_first, else_first);
+            fill_block(t, yes, depth, label + 1, after, proc, map);
+            fill_block(t, no, depth, second, after, proc, map);
+        }
+        _ => put_node(map, label, at, proc, after, 0),
     }
-    if form == IF {
-        let yes = after_expr(t, at + 1);
-        let counted = count_block(t, yes, depth);
-        let no = counted.next;
-        let second = label + 1 + counted.labels;
-        let then_first = begin(t, yes, label + 1, after);
-        let else_first = begin(t, no, second, after);
-        put_node(map, label, at, proc, then_first, else_first);
-        fill_block(t, yes, depth, label + 1, after, proc, map);
-        fill_block(t, no, depth, second, after, proc, map);
-        return;
-    }
-    put_node(map, label, at, proc, after, 0);
 }
 
 // Fills the map with the numbers of each label, and `bounds` with the first and the last label of each procedure: "in each,
@@ -141,10 +139,9 @@ pub fn fill_labels(
     requires map_len { (length map.old ≡ map_words) × (length bounds.old ≡ bound_words) }
     ensures { MapsLabels t.now procs map.new bounds.new result }
 {
-    let mut m = 0;
     let mut at = 0;
     let mut l = 1;
-    while m < procs {
+    for m in 0..procs {
         let body = count_block(t, at, NESTING);
         let next = body.next;
         let end = l + body.labels;
@@ -154,7 +151,6 @@ pub fn fill_labels(
         put_bounds(bounds, m, first, end);
         at = next;
         l = end + 1;
-        m += 1;
     }
     l - 1
 }

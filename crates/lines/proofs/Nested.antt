@@ -11,16 +11,16 @@ use Rattle.format.proofs.Laws.Grammar as G
 use Rattle.ctext.specs.Pieces.{say}
 use Rattle.ctext.specs.Text.{expr, ind, instr, block}
 use Rattle.ctext.proofs.Laws.LineText.{FlatI, Flat}
+use Rattle.typeset.specs.declared.pieces.Page.{Page}
 use Rattle.typeset.specs.Page.{Put}
 use Rattle.typeset.proofs.Setting.{put_none, put_then, put_same}
-use Rattle.phrases.specs.declared.exprs.Shown.{Shown}
 use Rattle.phrases.specs.Shows.{Shows}
 use Rattle.lines.specs.Lines.{ShowsInstr, ShowsPlain, ShowsTest, ShowsBlock, ShowsClosed, Later}
 use Rattle.lines.proofs.Plainly.{lit, regroup}
 
 -- a word, a test and a brace
-pub test_shown : {word t x : List ℕ} {i : ℕ} {o o₁ o₂ o₃ : List ℕ} {p q r : ℕ} {s : Shown} → Put x o p word o₁ q → Shows t x i max_depth 3 o₁ q o₂ s
-    → Put x o₂ s.to (lit ")) {\n") o₃ r → ShowsTest word t x i o p o₃ (record { next = s.next; to = r })
+pub test_shown : {word t : List ℕ} {i : ℕ} {p q r s : Page} {ns : ℕ} → Put p word q → Shows t i max_depth 3 q s ns
+    → Put s (lit ")) {\n") r → ShowsTest word t i p r ns
 unfolding say
 test_shown {word} A S B = record {
   shown = λ e j h. put_then word _ A (put_then (expr e) _ (S.shown e j h) B);
@@ -30,8 +30,8 @@ test_shown {word} A S B = record {
 }
 
 -- a block and the line behind it
-pub closed_shown : {word t x : List ℕ} {i c w : ℕ} {o o₁ o₂ o₃ : List ℕ} {p q r : ℕ} {s : Shown} → ShowsBlock t x i c (w + 2) o p o₁ s
-    → Put x o₁ s.to (replicate w 32) o₂ q → Put x o₂ q word o₃ r → ShowsClosed word t x i c w o p o₃ (record { next = s.next; to = r })
+pub closed_shown : {word t : List ℕ} {i c w : ℕ} {p q r s : Page} {ns : ℕ} → ShowsBlock t i c (w + 2) p s ns
+    → Put s (replicate w 32) q → Put q word r → ShowsClosed word t i c w p r ns
 closed_shown {word} S A B = record {
   shown = λ d b j e h f. put_then (block (suc d) b) _ (S.shown (suc d) b j (omega (arith, e)) h f) (put_then (ind d) word (rw e at A) B);
   ends = S.ends;
@@ -39,15 +39,15 @@ closed_shown {word} S A B = record {
   kept = B.kept ∙ A.kept ∙ S.kept;
 }
 
-module _ {t x : List ℕ} {i c w : ℕ} {o : List ℕ} {p : ℕ} where
+module _ {t : List ℕ} {i c w : ℕ} {p : Page} where
   -- ---- instructions
 
   -- while
-  pub while_shown : {o₁ o₂ : List ℕ} {s r : Shown} → get_or t i 0 ≡ 0x23 → ShowsTest (lit "while (z_test(") t x (i + 1) o p o₁ s
-      → ShowsClosed (lit "}\n") t x s.next c w o₁ s.to o₂ r
-      → ShowsInstr t x i c w o p o₂ r
+  pub while_shown : {s r : Page} {ns nr : ℕ} → get_or t i 0 ≡ 0x23 → ShowsTest (lit "while (z_test(") t (i + 1) p s ns
+      → ShowsClosed (lit "}\n") t ns c w s r nr
+      → ShowsInstr t i c w p r nr
   unfolding say
-  while_shown {o₁} {o₂} {s} {r} m T C = record {
+  while_shown {s} {r} {ns} {nr} m T C = record {
     shown = λ d a j v h f.
         let g : WhileAt t i c a j = while_here h m in
         let rest : List ℕ = block (suc d) g.b ++ (ind d ++ say "}\n") in
@@ -60,15 +60,15 @@ module _ {t x : List ℕ} {i c w : ℕ} {o : List ℕ} {p : ℕ} where
     kept = C.kept ∙ T.kept;
   }
     where
-      body : (a : Instr Plain) (j : ℕ) (g : WhileAt t i c a j) → BlockAt t s.next c g.b j
+      body : (a : Instr Plain) (j : ℕ) (g : WhileAt t i c a j) → BlockAt t ns c g.b j
       body a j g = subst (λ k. BlockAt t k c g.b j) (sym (T.ends g.e g.k g.test)) g.body
 
   -- if
-  pub if_shown : {o₁ o₂ o₃ : List ℕ} {s u r : Shown} → get_or t i 0 ≡ 0x24 → ShowsTest (lit "if (z_test(") t x (i + 1) o p o₁ s
-      → ShowsClosed (lit "} else {\n") t x s.next c w o₁ s.to o₂ u → ShowsClosed (lit "}\n") t x u.next c w o₂ u.to o₃ r
-      → ShowsInstr t x i c w o p o₃ r
+  pub if_shown : {s u r : Page} {ns nu nr : ℕ} → get_or t i 0 ≡ 0x24 → ShowsTest (lit "if (z_test(") t (i + 1) p s ns
+      → ShowsClosed (lit "} else {\n") t ns c w s u nu → ShowsClosed (lit "}\n") t nu c w u r nr
+      → ShowsInstr t i c w p r nr
   unfolding say
-  if_shown {o₁} {o₂} {o₃} {s} {u} {r} m T B C = record {
+  if_shown {s} {u} {r} {ns} {nu} {nr} m T B C = record {
     shown = λ d a j v h f.
         let g : IfAt t i c a j = if_here h m in
         let last : List ℕ = block (suc d) g.c ++ (ind d ++ say "}\n") in
@@ -93,21 +93,21 @@ module _ {t x : List ℕ} {i c w : ℕ} {o : List ℕ} {p : ℕ} where
     kept = C.kept ∙ B.kept ∙ T.kept;
   }
     where
-      yes_block : (a : Instr Plain) (j : ℕ) (g : IfAt t i c a j) → BlockAt t s.next c g.b g.l
+      yes_block : (a : Instr Plain) (j : ℕ) (g : IfAt t i c a j) → BlockAt t ns c g.b g.l
       yes_block a j g = subst (λ k. BlockAt t k c g.b g.l) (sym (T.ends g.e g.k g.test)) g.first
 
-      no_block : (a : Instr Plain) (j : ℕ) (g : IfAt t i c a j) → Flat g.b → BlockAt t u.next c g.c j
+      no_block : (a : Instr Plain) (j : ℕ) (g : IfAt t i c a j) → Flat g.b → BlockAt t nu c g.c j
       no_block a j g f = subst (λ k. BlockAt t k c g.c j) (sym (B.ends g.b g.l (yes_block a j g) f)) g.second
 
   -- another
-  pub plain_shown : {o' : List ℕ} {r : Shown} → (get_or t i 0 ≡ 0x23 → ⊥) → (get_or t i 0 ≡ 0x24 → ⊥) → ShowsPlain t x i (get_or t i 0) o p o' r
-      → ShowsInstr t x i c w o p o' r
+  pub plain_shown : {r : Page} {nr : ℕ} → (get_or t i 0 ≡ 0x23 → ⊥) → (get_or t i 0 ≡ 0x24 → ⊥) → ShowsPlain t i (get_or t i 0) p r nr
+      → ShowsInstr t i c w p r nr
   plain_shown a b S = S.gives c w refl a b
 
   -- ---- blocks
 
   -- no depth is left
-  pub block_deep : c ≡ 0 → ShowsBlock t x i c w o p o (record { next = i; to = p })
+  pub block_deep : c ≡ 0 → ShowsBlock t i c w p p i
   block_deep z = record {
     shown = λ d b j v h f. absurd (omega (arith, z, G.block_deep h));
     ends = λ b j h f. absurd (omega (arith, z, G.block_deep h));
@@ -116,12 +116,12 @@ module _ {t x : List ℕ} {i c w : ℕ} {o : List ℕ} {p : ℕ} where
   }
 
   -- at the start
-  pub later_start : Later t x i c w o p i o p
+  pub later_start : Later t i c w p i p
   later_start = record { back = λ S. S; kept = refl }
 
   -- its end
-  pub later_end : {i' q : ℕ} {o' : List ℕ} → Later t x i c w o p i' o' q → get_or t i' 0 ≡ 0
-      → ShowsBlock t x i c w o p o' (record { next = i' + 1; to = q })
+  pub later_end : {q : Page} {i' : ℕ} → Later t i c w p i' q → get_or t i' 0 ≡ 0
+      → ShowsBlock t i c w p q (i' + 1)
   later_end F z = F.back (record {
     shown = λ d b j v h f. rw (end_here h z).0 put_none;
     ends = λ b j h f. sym (end_here h z).1;
@@ -130,7 +130,7 @@ module _ {t x : List ℕ} {i c w : ℕ} {o : List ℕ} {p : ℕ} where
   })
 
   -- the table ends
-  pub later_past : {i' q : ℕ} {o' : List ℕ} → Later t x i c w o p i' o' q → length t ≤ i' → ShowsBlock t x i c w o p o' (record { next = i'; to = q })
+  pub later_past : {q : Page} {i' : ℕ} → Later t i c w p i' q → length t ≤ i' → ShowsBlock t i c w p q i'
   later_past F z = F.back (record {
     shown = λ d b j v h f. absurd (omega (arith, z, (block_inside h).0, (block_inside h).1));
     ends = λ b j h f. absurd (omega (arith, z, (block_inside h).0, (block_inside h).1));
@@ -139,10 +139,10 @@ module _ {t x : List ℕ} {i c w : ℕ} {o : List ℕ} {p : ℕ} where
   })
 
   -- an instruction more
-  pub later_next : {i' q u : ℕ} {o' o₁ o₂ : List ℕ} {s : Shown} → Later t x i c w o p i' o' q → (get_or t i' 0 ≡ 0 → ⊥) → Put x o' q (replicate w 32) o₁ u
-      → ShowsInstr t x i' (c - 1) w o₁ u o₂ s
-      → Later t x i c w o p s.next o₂ s.to
-  later_next {i'} {s = s} F z A S = record {
+  pub later_next : {q u : Page} {i' : ℕ} {s : Page} {ns : ℕ} → Later t i c w p i' q → (get_or t i' 0 ≡ 0 → ⊥) → Put q (replicate w 32) u
+      → ShowsInstr t i' (c - 1) w u s ns
+      → Later t i c w p ns s
+  later_next {i' = i'} {s = s} {ns = ns} F z A S = record {
     back = λ M. F.back (record {
       shown = λ d b j v h f.
           let g : StepAt t i' c b j = step_here h z in
@@ -160,7 +160,7 @@ module _ {t x : List ℕ} {i c w : ℕ} {o : List ℕ} {p : ℕ} where
     kept = S.kept ∙ A.kept ∙ F.kept;
   }
     where
-      after : (b : Block Plain) (j : ℕ) (g : StepAt t i' c b j) → FlatI g.s → BlockAt t s.next c g.rest j
+      after : (b : Block Plain) (j : ℕ) (g : StepAt t i' c b j) → FlatI g.s → BlockAt t ns c g.rest j
       after b j g f = subst (λ k. BlockAt t k c g.rest j) (sym (S.ends g.s g.k g.here f)) g.after
 
 -- one law for each way

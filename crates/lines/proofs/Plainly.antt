@@ -16,9 +16,9 @@ use Rattle.basics.specs.Laws.Places.{number_at_lem}
 use Rattle.ctext.specs.Pieces.{say, decimal}
 use Rattle.ctext.specs.Text.{var, expr, listed}
 use Rattle.ctext.proofs.Laws.LineText.{FlatI}
+use Rattle.typeset.specs.declared.pieces.Page.{Page}
 use Rattle.typeset.specs.Page.{Put}
 use Rattle.typeset.proofs.Setting.{put_none, put_then, put_same}
-use Rattle.phrases.specs.declared.exprs.Shown.{Shown}
 use Rattle.phrases.specs.Shows.{Shows}
 use Rattle.lines.specs.Lines.{ShowsNext, ShowsMore, Further, ShowsArgs, ShowsLast, ShowsAs, ShowsPlain}
 
@@ -30,8 +30,8 @@ lit (c before s) = code c ∷ lit s
 -- ---- arguments
 
 -- one behind a comma
-pub next_shown : {t x : List ℕ} {i : ℕ} {o o₁ o₂ : List ℕ} {p q : ℕ} {s : Shown} → Put x o p (lit ",\n") o₁ q → Shows t x i max_depth 3 o₁ q o₂ s
-    → ShowsNext t x i o p o₂ s
+pub next_shown : {t : List ℕ} {i : ℕ} {p q s : Page} {ns : ℕ} → Put p (lit ",\n") q → Shows t i max_depth 3 q s ns
+    → ShowsNext t i p s ns
 unfolding say
 next_shown A S = record {
   shown = λ e j h. put_then (say ",\n") (expr e) A (S.shown e j h);
@@ -40,15 +40,14 @@ next_shown A S = record {
   kept = S.kept ∙ A.kept;
 }
 
-module _ {t x : List ℕ} {i n : ℕ} {o : List ℕ} {p : ℕ} where
+module _ {t : List ℕ} {i n : ℕ} {p : Page} where
   -- at the start
-  pub further_start : Further t x i n o p i n o p
-  further_start = record { back = λ S. S; kept = refl }
+  pub further_start : Further t i n p i (n - 0) p
+  further_start = let all : n - 0 ≡ n = omega arith in rw all (record { back = λ S. S; kept = refl })
 
   -- one more
-  pub further_next : {i' left q : ℕ} {o' o'' : List ℕ} {s : Shown} → Further t x i n o p i' left o' q → 0 < left → ShowsNext t x i' o' q o'' s
-      → Further t x i n o p s.next (left - 1) o'' s.to
-  further_next {i'} {left} {s = s} F l S = record {
+  further_by : {q s : Page} {i' left ns : ℕ} → Further t i n p i' left q → 0 < left → ShowsNext t i' q s ns → Further t i n p ns (left - 1) s
+  further_by {i' = i'} {left} {ns} F l S = record {
     back = λ M. F.back (record {
       shown = λ es j h.
           let m : MoreAt t i' left es j = exprs_more h l in
@@ -60,12 +59,17 @@ module _ {t x : List ℕ} {i n : ℕ} {o : List ℕ} {p : ℕ} where
     kept = S.kept ∙ F.kept;
   }
     where
-      rest : (es : List Expr) (j : ℕ) (m : MoreAt t i' left es j) → ExprsAt t s.next (left - 1) m.rest j
+      rest : (es : List Expr) (j : ℕ) (m : MoreAt t i' left es j) → ExprsAt t ns (left - 1) m.rest j
       rest es j m = subst (λ k. ExprsAt t k (left - 1) m.rest j) (sym (S.ends m.e m.k m.here)) m.after
 
+  -- of n, the one behind c of them
+  pub further_next : {q s : Page} {i' ns : ℕ} (c : ℕ) → Further t i n p i' (n - c) q → c < n → ShowsNext t i' q s ns
+      → Further t i n p ns (n - (c + 1)) s
+  further_next c F l S = let less : n - c - 1 ≡ n - (c + 1) = omega arith in rw less at (further_by F (omega arith) S)
+
   -- none is left
-  pub further_end : {i' left q : ℕ} {o' : List ℕ} → Further t x i n o p i' left o' q → left ≤ 0 → ShowsMore t x i n o p o' (record { next = i'; to = q })
-  further_end {left = left} F l =
+  pub further_end : {q : Page} {i' : ℕ} (c : ℕ) → Further t i n p i' (n - c) q → n ≤ c → ShowsMore t i n p q i'
+  further_end c F l =
       F.back (record {
         shown = λ es j h. rw (exprs_none_lem h (omega arith)).0 put_none;
         ends = λ es j h. sym (exprs_none_lem h (omega arith)).1;
@@ -74,7 +78,7 @@ module _ {t x : List ℕ} {i n : ℕ} {o : List ℕ} {p : ℕ} where
       })
 
   -- no arguments
-  pub args_none : n ≡ 0 → ShowsArgs t x i n o p o (record { next = i; to = p })
+  pub args_none : n ≡ 0 → ShowsArgs t i n p p i
   args_none z = record {
     shown = λ es j h. rw (exprs_none_lem h z).0 put_none;
     ends = λ es j h. sym (exprs_none_lem h z).1;
@@ -83,12 +87,12 @@ module _ {t x : List ℕ} {i n : ℕ} {o : List ℕ} {p : ℕ} where
   }
 
   -- some
-  pub args_some : {o₁ o₂ : List ℕ} {s r : Shown} → (n ≡ 0 → ⊥) → Shows t x i max_depth 3 o p o₁ s → ShowsMore t x s.next (n - 1) o₁ s.to o₂ r
-      → ShowsArgs t x i n o p o₂ r
-  args_some {o₁} {o₂} {s} {r} z S M = record {
+  pub args_some : {s r : Page} {ns nr : ℕ} → (n ≡ 0 → ⊥) → Shows t i max_depth 3 p s ns → ShowsMore t ns (n - 1) s r nr
+      → ShowsArgs t i n p r nr
+  args_some {s} {r} {ns} {nr} z S M = record {
     shown = λ es j h.
         let m : MoreAt t i n es j = exprs_more h (omega arith) in
-        let rest : ExprsAt t s.next (n - 1) m.rest j = subst (λ k. ExprsAt t k (n - 1) m.rest j) (sym (S.ends m.e m.k m.here)) m.after in
+        let rest : ExprsAt t ns (n - 1) m.rest j = subst (λ k. ExprsAt t k (n - 1) m.rest j) (sym (S.ends m.e m.k m.here)) m.after in
         rw m.is (put_then (expr m.e) _ (S.shown m.e m.k m.here) (M.shown m.rest j rest));
     ends = λ es j h.
         let m : MoreAt t i n es j = exprs_more h (omega arith) in
@@ -100,8 +104,8 @@ module _ {t x : List ℕ} {i n : ℕ} {o : List ℕ} {p : ℕ} where
 -- ---- instructions
 
 -- an expression and the end of its line
-pub last_shown : {t x : List ℕ} {i : ℕ} {o o₁ o₂ : List ℕ} {p r : ℕ} {s : Shown} → Shows t x i max_depth 3 o p o₁ s → Put x o₁ s.to (lit ");\n") o₂ r
-    → ShowsLast t x i o p o₂ (record { next = s.next; to = r })
+pub last_shown : {t : List ℕ} {i : ℕ} {p r s : Page} {ns : ℕ} → Shows t i max_depth 3 p s ns → Put s (lit ");\n") r
+    → ShowsLast t i p r ns
 unfolding say
 last_shown S A = record {
   shown = λ e j h. put_then (expr e) _ (S.shown e j h) A;
@@ -111,26 +115,26 @@ last_shown S A = record {
 }
 
 -- a word, a pointer and a comma
-pub pointer_put : {word x o o₁ o₂ o₃ : List ℕ} {p q r s : ℕ} (y : ℕ) → Put x o p word o₁ q → Put x o₁ q (var y) o₂ r → Put x o₂ r (lit ", ") o₃ s
-    → Put x o p (word ++ (var y ++ say ", ")) o₃ s
+pub pointer_put : {word : List ℕ} {p q r s : Page} (y : ℕ) → Put p word q → Put q (var y) r → Put r (lit ", ") s
+    → Put p (word ++ (var y ++ say ", ")) s
 unfolding say
 pointer_put {word} y A B C = put_then word _ A (put_then (var y) _ B C)
 
 -- a word and a number
-pub numbered_put : {word x o o₁ o₂ : List ℕ} {p q r : ℕ} (n : ℕ) → Put x o p word o₁ q → Put x o₁ q (decimal n) o₂ r
-    → Put x o p (word ++ decimal n) o₂ r
+pub numbered_put : {word : List ℕ} {p q r : Page} (n : ℕ) → Put p word q → Put q (decimal n) r
+    → Put p (word ++ decimal n) r
 numbered_put {word} n A B = put_then word (decimal n) A B
 
 -- three pieces in another grouping
 pub regroup : (a b c r : List ℕ) → (a ++ (b ++ c)) ++ r ≡ a ++ (b ++ (c ++ r))
 regroup a b c r = append_assoc a (b ++ c) r ∙ ap (λ l. a ++ l) (append_assoc b c r)
 
-module _ {t x : List ℕ} {i : ℕ} {o : List ℕ} {p : ℕ} where
+module _ {t : List ℕ} {i : ℕ} {p : Page} where
   -- x<v> = z_set(
-  pub assign_shown : {o₁ o₂ o₃ : List ℕ} {q u v : ℕ} {s : Shown} → v ≡ get_or t (i + 1) 0 → Put x o p (var v) o₁ q
-      → Put x o₁ q (lit " = z_set(") o₂ u
-      → ShowsLast t x (i + 2) o₂ u o₃ s
-      → ShowsAs t x i 0x20 o p o₃ s
+  pub assign_shown : {q u : Page} {v : ℕ} {s : Page} {ns : ℕ} → v ≡ get_or t (i + 1) 0 → Put p (var v) q
+      → Put q (lit " = z_set(") u
+      → ShowsLast t (i + 2) u s ns
+      → ShowsAs t i 0x20 p s ns
   unfolding say
   assign_shown {v = v} {s} w A B S = record {
     gives = λ c k m. record {
@@ -146,12 +150,12 @@ module _ {t x : List ℕ} {i : ℕ} {o : List ℕ} {p : ℕ} where
   }
 
   -- z_write(here, x<y>,
-  pub write_shown : {o₁ o₂ o₃ o₄ : List ℕ} {q₁ q₂ y : ℕ} {s u : Shown} → y ≡ get_or t (i + 1) 0
-      → Put x o p (lit "z_write(here, " ++ (var y ++ say ", ")) o₁ q₁ → Shows t x (i + 2) max_depth 3 o₁ q₁ o₂ s → Put x o₂ s.to (lit ", ") o₃ q₂
-      → ShowsLast t x s.next o₃ q₂ o₄ u
-      → ShowsAs t x i 0x21 o p o₄ u
+  pub write_shown : {q₁ q₂ : Page} {y : ℕ} {s u : Page} {ns nu : ℕ} → y ≡ get_or t (i + 1) 0
+      → Put p (lit "z_write(here, " ++ (var y ++ say ", ")) q₁ → Shows t (i + 2) max_depth 3 q₁ s ns → Put s (lit ", ") q₂
+      → ShowsLast t ns q₂ u nu
+      → ShowsAs t i 0x21 p u nu
   unfolding say
-  write_shown {y = y} {s} {u} w A S B U = record {
+  write_shown {y = y} {s} {u} {ns} {nu} w A S B U = record {
     gives = λ c k m. record {
       shown = λ d a j e h f.
           let g = write_here h m in
@@ -168,13 +172,13 @@ module _ {t x : List ℕ} {i : ℕ} {o : List ℕ} {p : ℕ} where
     kept = U.kept ∙ B.kept ∙ S.kept ∙ A.kept;
   }
     where
-      second : {c : ℕ} (a : Instr Plain) (j : ℕ) (g : WriteAt t i c a j) → ExprAt t s.next max_depth g.e j
+      second : {c : ℕ} (a : Instr Plain) (j : ℕ) (g : WriteAt t i c a j) → ExprAt t ns max_depth g.e j
       second a j g = subst (λ k. ExprAt t k max_depth g.e j) (sym (S.ends g.o g.k g.offset)) g.source
 
   -- x<v> = z_read(here, x<y>,
-  pub read_shown : {o₁ o₂ o₃ : List ℕ} {q₁ q₂ v y : ℕ} {s : Shown} → v ≡ get_or t (i + 1) 0 → Put x o p (var v) o₁ q₁ → y ≡ get_or t (i + 2) 0
-      → Put x o₁ q₁ (lit " = z_read(here, " ++ (var y ++ say ", ")) o₂ q₂ → ShowsLast t x (i + 3) o₂ q₂ o₃ s
-      → ShowsAs t x i 0x22 o p o₃ s
+  pub read_shown : {q₁ q₂ : Page} {v y : ℕ} {s : Page} {ns : ℕ} → v ≡ get_or t (i + 1) 0 → Put p (var v) q₁ → y ≡ get_or t (i + 2) 0
+      → Put q₁ (lit " = z_read(here, " ++ (var y ++ say ", ")) q₂ → ShowsLast t (i + 3) q₂ s ns
+      → ShowsAs t i 0x22 p s ns
   unfolding say
   read_shown {v = v} {y} {s} w A z B S = record {
     gives = λ c k m. record {
@@ -194,9 +198,9 @@ module _ {t x : List ℕ} {i : ℕ} {o : List ℕ} {p : ℕ} where
   }
 
   -- z_call(); p<m>(
-  pub call_shown : {o₁ o₂ o₃ o₄ : List ℕ} {q₁ q₂ r w n : ℕ} {s : Shown} → w ≡ number_at 2 t (i + 1) → Put x o p (lit "z_call(); p" ++ decimal w) o₁ q₁
-      → Put x o₁ q₁ (40 ∷ []) o₂ q₂ → n ≡ get_or t (i + 3) 0 → ShowsArgs t x (i + 4) n o₂ q₂ o₃ s → Put x o₃ s.to (lit ");\n") o₄ r
-      → ShowsAs t x i 0x25 o p o₄ (record { next = s.next; to = r })
+  pub call_shown : {q₁ q₂ r : Page} {w n : ℕ} {s : Page} {ns : ℕ} → w ≡ number_at 2 t (i + 1) → Put p (lit "z_call(); p" ++ decimal w) q₁
+      → Put q₁ (40 ∷ []) q₂ → n ≡ get_or t (i + 3) 0 → ShowsArgs t (i + 4) n q₂ s ns → Put s (lit ");\n") r
+      → ShowsAs t i 0x25 p r ns
   unfolding say
   call_shown {w = w} {n} {s} v A B k S C = record {
     gives = λ c u m. record {
@@ -217,9 +221,9 @@ module _ {t x : List ℕ} {i : ℕ} {o : List ℕ} {p : ℕ} where
   }
 
   -- z_select(
-  pub select_shown : {o₁ o₂ o₃ : List ℕ} {q₁ q₂ r w z : ℕ} → w ≡ number_at 2 t (i + 1) → Put x o p (lit "z_select(" ++ decimal w) o₁ q₁
-      → z ≡ number_at 2 t (i + 3) → Put x o₁ q₁ (lit ", " ++ decimal z) o₂ q₂ → Put x o₂ q₂ (lit ");\n") o₃ r
-      → ShowsAs t x i 0x27 o p o₃ (record { next = i + 5; to = r })
+  pub select_shown : {q₁ q₂ r : Page} {w z : ℕ} → w ≡ number_at 2 t (i + 1) → Put p (lit "z_select(" ++ decimal w) q₁
+      → z ≡ number_at 2 t (i + 3) → Put q₁ (lit ", " ++ decimal z) q₂ → Put q₂ (lit ");\n") r
+      → ShowsAs t i 0x27 p r (i + 5)
   unfolding say
   select_shown {w = w} {z} v A u B C = record {
     gives = λ c k m. record {
@@ -240,13 +244,13 @@ module _ {t x : List ℕ} {i : ℕ} {o : List ℕ} {p : ℕ} where
 
 -- ---- by the byte
 
-module _ {t x : List ℕ} {i m : ℕ} {o : List ℕ} {p : ℕ} {o' : List ℕ} {r : Shown} where
+module _ {t : List ℕ} {i m : ℕ} {p r : Page} {nr : ℕ} where
   -- the byte of that instruction
-  pub plain_as : (k : ℕ) → m ≡ k → ShowsAs t x i k o p o' r → ShowsPlain t x i m o p o' r
+  pub plain_as : (k : ℕ) → m ≡ k → ShowsAs t i k p r nr → ShowsPlain t i m p r nr
   plain_as k e S = record { gives = λ c w q a b. S.gives c w (q ∙ e); forward = S.forward; kept = S.kept }
 
   -- the one that is left
-  pub plain_select : (m ≡ 0x20 → ⊥) → (m ≡ 0x21 → ⊥) → (m ≡ 0x22 → ⊥) → (m ≡ 0x25 → ⊥) → ShowsAs t x i 0x27 o p o' r → ShowsPlain t x i m o p o' r
+  pub plain_select : (m ≡ 0x20 → ⊥) → (m ≡ 0x21 → ⊥) → (m ≡ 0x22 → ⊥) → (m ≡ 0x25 → ⊥) → ShowsAs t i 0x27 p r nr → ShowsPlain t i m p r nr
   plain_select a b c d S = record {
     gives = λ k w q e f. record {
       shown = λ dp s j v h g. (S.gives k w (last s h g q e f)).shown dp s j v h g;

@@ -4,98 +4,67 @@ ghost use Rattle.lines.specs.Lines.{ShowsTest, ShowsClosed, ShowsInstr, ShowsBlo
 
 use super::plain::put_plain;
 use basics::numbers::{END, IF, WHILE};
-use phrases::exprs::{Shown, put_expr};
-use typeset::pieces::{put_all, put_spaces};
+use phrases::exprs::put_expr;
+use typeset::pieces::Page;
 
 // A word, a test and a brace.
-fn put_test(word: &[u8], t: &[u8], at: usize, text: &[u8], out: &mut [u8], to: usize) -> Shown
-    ensures { ShowsTest word.now t.now text.now at out.old to out.new result }
+fn put_test(word: &[u8], t: &[u8], at: usize, page: &mut Page) -> usize
+    ensures { ShowsTest word.now t.now at page.old page.new result }
 {
-    let p = put_all(word, text, out, to);
-    let e = put_expr(t, at, text, out, p);
-    Shown {
-        next: e.next,
-        to: put_all(b")) {\n", text, out, e.to),
-    }
+    page.put_all(word);
+    let next = put_expr(t, at, page);
+    page.put_all(b")) {\n");
+    next
 }
 
 // The block at `at`, two spaces further in, and the line behind it.
 #[cycle(put_block_put_closed_put_instr)]
-fn put_closed(
-    word: &[u8],
-    t: &[u8],
-    at: usize,
-    depth: u8,
-    spaces: usize,
-    text: &[u8],
-    out: &mut [u8],
-    to: usize,
-) -> Shown
+fn put_closed(word: &[u8], t: &[u8], at: usize, depth: u8, spaces: usize, page: &mut Page) -> usize
     requires { spaces + 2 * depth ≤ 32 }
-    ensures { ShowsClosed word.now t.now text.now at depth spaces out.old to out.new result }
+    ensures { ShowsClosed word.now t.now at depth spaces page.old page.new result }
 {
-    let b = put_block(t, at, depth, spaces + 2, text, out, to);
-    let p = put_spaces(spaces, text, out, b.to);
-    Shown {
-        next: b.next,
-        to: put_all(word, text, out, p),
-    }
+    let next = put_block(t, at, depth, spaces + 2, page);
+    page.put_spaces(spaces);
+    page.put_all(word);
+    next
 }
 
 // The instruction at `at`, behind its spaces; blocks in it are at most `depth` deep.
 #[cycle(put_block_put_closed_put_instr)]
-fn put_instr(
-    t: &[u8],
-    at: usize,
-    depth: u8,
-    spaces: usize,
-    text: &[u8],
-    out: &mut [u8],
-    to: usize,
-) -> Shown
+fn put_instr(t: &[u8], at: usize, depth: u8, spaces: usize, page: &mut Page) -> usize
     requires { (at < length t.now) × (spaces + 2 * depth ≤ 32) }
-    ensures { ShowsInstr t.now text.now at depth spaces out.old to out.new result }
+    ensures { ShowsInstr t.now at depth spaces page.old page.new result }
 {
-    let mark = t[at];
-    if mark == WHILE {
-        let e = put_test(b"while (z_test(", t, at + 1, text, out, to);
-        return put_closed(b"}\n", t, e.next, depth, spaces, text, out, e.to);
+    match t[at] {
+        WHILE => {
+            let body = put_test(b"while (z_test(", t, at + 1, page);
+            put_closed(b"}\n", t, body, depth, spaces, page)
+        }
+        IF => {
+            let yes = put_test(b"if (z_test(", t, at + 1, page);
+            let no = put_closed(b"} else {\n", t, yes, depth, spaces, page);
+            put_closed(b"}\n", t, no, depth, spaces, page)
+        }
+        mark => put_plain(t, at, mark, page),
     }
-    if mark == IF {
-        let e = put_test(b"if (z_test(", t, at + 1, text, out, to);
-        let yes = put_closed(b"} else {\n", t, e.next, depth, spaces, text, out, e.to);
-        return put_closed(b"}\n", t, yes.next, depth, spaces, text, out, yes.to);
-    }
-    put_plain(t, at, mark, text, out, to)
 }
 
 // The block at `at`, which is at most `depth` deep, its lines behind so many spaces.
 #[cycle(put_block_put_closed_put_instr)]
-pub fn put_block(
-    t: &[u8],
-    at: usize,
-    depth: u8,
-    spaces: usize,
-    text: &[u8],
-    out: &mut [u8],
-    to: usize,
-) -> Shown
+pub fn put_block(t: &[u8], at: usize, depth: u8, spaces: usize, page: &mut Page) -> usize
     requires { spaces + 2 * depth ≤ 34 }
-    ensures { ShowsBlock t.now text.now at depth spaces out.old to out.new result }
+    ensures { ShowsBlock t.now at depth spaces page.old page.new result }
 {
     if depth == 0 {
-        return Shown { next: at, to: to };
+        return at;
     }
-    let mut i = at;
-    let mut p = to;
-    while i < t.len() {
-        if t[i] == END {
-            return Shown { next: i + 1, to: p };
+    let mut next = at;
+    while next < t.len() {
+        if t[next] == END {
+            return next + 1;
         }
-        let q = put_spaces(spaces, text, out, p);
-        let s = put_instr(t, i, depth - 1, spaces, text, out, q);
-        i = s.next;
-        p = s.to;
+        page.put_spaces(spaces);
+        next = put_instr(t, next, depth - 1, spaces, page);
     }
-    Shown { next: i, to: p }
+    next
 }

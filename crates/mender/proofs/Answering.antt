@@ -20,7 +20,7 @@ use Rattle.format.specs.Rules.{limits}
 use Rattle.format.proofs.Laws.Passes.{at_most}
 use Rattle.format.proofs.Laws.Sections.{last_append, but_last}
 use Rattle.basics.specs.declared.numbers.Limits as L
-use Rattle.shape.specs.Shapes.{limits_of}
+use Rattle.parse.specs.Ends.{limits_of}
 use Rattle.writer.specs.Laws.Put.{Put}
 use Rattle.mending.specs.Mending.{trailer_for, with_trailer, accepts, acceptable, Change, changes_from, change_bytes, change_size}
 use Rattle.mending.specs.Mending.{Outcome, untouched, become, mend_by, kind_numbered, mend_call}
@@ -32,9 +32,14 @@ use Rattle.mending.proofs.Laws.Mended.{with_front, with_length}
 use Rattle.mender.specs.declared.trailer.Counts.{Counts}
 use Rattle.mender.specs.declared.search.Found.{Found}
 use Rattle.mender.specs.declared.search.Found.TheVariants.{None, One, Several}
-use Rattle.mender.specs.Trailing.{Sized, trailer_as, Trails, Keeps, ListsChanges}
+use Rattle.mender.specs.Trailing.{Sized, trailer_as, Trails, Keeps, PutsBack, ListsChanges}
 use Rattle.mender.specs.Searching.{counts_of, tally, Accepted, Finds}
-use Rattle.mender.specs.Answering.{left, Refuses, Becomes, Mends}
+use Rattle.mender.specs.Answering.{left, answer_of, some_of, settled, Becomes, MendsBut, Mends, Called}
+use Rattle.std.specs.Prelude.{Option, Result, Ok, Err}
+use Rattle.std.specs.Prelude as Opt
+use Rattle.std.specs.Result.{is_err}
+use Rattle.basics.specs.declared.refusals.Refusal.{Refusal}
+use Rattle.basics.specs.declared.refusals.Refusal.TheVariants as Why
 
 -- the kind by its number
 pub numbered : (n : ℕ) → (n ≡ 0 → ⊥) → sequential ≡ kind_numbered n
@@ -97,17 +102,17 @@ module _ {k : Kind} {t : List ℕ} {c : Counts} {t₁ : List ℕ} (s : Sized t) 
     many = omega (arith, puts.next (omega (arith, few, changes_bytes (changes_from 0 (was t old) (with_new k t c)))), changes_bytes (changes_from 0 (was t old) (with_new k t c)))
 
     -- 10
-    pub becomes_short : {l t₂ : List ℕ} {r : MendAnswer} → length l < p → Refuses 10 old t₁ t₂ r → Becomes k t c old l t₂ l r
-    becomes_short {l} {t₂} {r} short R =
-        let table : t₂ ≡ was t old = R.table ∙ ap (◌++ old) (ap (but trailer_size) T.same ∙ with_front t (trailer_as k t c)) in
+    pub becomes_short : {l : List ℕ} → length l < p → Becomes k t c old l t₁ l (Err Why.NoRoom)
+    becomes_short {l} short =
+        let table : but trailer_size t₁ ++ old ≡ was t old = ap (◌++ old) (ap (but trailer_size) T.same ∙ with_front t (trailer_as k t c)) in
         record {
-          same = ap₂ (λ (x : MendAnswer) (y : List ℕ). left x y l) R.answer table
+          same = ap (λ (y : List ℕ). left (without 10) y l) table
               ∙ sym (ap (becoming (was t old) (with_new k t c) l) (lt-ltb (length l) (change_size * length (changes_from 0 (was t old) (with_new k t c))) (omega (arith, many))));
         }
 
     -- mended
     pub becomes_new : {l l' : List ℕ} {q : ℕ} → p ≤ length l → ListsChanges old t₁ l l' q
-        → Becomes k t c old l t₁ l' (record { refusal = 0; mended = true; changes = p / change_size })
+        → Becomes k t c old l t₁ l' (Ok (p / change_size))
     becomes_new {l} {l'} {q} room D =
         let new : List ℕ = each change_bytes (changes_from 0 (was t old) (with_new k t c)) in
         let P : Put l 0 new l' q = subst (λ (cs : List Change). Put l 0 (each change_bytes cs) l' q) (changes old) D.puts in
@@ -144,32 +149,33 @@ module _ {k : Kind} {t old t₁ : List ℕ} {f : Found} (s : Sized t) (K : Keeps
   found_sized = record { long = omega (arith, s.long, F.tallies.length); few = omega (arith, s.few, F.tallies.length) }
 
   -- a refusal
-  refused : {n : ℕ} {l t₂ : List ℕ} {r : MendAnswer} → Refuses n old t₁ t₂ r → left r t₂ l ≡ untouched n t l
-  refused {n} {l} R = ap₂ (λ (x : MendAnswer) (y : List ℕ). left x y l) R.answer (R.table ∙ back)
+  refused : (why : Refusal) {l : List ℕ} → left (answer_of (Err why)) (but trailer_size t₁ ++ old) l ≡ left (answer_of (Err why)) t l
+  refused why {l} = ap (λ (y : List ℕ). left (answer_of (Err why)) y l) back
 
   -- 14
-  pub mends_none : {l t₂ : List ℕ} {r : MendAnswer} → f ≡ None → Refuses 14 old t₁ t₂ r → Mends k t l t₂ l r
-  mends_none {l} {t₂} {r} z R = record { same = λ h. go (acceptable k t) (sym (found h) ∙ z) }
+  pub mends_none : {l : List ℕ} → f ≡ None → MendsBut k t old l t₁ l (Err Why.NoChoice)
+  mends_none {l} z = record { same = λ h. go (acceptable k t) (sym (found h) ∙ z); length = F.tallies.length }
     where
-      go : (rs : List Trailer) → tally rs ≡ None → left r t₂ l ≡ mend_by t l rs
-      go [] e = refused R
+      go : (rs : List Trailer) → tally rs ≡ None → left (answer_of (Err Why.NoChoice)) (but trailer_size t₁ ++ old) l ≡ mend_by t l rs
+      go [] e = refused Why.NoChoice
       go (x ∷ []) e = cc
       go (x ∷ y ∷ rs) e = cc
 
   -- 15
-  pub mends_several : {l t₂ : List ℕ} {r : MendAnswer} → f ≡ Several → Refuses 15 old t₁ t₂ r → Mends k t l t₂ l r
-  mends_several {l} {t₂} {r} z R = record { same = λ h. go (acceptable k t) (sym (found h) ∙ z) }
+  pub mends_several : {l : List ℕ} → f ≡ Several → MendsBut k t old l t₁ l (Err Why.Choices)
+  mends_several {l} z = record { same = λ h. go (acceptable k t) (sym (found h) ∙ z); length = F.tallies.length }
     where
-      go : (rs : List Trailer) → tally rs ≡ Several → left r t₂ l ≡ mend_by t l rs
+      go : (rs : List Trailer) → tally rs ≡ Several → left (answer_of (Err Why.Choices)) (but trailer_size t₁ ++ old) l ≡ mend_by t l rs
       go [] e = cc
       go (x ∷ []) e = cc
-      go (x ∷ y ∷ rs) e = refused R
+      go (x ∷ y ∷ rs) e = refused Why.Choices
 
   -- one
-  pub mends_one : {c : Counts} {l t₂ l₂ : List ℕ} {r : MendAnswer} → f ≡ One c → Becomes k t₁ c old l t₂ l₂ r → Mends k t l t₂ l₂ r
-  mends_one {c} {l} {t₂} {l₂} {r} z B = record { same = λ h. go (acceptable k t) refl (sym (found h) ∙ z) }
+  pub mends_one : {c : Counts} {l t₂ l₂ : List ℕ} {r : Result ℕ Refusal} → f ≡ One c → length t₂ ≡ length t₁ → Becomes k t₁ c old l t₂ l₂ r
+      → MendsBut k t old l t₂ l₂ r
+  mends_one {c} {l} {t₂} {l₂} {r} z long B = record { same = λ h. go (acceptable k t) refl (sym (found h) ∙ z); length = long ∙ F.tallies.length }
     where
-      go : (rs : List Trailer) → acceptable k t ≡ rs → tally rs ≡ One c → left r t₂ l₂ ≡ mend_by t l rs
+      go : (rs : List Trailer) → acceptable k t ≡ rs → tally rs ≡ One c → left (some_of r) (settled old t₂ r) l₂ ≡ mend_by t l rs
       go [] a e = cc
       go (x ∷ []) a e =
           let counts : counts_of x ≡ c = cc in
@@ -180,6 +186,29 @@ module _ {k : Kind} {t old t₁ : List ℕ} {f : Found} (s : Sized t) (K : Keeps
           in
           B.same ∙ ap₂ (λ (v w : List ℕ). become v w l) back (ap₂ (λ (u : List ℕ) (y : Trailer). u ++ trailer y) F.tallies.front same)
       go (x ∷ y ∷ rs) a e = cc
+
+-- ---- a refusal puts the old bytes back
+
+module _ {k : Kind} {t old l t₁ l₁ : List ℕ} {r : Result ℕ Refusal} (M : MendsBut k t old l t₁ l₁ r) where
+  -- the table is still sized
+  pub put_sized : Sized t → Sized t₁
+  put_sized s = record { long = omega (arith, s.long, M.length); few = omega (arith, s.few, M.length) }
+
+  -- mended
+  pub settles_new : is_err r ≡ false → Mends k t l t₁ l₁ r
+  settles_new e = record { same = λ h. go r e ∙ M.same h }
+    where
+      go : (r : Result ℕ Refusal) → is_err r ≡ false → left (some_of r) t₁ l₁ ≡ left (some_of r) (settled old t₁ r) l₁
+      go (Ok n) e = refl
+      go (Err why) e = cc
+
+  -- refused
+  pub settles_old : {t₂ : List ℕ} → is_err r ≡ true → PutsBack old t₁ t₂ → Mends k t l t₂ l₁ r
+  settles_old {t₂} e B = record { same = λ h. go r e ∙ M.same h }
+    where
+      go : (r : Result ℕ Refusal) → is_err r ≡ true → left (some_of r) t₂ l₁ ≡ left (some_of r) (settled old t₁ r) l₁
+      go (Ok n) e = cc
+      go (Err why) e = ap (λ (y : List ℕ). left (some_of (Err why)) y l₁) B.same
 
 -- ---- the call
 
@@ -198,10 +227,10 @@ calling k t l a b c = elim a [
 
 module _ (k : Kind) (t l : List ℕ) where
   -- 1
-  pub call_short : length t < trailer_size → {r : MendAnswer} → r ≡ without 1 → left r t l ≡ mend_call k t l
-  call_short h e =
-      ap (λ (x : MendAnswer). left x t l) e
-      ∙ sym (ap (λ (a : Bool). calling k t l a (ltb (limits k).bytes (length t)) (accepts k t)) (lt-ltb (length t) trailer_size h))
+  pub call_short : length t < trailer_size → Called k t l t l (Err Why.Trailer)
+  call_short h = record {
+    same = sym (ap (λ (a : Bool). calling k t l a (ltb (limits k).bytes (length t)) (accepts k t)) (lt-ltb (length t) trailer_size h));
+  }
 
   module _ (long : trailer_size ≤ length t) {m : L.Limits} (e : limits_of m ≡ limits k) where
     -- the bound, as the code has it
@@ -209,11 +238,12 @@ module _ (k : Kind) (t l : List ℕ) where
     bytes_as = ap (λ (x : R.Limits). x.bytes) (sym e)
 
     -- 2
-    pub call_over : m.bytes < length t → {r : MendAnswer} → r ≡ without 2 → left r t l ≡ mend_call k t l
-    call_over h q =
-        ap (λ (x : MendAnswer). left x t l) q
-        ∙ sym (ap₂ (λ (a b : Bool). calling k t l a b (accepts k t)) (le-ltb (length t) trailer_size long)
-        (lt-ltb (limits k).bytes (length t) (omega (arith, bytes_as))))
+    pub call_over : m.bytes < length t → Called k t l t l (Err Why.Counts)
+    call_over h = record {
+      same =
+          sym (ap₂ (λ (a b : Bool). calling k t l a b (accepts k t)) (le-ltb (length t) trailer_size long)
+          (lt-ltb (limits k).bytes (length t) (omega (arith, bytes_as))));
+    }
 
     module _ (few : length t ≤ m.bytes) where
       -- the table is sized
@@ -228,13 +258,21 @@ module _ (k : Kind) (t l : List ℕ) where
           (le-ltb (limits k).bytes (length t) (omega (arith, bytes_as))))
 
       -- nothing to mend
-      pub call_whole : {b : Bool} → Accepted k t b → b ≡ true → {r : MendAnswer} → r ≡ without 0 → left r t l ≡ mend_call k t l
-      call_whole {b} A z {r} q = judging (left r t l) A (ap (λ (x : MendAnswer). left x t l) q ∙ sym (ap (calling k t l false false) z))
+      pub call_whole : {b : Bool} → Accepted k t b → b ≡ true → Called k t l t l (Ok Opt.None)
+      call_whole {b} A z = record { same = judging (left (answer_of (Ok Opt.None)) t l) A (sym (ap (calling k t l false false) z)) }
 
-      -- mended, or refused by the choices
-      pub call_mends : {b : Bool} → Accepted k t b → b ≡ false → Bytes t → {r : MendAnswer} {t' l' : List ℕ} → Mends k t l t' l' r
-          → left r t' l' ≡ mend_call k t l
-      call_mends {b} A z h {r} {t'} {l'} M = judging (left r t' l') A (M.same h ∙ sym (ap (calling k t l false false) z))
+      module _ {b : Bool} (A : Accepted k t b) (z : b ≡ false) (h : Bytes t) {r : Result ℕ Refusal} {t' l' : List ℕ} (M : Mends k t l t' l' r) where
+        -- by the choices
+        call_mends : left (some_of r) t' l' ≡ mend_call k t l
+        call_mends = judging (left (some_of r) t' l') A (M.same h ∙ sym (ap (calling k t l false false) z))
+
+        -- mended
+        pub call_mended : {n : ℕ} → r ≡ Ok n → Called k t l t' l' (Ok (Opt.Some n))
+        call_mended q = record { same = ap (λ (x : Result ℕ Refusal). left (some_of x) t' l') (sym q) ∙ call_mends }
+
+        -- or refused
+        pub call_refused : {why : Refusal} → r ≡ Err why → Called k t l t' l' (Err why)
+        call_refused q = record { same = ap (λ (x : Result ℕ Refusal). left (some_of x) t' l') (sym q) ∙ call_mends }
 
 -- one law for each way
 pub ruleset answer_ways = (
@@ -247,4 +285,10 @@ pub ruleset answer_ways = (
   mends_none,
   mends_several,
   mends_one,
+  put_sized,
+  settles_new,
+  settles_old,
 )
+
+-- and through the call
+pub ruleset call_ways = (call_short, call_over, call_sized, call_whole, call_mended, call_refused)

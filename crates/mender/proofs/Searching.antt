@@ -22,12 +22,16 @@ use Rattle.format.specs.declared.ReadAnswer.{ReadAnswer}
 use Rattle.format.proofs.Laws.Refusals.{refused_within}
 use Rattle.format.proofs.Laws.Procs.{body_in}
 use Rattle.basics.specs.declared.numbers.Limits as L
-use Rattle.parse.specs.Ends.{end_of, check}
-use Rattle.parse.specs.declared.Ends.{Ends}
-use Rattle.parse.specs.declared.Ends.TheVariants.{At, Nothing}
+use Rattle.parse.specs.Ends.{end_of, check, limits_of, BodyReads}
+use Rattle.std.specs.Prelude.{Option, Result, Ok, Err}
+use Rattle.std.specs.Prelude as Opt
+use Rattle.std.specs.Result.{is_ok}
+use Rattle.basics.specs.Refusals.{refusal_number}
+use Rattle.basics.specs.declared.refusals.Refusal.{Refusal}
+use Rattle.basics.specs.declared.refusals.Refusal.TheVariants as Why
+use Rattle.reader.specs.Answers.{answer_of}
+use Rattle.reader.specs.declared.verdict.Counts as C
 use Rattle.parse.proofs.Chains.{end_inside}
-use Rattle.shape.proofs.Rule3.{is_concurrent_lem, is_sequential}
-use Rattle.shape.specs.Shapes.{limits_of, BodyReads}
 use Rattle.mending.specs.Mending.{range, gather, trailer_for, passes, accepts, kept}
 use Rattle.mending.proofs.Laws.Narrow.{further, body_end, tried, tried_at, narrowed}
 use Rattle.mending.proofs.Laws.Mended.{with_front, with_length}
@@ -50,14 +54,32 @@ by_number k t {a} same = by (verdict k t) refl
     by (accepted p) e =
         eq-eqb a.number 0 (ap (λ (x : ReadAnswer). x.number) same ∙ ap (λ (v : Verdict). (read_as k v).number) e) ∙ sym (ap passes e)
 
-module _ {k : Kind} {t : List ℕ} {a : ReadAnswer} where
-  -- a concurrent table
-  pub accepted_concurrent : k ≡ concurrent → a ≡ read_call concurrent t → Accepted k t (eqb a.number 0)
-  accepted_concurrent e same = rw e (record { same = by_number concurrent t same })
+-- a refusal has a number
+numbered : (why : Refusal) → eqb (refusal_number why) 0 ≡ false
+numbered Why.Trailer = refl
+numbered Why.Counts = refl
+numbered Why.Records = refl
+numbered Why.Bodies = refl
+numbered Why.Names = refl
+numbered Why.Labels = refl
+numbered Why.Cycle = refl
+numbered Why.Unset = refl
+numbered Why.TooLong = refl
+numbered Why.NoRoom = refl
+numbered Why.Schedule = refl
+numbered Why.NoCells = refl
+numbered Why.Allotments = refl
+numbered Why.NoChoice = refl
+numbered Why.Choices = refl
+numbered Why.NotOurs = refl
 
-  -- a sequential one
-  pub accepted_sequential : k ≡ sequential → a ≡ read_call sequential t → Accepted k t (eqb a.number 0)
-  accepted_sequential e same = rw e (record { same = by_number sequential t same })
+-- by what the check gives
+pub accepted_checked : {k : Kind} {t : List ℕ} (r : Result C.Counts Refusal) {b : Bool} → answer_of r ≡ read_call k t → b ≡ is_ok r → Accepted k t b
+accepted_checked {k} {t} r same e = record { same = e ∙ by r ∙ by_number k t same }
+  where
+    by : (r : Result C.Counts Refusal) → is_ok r ≡ eqb (answer_of r).number 0
+    by (Ok c) = refl
+    by (Err why) = sym (numbered why)
 
 -- ---- one choice more
 
@@ -160,10 +182,6 @@ module _ {k : Kind} {t : List ℕ} {P n T : ℕ} {f : Found} where
 
 -- one law for each way
 pub ruleset counts_ways = (
-  is_concurrent_lem,
-  is_sequential,
-  accepted_concurrent,
-  accepted_sequential,
   adds_first,
   adds_second,
   adds_other,
@@ -304,9 +322,10 @@ module _ {k : Kind} {t₀ t : List ℕ} {f₀ f : Found} {P i n T : ℕ} (Y : Tr
       let none : suc (limits k).threads - T ≡ 0 = omega (arith, threads_as k e) in
       record { tallies = Y.goes.then (tallies_same (ap (λ (x : ℕ). gather (upto T x) (tried k t₀ P n)) (sym none)) tallies_none) }
 
-  -- one more fits its type
-  pub trying_more : T ≤ m.threads → T + 1 < 65536
-  trying_more l = omega (arith, few_threads k, threads_as k e)
+-- the last one
+pub trying_last : {k : Kind} {t₀ t t' : List ℕ} {f₀ f g : Found} {P i n T : ℕ} → Trying k t₀ f₀ P i t f n T → {m : L.Limits} → limits_of m ≡ limits k
+    → T ≤ m.threads → m.threads ≤ T → TriesThreads k t P n T f t' g → TriesProcedures k t₀ P i f₀ t' g
+trying_last Y e l h A = trying_end (trying_next Y e l A) e (omega arith)
 
 module _ {k : Kind} {t₀ t : List ℕ} {f₀ f : Found} {P i n T : ℕ} (Y : Trying k t₀ f₀ P i t f n T) where
   -- the table, for the next
@@ -324,7 +343,7 @@ pub ruleset procedures_ways = (
   trying_start,
   trying_next,
   trying_end,
-  trying_more,
+  trying_last,
   trying_sized,
   trying_length,
 )
@@ -338,18 +357,18 @@ module _ (u : List ℕ) (ok : Block Plain → Bool) where
   ending m = m >>= λ (b, r). when (ok b) (is (length u - length r))
 
   -- there is none
-  ends_none : (m : Read (Block Plain)) → end_of u (m >>= check ok) ≡ Nothing → ending m ≡ nothing
+  ends_none : (m : Read (Block Plain)) → end_of u (m >>= check ok) ≡ Opt.None → ending m ≡ nothing
   ends_none nothing e = refl
   ends_none (is got) e = by_test (ok got.0)
-      (λ z. let q : At (length u - length got.1) ≡ Nothing = rw z at e in let x : ◌≡◌ {A = ℕ} 0 1 = cc in absurd (omega arith))
+      (λ z. let q : Opt.Some (length u - length got.1) ≡ Opt.None = rw z at e in let x : ◌≡◌ {A = ℕ} 0 1 = cc in absurd (omega arith))
       (λ z. rw z)
 
   -- it ends at j
-  ends_at : (m : Read (Block Plain)) {j : ℕ} → end_of u (m >>= check ok) ≡ At j → ending m ≡ is j
+  ends_at : (m : Read (Block Plain)) {j : ℕ} → end_of u (m >>= check ok) ≡ Opt.Some j → ending m ≡ is j
   ends_at nothing {j} e = let x : ◌≡◌ {A = ℕ} 0 1 = cc in absurd (omega arith)
   ends_at (is got) {j} e = by_test (ok got.0)
-      (λ z. let q : At (length u - length got.1) ≡ At j = rw z at e in let s : length u - length got.1 ≡ j = cc in rw z (ap is s))
-      (λ z. let q : Nothing ≡ At j = rw z at e in let x : ◌≡◌ {A = ℕ} 0 1 = cc in absurd (omega arith))
+      (λ z. let q : Opt.Some (length u - length got.1) ≡ Opt.Some j = rw z at e in let s : length u - length got.1 ≡ j = cc in rw z (ap is s))
+      (λ z. let q : Opt.None ≡ Opt.Some j = rw z at e in let x : ◌≡◌ {A = ℕ} 0 1 = cc in absurd (omega arith))
 
 -- from procedure P on they are still to be tried, its body beginning at i
 pub record Finding (k : Kind) (t₀ t : List ℕ) (f : Found) (P i : ℕ) : Type 0 where
@@ -389,7 +408,7 @@ module _ {k : Kind} {t₀ t : List ℕ} {f : Found} {P i : ℕ} (G : Finding k t
         let none : (limits k).procs - P ≡ 0 = omega (arith, procs_as k e) in
         record { tallies = G.goes.then (tallies_same (ap (λ (n : ℕ). narrowed k t₀ n P i) (sym none)) tallies_none) }
 
-    module _ (l : P < m.procedures) {r : Ends} (B : BodyReads k (but trailer_size t) i P r) where
+    module _ (l : P < m.procedures) {r : Option ℕ} (B : BodyReads k (but trailer_size t) i P r) where
       -- the next body
       abbrev next : Read (Block Plain)
       next = D.block max_nesting (drop i (but trailer_size t))
@@ -407,13 +426,13 @@ module _ {k : Kind} {t₀ t : List ℕ} {f : Found} {P i : ℕ} (G : Finding k t
           ∙ ap (further (λ j. tried_at k t₀ (suc P) j ++ narrowed k t₀ ((limits k).procs - suc P) (suc P) j)) same
 
       -- there is none
-      pub finding_none : r ≡ Nothing → Finds k t₀ t f
+      pub finding_none : r ≡ Opt.None → Finds k t₀ t f
       finding_none z =
           let none = ends_none (but trailer_size t) (allowed (body_in k P)) next (sym B.reads.same ∙ z) in
           record { tallies = G.goes.then (tallies_same (sym (rest none)) tallies_none) }
 
       -- it ends at j
-      module _ {j : ℕ} (z : r ≡ At j) where
+      module _ {j : ℕ} (z : r ≡ Opt.Some j) where
         -- in the table
         pub finding_inside : j ≤ length t
         finding_inside =

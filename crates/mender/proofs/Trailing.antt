@@ -8,17 +8,20 @@ use lib.Dec.{eqb}
 use Rattle.value.specs.Maybe.{pick}
 use Rattle.value.proofs.Laws.Tests.{by_test}
 use lib.ListN.{length, get_or, drop, drop_of_length-le}
-use lib.Seq.{slice, sets-eq, take_all, drop-cons, length-slice}
+use lib.Seq.{sets-eq, drop-cons}
 use borrow.Author.Tests.{eq-eqb, ne_eqb}
 use Rattle.value.specs.Values.{bytes}
 use Rattle.format.specs.Syntax.{Kind}
-use Rattle.format.specs.Encode.{each, trailer_size, kind_mark, form_mark, distance}
+use Rattle.format.specs.Encode.{each, trailer, trailer_size, kind_mark, form_mark, distance}
 use Rattle.format.specs.Decode.{but, last}
-use Rattle.writer.specs.Laws.Put.{Put, Onto}
-use Rattle.writer.proofs.Puts.{put_none, put_then, put_cons, put_same, onto_start, onto_next, onto_end}
+use Rattle.std.specs.Borrow.{MutBor}
+use Rattle.writer.specs.declared.page.Page.{Page}
+use Rattle.writer.specs.Laws.Put.{Put}
+use Rattle.writer.specs.Laws.Pages.{Opens, Puts, Onto}
+use Rattle.writer.proofs.Paging.{puts_none, puts_then, puts_same, onto_start, onto_next, onto_end}
 use Rattle.mending.specs.Mending.{Change, changes_from, change_bytes}
 use Rattle.mender.specs.declared.trailer.Counts.{Counts}
-use Rattle.mender.specs.Trailing.{Sized, PutsCounts, PutsLengths, Trails, Keeps, PutsBack, PutsChange, ListsChanges}
+use Rattle.mender.specs.Trailing.{Sized, trailer_as, Trails, PutsBack, PutsChange, ListsChanges}
 
 -- the change at a place, by whether the byte stays
 abbrev one : ℕ → ℕ → ℕ → Bool → List Change
@@ -26,64 +29,38 @@ one i a b x = pick x [] (record { place = i; old = a; new = b } ∷ [])
 
 -- ---- the last sixteen bytes
 
--- sixteen bytes at the end
-put_last : {t t' bs : List ℕ} {r : ℕ} → Sized t → length bs ≡ trailer_size → Put t (length t - trailer_size) bs t' r → t' ≡ but trailer_size t ++ bs
-put_last {t} {t'} {bs} s n P =
-    let none : drop (length t - trailer_size + length bs) t ≡ [] = drop_of_length-le t {i = length t - trailer_size + length bs} (omega (arith, s.long)) in
-    P.wrote (omega (arith, s.long, s.few)) ∙ sets-eq bs t (length t - trailer_size) (omega (arith, s.long))
-    ∙ rw (none, append-nil)
+-- sixteen bytes on a page of sixteen
+puts_whole : {bs : List ℕ} {o : MutBor (List ℕ)} {a b : Page} → length o.now ≡ trailer_size → length bs ≡ trailer_size → Opens o a → Puts a bs b
+    → b.out.now ≡ bs
+puts_whole {bs} {o} {a} {b} long n O P =
+    let Q : Put a.out.now a.at bs b.out.now b.at = P.puts in
+    let W : Put o.now 0 bs b.out.now b.at = rw (O.is, O.first) at Q in
+    let none : drop (0 + length bs) o.now ≡ [] = drop_of_length-le o.now {i = 0 + length bs} (omega (arith, long, n)) in
+    W.wrote (omega (arith, n)) ∙ sets-eq bs o.now 0 (omega (arith, long, n)) ∙ rw (none, append-nil)
 
--- the counts of a choice
-pub puts_counts : {c : Counts} {o o₁ o₂ o₃ : List ℕ} {p p₁ p₂ p₃ : ℕ} → Put o p (bytes 2 c.procedures) o₁ p₁
-    → Put o₁ p₁ (bytes 2 c.locations) o₂ p₂ → Put o₂ p₂ (bytes 2 c.threads) o₃ p₃ → PutsCounts c o p o₃ p₃
-puts_counts {c} A B C = record {
-  puts = put_then (bytes 2 c.procedures) _ A (put_then (bytes 2 c.locations) (bytes 2 c.threads) B C);
-}
-
--- the lengths
-pub puts_lengths : {back whole : ℕ} {o o₁ o₂ : List ℕ} {p p₁ p₂ : ℕ} → Put o p (bytes 4 back) o₁ p₁ → Put o₁ p₁ (bytes 4 whole) o₂ p₂
-    → PutsLengths back whole o p o₂ p₂
-puts_lengths {back} {whole} A B = record { puts = put_then (bytes 4 back) (bytes 4 whole) A B }
-
--- the trailer of a choice, part by part
-pub trails : {k : Kind} {t : List ℕ} {c : Counts} {t₁ t₂ t₃ t₄ : List ℕ} {m p₁ p₂ p₃ p₄ : ℕ} → Sized t → m ≡ kind_mark k
-    → Put t (length t - trailer_size) (m ∷ []) t₁ p₁ → Put t₁ p₁ (form_mark ∷ []) t₂ p₂ → PutsCounts c t₂ p₂ t₃ p₃
-    → PutsLengths (distance c.procedures c.locations c.threads) (length t) t₃ p₃ t₄ p₄ → Trails k t c t₄
-trails {k} {t} {c} s e A B C D =
-    let first : Put t (length t - trailer_size) (kind_mark k ∷ []) _ _ = rw e at A in
-    let counts : List ℕ = bytes 2 c.procedures ++ (bytes 2 c.locations ++ bytes 2 c.threads) in
-    record { same = put_last s refl (put_cons first (put_cons B (put_then counts _ C.puts D.puts))) }
-
--- they are kept
-pub keeps : {t old old' : List ℕ} {r : ℕ} → Sized t → length old ≡ trailer_size → Put old 0 (slice (length t - trailer_size) (length t) t) old' r → Keeps t old'
-keeps {t} {old} {old'} s n P =
-    let bs : List ℕ = slice (length t - trailer_size) (length t) t in
-    let long : length bs ≡ trailer_size = length-slice (length t - trailer_size) (length t) t (omega arith) ∙ omega (arith, s.long) in
-    let none : drop (0 + length bs) old ≡ [] = drop_of_length-le old {i = 0 + length bs} (omega arith) in
-    record {
-      same = P.wrote (omega arith) ∙ sets-eq bs old 0 (omega arith) ∙ rw (none, append-nil)
-          (ap (drop (length t - trailer_size)) (take_all (length t) t (omega arith)));
-    }
-
--- and written back
-pub puts_back : {old t t' : List ℕ} {r : ℕ} → Sized t → length old ≡ trailer_size → Put t (length t - trailer_size) (slice 0 trailer_size old) t' r
-    → PutsBack old t t'
-puts_back {old} {t} s n P =
-    let all : slice 0 trailer_size old ≡ old = take_all trailer_size old (omega arith) in
-    record { same = put_last s n (put_same all P) }
+-- the trailer of a choice, part by part, on a page of its own, and then written at the end
+pub trails : {k : Kind} {t t' : List ℕ} {c : Counts} {o : MutBor (List ℕ)} {v : List ℕ} {a a₁ a₂ a₃ a₄ a₅ a₆ : Page} {m : ℕ} → m ≡ kind_mark k
+    → Opens o a → length o.now ≡ trailer_size
+    → Puts a (m ∷ form_mark ∷ []) a₁ → Puts a₁ (bytes 2 c.procedures) a₂ → Puts a₂ (bytes 2 c.locations) a₃ → Puts a₃ (bytes 2 c.threads) a₄
+    → Puts a₄ (bytes 4 (distance c.procedures c.locations c.threads)) a₅ → Puts a₅ (bytes 4 (length t)) a₆
+    → (o.ghost_name ≡ a₆.out.ghost_name → v ≡ a₆.out.now) → PutsBack v t t' → Trails k t c t'
+trails {k} {t} {t'} {c} {o} {v} {a} {a₆ = a₆} {m} e O long A B C D E F last back =
+    let all : Puts a (trailer (trailer_as k t c)) a₆ = rw e at (puts_then (m ∷ form_mark ∷ []) _ A (puts_then (bytes 2 c.procedures) _ B
+    (puts_then (bytes 2 c.locations) _ C (puts_then (bytes 2 c.threads) _ D (puts_then (bytes 4 (distance c.procedures c.locations c.threads)) _ E F)))))
+    in
+    let whole : v ≡ trailer (trailer_as k t c) = last (sym (all.same ∙ O.same)) ∙ puts_whole long refl O all in
+    record { same = back.same ∙ ap (but trailer_size t ++◌) whole }
 
 -- ---- the list of changes
 
 -- a byte that stays
-pub change_none : {i a b : ℕ} {o : List ℕ} {p : ℕ} → a ≡ b → PutsChange i a b o p o p
-change_none {i} {a} {b} e = record { puts = put_same (ap (λ (x : Bool). each change_bytes (one i a b x)) (sym (eq-eqb a b e))) put_none }
+pub change_none : {i a b : ℕ} {o : Page} → a ≡ b → PutsChange i a b o o
+change_none {i} {a} {b} e = record { puts = puts_same (ap (λ (x : Bool). each change_bytes (one i a b x)) (sym (eq-eqb a b e))) puts_none }
 
 -- one that changes
-pub change_one : {i a b : ℕ} {o o₁ o₂ o₃ : List ℕ} {p p₁ p₂ p₃ : ℕ} → (a ≡ b → ⊥) → Put o p (bytes 4 i) o₁ p₁ → Put o₁ p₁ (a ∷ []) o₂ p₂
-    → Put o₂ p₂ (b ∷ []) o₃ p₃ → PutsChange i a b o p o₃ p₃
-change_one {i} {a} {b} n A B C = record {
-  puts = put_same (ap (λ (x : Bool). each change_bytes (one i a b x)) (sym (ne_eqb a b n)))
-      (put_then (bytes 4 i) _ A (put_cons B C));
+pub change_one : {i a b : ℕ} {o o₁ o₂ : Page} → (a ≡ b → ⊥) → Puts o (bytes 4 i) o₁ → Puts o₁ (a ∷ b ∷ []) o₂ → PutsChange i a b o o₂
+change_one {i} {a} {b} n A B = record {
+  puts = puts_same (ap (λ (x : Bool). each change_bytes (one i a b x)) (sym (ne_eqb a b n))) (puts_then (bytes 4 i) _ A B);
 }
 
 -- the change at a place, and then the others
@@ -100,27 +77,32 @@ each_append (x ∷ xs) ys =
 abbrev later : List ℕ → List ℕ → ℕ → List ℕ
 later old t i = each change_bytes (changes_from (length t - trailer_size + i) (drop i old) (drop (length t - trailer_size + i) t))
 
+-- all that is to be listed
+abbrev listed : List ℕ → List ℕ → List ℕ
+listed old t = each change_bytes (changes_from (length t - trailer_size) old (last trailer_size t))
+
 -- the loop
-pub record Listing (old t o o' : List ℕ) (i p : ℕ) : Type 0 where
-  pub onto : Onto o 0 (each change_bytes (changes_from (length t - trailer_size) old (last trailer_size t))) o' p (later old t i)
+pub record Listing (old t : List ℕ) (a b : Page) (i : ℕ) : Type 0 where
+  pub onto : Onto a (listed old t) b (later old t i)
+  pub same : b.out.ghost_name ≡ a.out.ghost_name
   pub long : length old ≡ trailer_size
   pub sized : Sized t
 
 -- before the first
-pub listing_start : {old t o : List ℕ} → Sized t → length old ≡ trailer_size → Listing old t o o 0 0
-listing_start {old} {t} {o} s n =
+pub listing_start : {old t : List ℕ} {a : Page} → Sized t → length old ≡ trailer_size → Listing old t a a 0
+listing_start {old} {t} {a} s n =
     let same : length t - trailer_size ≡ length t - trailer_size + 0 = omega arith in
     record {
-      onto = subst (λ (x : ℕ). Onto o 0 (each change_bytes (changes_from (length t - trailer_size) old (last trailer_size t))) o 0
-          (each change_bytes (changes_from x old (drop x t)))) same onto_start;
+      onto = subst (λ (x : ℕ). Onto a (listed old t) a (each change_bytes (changes_from x old (drop x t)))) same onto_start;
+      same = refl;
       long = n;
       sized = s;
     }
 
 -- one more
-pub listing_next : {old t o o₁ o₂ : List ℕ} {i p q : ℕ} → Listing old t o o₁ i p → i < trailer_size
-    → PutsChange (length t - trailer_size + i) (get_or old i 0) (get_or t (length t - trailer_size + i) 0) o₁ p o₂ q → Listing old t o o₂ (i + 1) q
-listing_next {old} {t} {o} {o₁} {o₂} {i} {p} {q} L l P =
+pub listing_next : {old t : List ℕ} {a b c : Page} {i : ℕ} → Listing old t a b i → i < trailer_size
+    → PutsChange (length t - trailer_size + i) (get_or old i 0) (get_or t (length t - trailer_size + i) 0) b c → Listing old t a c (i + 1)
+listing_next {old} {t} {a} {b} {c} {i} L l P =
     let x : ℕ = length t - trailer_size + i in
     let j : suc i ≡ i + 1 = omega arith in
     let y : suc x ≡ length t - trailer_size + (i + 1) = omega arith in
@@ -132,20 +114,25 @@ listing_next {old} {t} {o} {o₁} {o₂} {i} {p} {q} L l P =
     ∙ ap₂ (λ (j y : ℕ). one ++ each change_bytes (changes_from y (drop j old) (drop y t))) j y
     in
     record {
-      onto = onto_next one (later old t (i + 1))
-          (subst (λ (r : List ℕ). Onto o 0 (each change_bytes (changes_from (length t - trailer_size) old (last trailer_size t))) o₁ p r) cut L.onto) P.puts;
+      onto = onto_next one (later old t (i + 1)) (subst (λ (r : List ℕ). Onto a (listed old t) b r) cut L.onto) P.puts;
+      same = P.puts.same ∙ L.same;
       long = L.long;
       sized = L.sized;
     }
 
 -- after the last
-pub listing_end : {old t o o' : List ℕ} {i p : ℕ} → Listing old t o o' i p → trailer_size ≤ i → ListsChanges old t o o' p
-listing_end {old} {t} {o} {o'} {i} {p} L l =
+pub listing_end : {old t : List ℕ} {a b : Page} {i : ℕ} → Listing old t a b i → trailer_size ≤ i → Puts a (listed old t) b
+listing_end {old} {t} {a} {b} {i} L l =
     let none : drop i old ≡ [] = drop_of_length-le old {i = i} (omega (arith, L.long)) in
     let done : later old t i ≡ [] = ap (λ (u : List ℕ). each change_bytes (changes_from (length t - trailer_size + i) u (drop (length t - trailer_size + i) t))) none in
-    record {
-      puts = onto_end (subst (λ (r : List ℕ). Onto o 0 (each change_bytes (changes_from (length t - trailer_size) old (last trailer_size t))) o' p r) done L.onto);
-    }
+    onto_end (subst (λ (r : List ℕ). Onto a (listed old t) b r) done L.onto)
 
--- one law for each way
-pub ruleset trailing_ways = (puts_counts, puts_lengths, trails, keeps, puts_back, change_none, change_one, listing_start, listing_next, listing_end)
+-- the list, on a page that begins with it
+pub lists_changes : {old t u v : List ℕ} {o : MutBor (List ℕ)} {a b : Page} {i r : ℕ} → Opens o a → o.now ≡ u → Listing old t a b i → trailer_size ≤ i
+    → r ≡ b.at → (o.ghost_name ≡ b.out.ghost_name → v ≡ b.out.now) → ListsChanges old t u v r
+lists_changes {old} {t} {u} {v} {o} {a} {b} {i} {r} O same L l next last =
+    let P : Put a.out.now a.at (listed old t) b.out.now b.at = (listing_end L l).puts in
+    record { puts = rw (O.is, same, O.first, ← next, ← last (sym (L.same ∙ O.same))) at P }
+
+-- one law for each way to list them
+pub ruleset listing_ways = (change_none, change_one, listing_start, listing_next, lists_changes)

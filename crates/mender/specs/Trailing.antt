@@ -1,11 +1,12 @@
 -- What the code does to the last sixteen bytes of a table, and what it writes into the list of changes.
 use Rattle.std.specs.Prelude.{ℕ, ◌-◌, ◌≤◌, ◌≡◌, List, [], ◌∷◌, ◌++◌, length}
-use Rattle.value.specs.Values.{bytes}
 use Rattle.format.specs.Syntax.{Kind, sequential}
 use Rattle.format.specs.Encode.{each, Trailer, trailer_size}
 use Rattle.format.specs.Decode.{but, last}
 use Rattle.format.specs.Rules.{limits}
+use Rattle.writer.specs.declared.page.Page.{Page}
 use Rattle.writer.specs.Laws.Put.{Put}
+use Rattle.writer.specs.Laws.Pages.{Puts}
 use Rattle.mending.specs.Mending.{trailer_for, with_trailer, changes_from, change_bytes}
 use Rattle.mender.specs.declared.trailer.Counts.{Counts}
 
@@ -18,15 +19,7 @@ pub record Sized (t : List ℕ) : Type 0 where
 abbrev pub trailer_as : Kind → List ℕ → Counts → Trailer
 trailer_as k t c = trailer_for k (length t) c.procedures c.locations c.threads
 
--- its counts are written
-pub record PutsCounts (c : Counts) (o : List ℕ) (p : ℕ) (o' : List ℕ) (r : ℕ) : Type 0 where
-  pub puts : Put o p (bytes 2 c.procedures ++ (bytes 2 c.locations ++ bytes 2 c.threads)) o' r
-
--- its lengths
-pub record PutsLengths (back whole : ℕ) (o : List ℕ) (p : ℕ) (o' : List ℕ) (r : ℕ) : Type 0 where
-  pub puts : Put o p (bytes 4 back ++ bytes 4 whole) o' r
-
--- all of it
+-- it is written
 pub record Trails (k : Kind) (t : List ℕ) (c : Counts) (t' : List ℕ) : Type 0 where
   pub same : t' ≡ with_trailer t (trailer_as k t c)
 
@@ -39,8 +32,8 @@ pub record PutsBack (old t t' : List ℕ) : Type 0 where
   pub same : t' ≡ but trailer_size t ++ old
 
 -- the change at a place is listed, if it is one
-pub record PutsChange (i a b : ℕ) (o : List ℕ) (p : ℕ) (o' : List ℕ) (r : ℕ) : Type 0 where
-  pub puts : Put o p (each change_bytes (changes_from i (a ∷ []) (b ∷ []))) o' r
+pub record PutsChange (i a b : ℕ) (o o' : Page) : Type 0 where
+  pub puts : Puts o (each change_bytes (changes_from i (a ∷ []) (b ∷ []))) o'
 
 -- the changes from the old to the new ones are listed
 pub record ListsChanges (old t o o' : List ℕ) (r : ℕ) : Type 0 where

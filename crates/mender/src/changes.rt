@@ -1,37 +1,33 @@
 // The list of changes.
-ghost use Rattle.std.specs.Prelude.{◌≡◌, length};
-ghost use Rattle.format.specs.Encode.{trailer_size};
 ghost use Rattle.mender.specs.Trailing.{Sized, PutsChange, ListsChanges};
 
 use basics::numbers::TRAILER;
-use writer::bytes::{put, put_four};
+use writer::page::Page;
 
 // The bytes of a change.
 pub const CHANGE: usize = 6;
 
 // The byte at a place, if it is changed: "place 4 bytes, old, new".
-fn put_change(list: &mut [u8], at: usize, place: usize, old: u8, new: u8) -> usize
-    ensures { PutsChange place old new list.old at list.new result }
+#[tactic(auto, using(crate::proofs::Trailing::listing_ways))]
+fn put_change(list: &mut Page, place: usize, old: u8, new: u8)
+    ensures { PutsChange place old new list.old list.new }
 {
-    if old == new {
-        return at;
+    if old != new {
+        list.put_four(place);
+        list.put_all(&[old, new]);
     }
-    let p = put_four(list, at, place);
-    let q = put(list, p, old);
-    put(list, q, new)
 }
 
 // "each changed byte, by rising place, with its old and new value": where the list ends.
+#[tactic(auto, using(crate::proofs::Trailing::listing_ways))]
 pub fn put_changes(old: &[u8; TRAILER], table: &[u8], list: &mut [u8]) -> usize
-    requires { Sized table.now × (length old.now ≡ trailer_size) }
+    requires { Sized table.now }
     ensures { ListsChanges old.now table.now list.old list.new result }
 {
     let end = table.len() - TRAILER;
-    let mut i = 0;
-    let mut p = 0;
-    while i < TRAILER {
-        p = put_change(list, p, end + i, old[i], table[end + i]);
-        i += 1;
+    let mut page = Page::new(list);
+    for i in 0..TRAILER {
+        put_change(&mut page, end + i, old[i], table[end + i]);
     }
-    p
+    page.at()
 }

@@ -6,95 +6,121 @@ mod changes;
 mod search;
 mod trailer;
 
-ghost use Rattle.std.specs.Prelude.{◌≡◌, false, length};
-ghost use Rattle.format.specs.Encode.{trailer_size};
+ghost use Rattle.std.specs.Prelude.{◌≡◌};
 ghost use Rattle.parse.specs.Ends.{kind_of};
 ghost use Rattle.mending.specs.Mending.{kind_numbered, mend_call};
-ghost use Rattle.mender.specs.Trailing.{Sized};
-ghost use Rattle.mender.specs.Answering.{Refuses, Becomes, Mends};
+ghost use Rattle.mender.specs.Trailing.{Sized, Keeps};
+ghost use Rattle.mender.specs.Answering.{answer_of, Becomes, MendsBut, Mends, Called};
 
 use basics::numbers::TRAILER;
+use basics::refusals::Refusal;
 use changes::{CHANGE, put_changes};
 use mending::MendAnswer;
 use parse::Kind;
-use search::{Found, accepted, bounds, find};
+use search::{Found, accepted, find};
 use trailer::{Counts, put_back, put_trailer, take_trailer};
 
-// "too short a list buffer is 10"
-const NO_ROOM: u8 = 10;
-
-// "14 if no choice is acceptable, 15 if more than one is"
-const NONE: u8 = 14;
-
-const SEVERAL: u8 = 15;
-
-// The kind by its number: 0 concurrent, any other sequential.
+// The kind by its number: 0 concurrent, any other sequential. stays: the contracts of the calls for C (`zaru_mend`) name the kind by
+// `kind_numbered`, and no From<u64>.
+#[tactic(auto, using(crate::proofs::Answering::answer_ways))]
 pub fn kind_numbered(number: u64) -> Kind
     ensures { kind_of result ≡ kind_numbered number }
 {
-    if number == 0 {
-        return Kind::Concurrent;
-    }
-    Kind::Sequential
-}
-
-// A refusal, or that there is nothing to mend.
-fn without(number: u8) -> MendAnswer
-    ensures { result ≡ record { refusal = number; mended = false; changes = 0 } }
-{
-    MendAnswer {
-        refusal: number,
-        mended: false,
-        changes: 0,
+    match number {
+        0 => Kind::Concurrent,
+        _ => Kind::Sequential,
     }
 }
 
-// A refusal after the search: "A refusal writes nothing".
-fn refuse(number: u8, old: &[u8; TRAILER], table: &mut [u8]) -> MendAnswer
-    requires { Sized table.old }
-    ensures { Refuses number old.now table.old table.new result }
-{
-    put_back(old, table);
-    without(number)
-}
-
-// The one acceptable choice.
+// The one acceptable choice: how many bytes change. "too short a list buffer is 10"
 fn mend_by(
     table: &mut [u8],
     kind: Kind,
     counts: Counts,
     old: &[u8; TRAILER],
     list: &mut [u8],
-) -> MendAnswer
-    requires { Sized table.old × (length old.now ≡ trailer_size) }
+) -> Result<usize, Refusal>
+    requires { Sized table.old }
     ensures { Becomes (kind_of kind) table.old counts old.now list.old table.new list.new result }
 {
     put_trailer(table, kind, counts);
     let mut nowhere = [0u8; 1];
     let length = put_changes(old, table, &mut nowhere);
     if list.len() < length {
-        return refuse(NO_ROOM, old, table);
+        return Err(Refusal::NoRoom);
     }
     put_changes(old, table, list);
-    MendAnswer {
-        refusal: 0,
-        mended: true,
-        changes: length / CHANGE,
+    Ok(length / CHANGE)
+}
+
+// By the choices that are found: "14 if no choice is acceptable, 15 if more than one is".
+fn mend_found(
+    table: &mut [u8],
+    kind: Kind,
+    old: &[u8; TRAILER],
+    list: &mut [u8],
+) -> Result<usize, Refusal>
+    requires { Sized table.old × Keeps table.old old.now }
+    ensures { MendsBut (kind_of kind) table.old old.now list.old table.new list.new result }
+{
+    match find(table, kind) {
+        Found::None => Err(Refusal::NoChoice),
+        Found::One(counts) => mend_by(table, kind, counts, old, list),
+        Found::Several => Err(Refusal::Choices),
     }
 }
 
-// A table that is not accepted as it is.
-fn mend_damaged(table: &mut [u8], kind: Kind, list: &mut [u8]) -> MendAnswer
+// A table that is not accepted as it is. "A refusal writes nothing".
+#[tactic(auto, using(crate::proofs::Answering::answer_ways))]
+fn mend_damaged(table: &mut [u8], kind: Kind, list: &mut [u8]) -> Result<usize, Refusal>
     requires { Sized table.old }
     ensures { Mends (kind_of kind) table.old list.old table.new list.new result }
 {
-    let mut old = [0u8; TRAILER];
-    take_trailer(table, &mut old);
-    let found = find(table, kind);
-    match found {
-        Found::None => refuse(NONE, &old, table),
-        Found::One(counts) => mend_by(table, kind, counts, &old, list),
-        Found::Several => refuse(SEVERAL, &old, table),
+    let old = take_trailer(table);
+    let outcome = mend_found(table, kind, &old, list);
+    if outcome.is_err() {
+        put_back(&old, table);
+    }
+    outcome
+}
+
+// How many bytes change, if any has to.
+#[tactic(auto, using(crate::proofs::Answering::call_ways))]
+fn mended(table: &mut [u8], kind: Kind, list: &mut [u8]) -> Result<Option<usize>, Refusal>
+    ensures { Called (kind_of kind) table.old list.old table.new list.new result }
+{
+    if table.len() < TRAILER {
+        return Err(Refusal::Trailer);
+    }
+    if kind.limits().bytes < table.len() {
+        return Err(Refusal::Counts);
+    }
+    if accepted(table, kind) {
+        return Ok(None);
+    }
+    Ok(Some(mend_damaged(table, kind, list)?))
+}
+
+// The paper's answer.
+fn answer(outcome: Result<Option<usize>, Refusal>) -> MendAnswer
+    ensures { result ≡ answer_of outcome }
+{
+    match outcome {
+        Ok(Some(changes)) => MendAnswer {
+            refusal: 0,
+            mended: true,
+            changes,
+        },
+        Ok(None) => MendAnswer {
+            refusal: 0,
+            mended: false,
+            changes: 0,
+        },
+        Err(refusal) => MendAnswer {
+            refusal: refusal.number(),
+            mended: false,
+            changes: 0,
+        },
     }
 }
 
@@ -103,14 +129,5 @@ fn mend_damaged(table: &mut [u8], kind: Kind, list: &mut [u8]) -> MendAnswer
 pub fn mend(table: &mut [u8], kind: Kind, list: &mut [u8]) -> MendAnswer
     ensures { record { answer = result; table = table.new; list = list.new } ≡ mend_call (kind_of kind) table.old list.old }
 {
-    if table.len() < TRAILER {
-        return without(1);
-    }
-    if bounds(kind).bytes < table.len() {
-        return without(2);
-    }
-    if accepted(table, kind) {
-        return without(0);
-    }
-    mend_damaged(table, kind, list)
+    answer(mended(table, kind, list))
 }

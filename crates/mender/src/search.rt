@@ -1,20 +1,16 @@
 // The search for the choices of counts that make an acceptable table. The bodies say themselves where they end, so they are read from byte 0
 // on, once. With P of them read, all bytes up to the trailer are records, sizes and mains: M + T is known.
-ghost use Rattle.std.specs.Prelude.{◌≡◌, ◌≤◌, ◌<◌, length};
-ghost use Rattle.format.specs.Encode.{trailer_size};
-ghost use Rattle.format.specs.Decode.{but};
-ghost use Rattle.format.specs.Rules.{limits};
+ghost use Rattle.std.specs.Prelude.{◌≤◌, length};
 ghost use Rattle.parse.specs.Ends.{kind_of};
-ghost use Rattle.shape.specs.Shapes.{limits_of, BodyReads};
 ghost use Rattle.mender.specs.Trailing.{Sized};
 ghost use Rattle.mender.specs.Searching.{Accepted, Adds, TriesCounts, TriesThreads, TriesProcedures, Finds};
 
 use super::trailer::{Counts, put_trailer};
-use basics::numbers::{CONCURRENT, Limits, NESTING, RECORD, SEQUENTIAL, SIZE, TRAILER};
-use parse::block::read_block;
-use parse::{Context, Ends, Kind};
+use basics::numbers::{RECORD, SIZE, TRAILER};
+use parse::Kind;
+use parse::block::read_body;
 
-// The acceptable choices so far.
+// The acceptable choices so far. stays: none, one and several are three cases, and an Option of an Option would say no more.
 #[derive(Clone, Copy)]
 pub enum Found {
     None,
@@ -22,27 +18,15 @@ pub enum Found {
     Several,
 }
 
-// The bounds of a kind.
-pub fn bounds(kind: Kind) -> Limits
-    ensures { limits_of result ≡ limits (kind_of kind) }
-{
-    match kind {
-        Kind::Concurrent => CONCURRENT,
-        Kind::Sequential => SEQUENTIAL,
-    }
-}
-
 // Is a table accepted?
 pub fn accepted(table: &[u8], kind: Kind) -> bool
     ensures { Accepted (kind_of kind) table.now result }
 {
-    match kind {
-        Kind::Concurrent => reader::read_concurrent(table).number == 0,
-        Kind::Sequential => reader::read_sequential(table).number == 0,
-    }
+    reader::check(table, kind).is_ok()
 }
 
 // One more acceptable choice.
+#[tactic(auto, using(crate::proofs::Searching::counts_ways))]
 fn add(found: Found, counts: Counts) -> Found
     ensures { Adds found counts result }
 {
@@ -66,6 +50,7 @@ fn try_counts(table: &mut [u8], kind: Kind, counts: Counts, found: Found) -> Fou
 }
 
 // The choice with so many procedures, locations and threads together, and threads.
+#[tactic(auto, using(crate::proofs::Searching::counts_ways))]
 fn try_threads(
     table: &mut [u8],
     kind: Kind,
@@ -81,7 +66,7 @@ fn try_threads(
         return found;
     }
     let locations = numbers - (threads as usize);
-    if (bounds(kind).locations as usize) < locations {
+    if (kind.limits().locations as usize) < locations {
         return found;
     }
     try_counts(
@@ -97,11 +82,12 @@ fn try_threads(
 }
 
 // The choices with so many procedures, whose bodies end at a place.
+#[tactic(auto, using(crate::proofs::Searching::procedures_ways))]
 fn try_procedures(table: &mut [u8], kind: Kind, procedures: u16, at: usize, before: Found) -> Found
     requires { Sized table.old × (at ≤ length table.old) }
     ensures { TriesProcedures (kind_of kind) table.old procedures at before table.new result }
 {
-    let most = bounds(kind);
+    let most = kind.limits();
     let end = table.len() - TRAILER;
     let records = at + RECORD * (procedures as usize);
     if end < records {
@@ -112,30 +98,10 @@ fn try_procedures(table: &mut [u8], kind: Kind, procedures: u16, at: usize, befo
         return before;
     }
     let mut found = before;
-    let mut threads = most.fewest;
-    while threads <= most.threads {
+    for threads in most.fewest..=most.threads {
         found = try_threads(table, kind, procedures, rest / SIZE, threads, found);
-        threads += 1;
     }
     found
-}
-
-// Where the body of a procedure ends that begins at a place.
-fn read_body(table: &[u8], at: usize, procedure: usize, kind: Kind) -> Ends
-    requires { trailer_size ≤ length table.now }
-    ensures { BodyReads (kind_of kind) (but trailer_size table.now) at procedure result }
-{
-    let end = table.len() - TRAILER;
-    read_block(
-        &table[..end],
-        at,
-        NESTING,
-        Context {
-            kind,
-            procedure,
-            inside: false,
-        },
-    )
 }
 
 // All choices within the bounds.
@@ -143,17 +109,15 @@ pub fn find(table: &mut [u8], kind: Kind) -> Found
     requires { Sized table.old }
     ensures { Finds (kind_of kind) table.old table.new result }
 {
-    let most = bounds(kind);
     let mut found = Found::None;
     let mut position = 0;
-    let mut procedures = 0;
-    while procedures < most.procedures {
-        let Ends::At(next) = read_body(table, position, procedures as usize, kind) else {
+    for procedure in 0..kind.limits().procedures {
+        let bodies = &table[..table.len() - TRAILER];
+        let Some(next) = read_body(bodies, position, procedure as usize, kind) else {
             return found;
         };
         position = next;
-        procedures += 1;
-        found = try_procedures(table, kind, procedures, position, found);
+        found = try_procedures(table, kind, procedure + 1, position, found);
     }
     found
 }

@@ -1,12 +1,10 @@
 // The last sixteen bytes of a table.
-ghost use Rattle.std.specs.Prelude.{◌≡◌, ◌≤◌, length};
-ghost use Rattle.format.specs.Encode.{kind_mark, trailer_size};
 ghost use Rattle.parse.specs.Ends.{kind_of};
-ghost use Rattle.mender.specs.Trailing.{Sized, PutsCounts, PutsLengths, Trails, Keeps, PutsBack};
+ghost use Rattle.mender.specs.Trailing.{Sized, Trails, Keeps, PutsBack};
 
-use basics::numbers::{CONCURRENT_MARK, FORM_MARK, MAIN, RECORD, SEQUENTIAL_MARK, SIZE, TRAILER};
+use basics::numbers::{FORM_MARK, MAIN, RECORD, SIZE, TRAILER};
 use parse::Kind;
-use writer::bytes::{put, put_four, put_part, put_two};
+use writer::page::Page;
 
 // A choice of the three counts.
 #[derive(Clone, Copy)]
@@ -16,34 +14,9 @@ pub struct Counts {
     pub threads: u16,
 }
 
-// "43 50 concurrent or 53 50 sequential": the first of these bytes.
-fn kind_mark(kind: Kind) -> u8
-    ensures { result ≡ kind_mark (kind_of kind) }
-{
-    match kind {
-        Kind::Concurrent => CONCURRENT_MARK,
-        Kind::Sequential => SEQUENTIAL_MARK,
-    }
-}
-
-// "procedures P, locations M, threads T (2 each)"
-fn put_counts(table: &mut [u8], at: usize, counts: Counts) -> usize
-    ensures { PutsCounts counts table.old at table.new result }
-{
-    let p = put_two(table, at, counts.procedures as usize);
-    let q = put_two(table, p, counts.locations as usize);
-    put_two(table, q, counts.threads as usize)
-}
-
-// "the distance from the trailer back to the procedure records (4); the whole length (4)"
-fn put_lengths(table: &mut [u8], at: usize, back: usize, whole: usize) -> usize
-    ensures { PutsLengths back whole table.old at table.new result }
-{
-    let p = put_four(table, at, back);
-    put_four(table, p, whole)
-}
-
-// Overwrites it with that of a choice.
+// Overwrites it with that of a choice: "procedures P, locations M, threads T (2 each)", "the distance from the trailer back to the procedure
+// records (4); the whole length (4)"
+#[tactic(auto, using(crate::proofs::Trailing::trails))]
 pub fn put_trailer(table: &mut [u8], kind: Kind, counts: Counts)
     requires { Sized table.old }
     ensures { Trails (kind_of kind) table.old counts table.new }
@@ -52,25 +25,32 @@ pub fn put_trailer(table: &mut [u8], kind: Kind, counts: Counts)
     let back = RECORD * (counts.procedures as usize)
         + SIZE * (counts.locations as usize)
         + MAIN * (counts.threads as usize);
-    let p = put(table, whole - TRAILER, kind_mark(kind));
-    let q = put(table, p, FORM_MARK);
-    let u = put_counts(table, q, counts);
-    put_lengths(table, u, back, whole);
+    let mut new = [0; TRAILER];
+    let mut page = Page::new(&mut new);
+    page.put_all(&[kind.mark(), FORM_MARK]);
+    page.put_two(counts.procedures as usize);
+    page.put_two(counts.locations as usize);
+    page.put_two(counts.threads as usize);
+    page.put_four(back);
+    page.put_four(whole);
+    put_back(&new, table);
 }
 
 // Keeps it.
-pub fn take_trailer(table: &[u8], old: &mut [u8; TRAILER])
+pub fn take_trailer(table: &[u8]) -> [u8; TRAILER]
     requires { Sized table.now }
-    ensures { Keeps table.now old.new }
+    ensures { Keeps table.now result }
 {
-    put_part(table, table.len() - TRAILER, table.len(), old, 0);
+    let mut old = [0; TRAILER];
+    old.copy_from_slice(&table[table.len() - TRAILER..]);
+    old
 }
 
-// Writes back what was kept.
+// Writes sixteen bytes over it, as those that were kept.
 pub fn put_back(old: &[u8; TRAILER], table: &mut [u8])
     requires { Sized table.old }
     ensures { PutsBack old.now table.old table.new }
 {
     let end = table.len() - TRAILER;
-    put_part(old, 0, TRAILER, table, end);
+    table[end..].copy_from_slice(old);
 }

@@ -1,4 +1,5 @@
 -- One law for each way through the readers of blocks and instructions.
+use Rattle.std.specs.Prelude.{Option, Some, None}
 use Prim.Native.Nat.{ℕ, zero, suc, ◌+◌, ◌-◌, ◌≤◌, ◌<◌}
 use native.Mathlib.Omega.{arith}
 use mathlib.Core.Path.{◌≡◌, refl, sym, ◌∙◌}
@@ -16,8 +17,6 @@ use Rattle.format.proofs.Laws.Reading.{known_is}
 use Rattle.format.proofs.Laws.Rests.{expr_leaves, instr_leaves, instr_takes, block_leaves, block_goes_on}
 use Rattle.parse.proofs.Chains.{ends_then, ends_none, bind_assoc, passed_at, passed_none, passed_made, never_passes, fails_behind}
 use Rattle.parse.proofs.Plain.{instr_at}
-use Rattle.parse.specs.declared.Ends.{Ends}
-use Rattle.parse.specs.declared.Ends.TheVariants.{At, Nothing}
 
 -- ---- instructions
 
@@ -35,17 +34,17 @@ atomic_may true true x e = refl
 
 module _ (t : List ℕ) (i d : ℕ) (h : Here) where
   -- past the end
-  pub instr_past : length t ≤ i → ReadsInstr t i d h Nothing
+  pub instr_past : length t ≤ i → ReadsInstr t i d h None
   instr_past l = let none : drop i t ≡ [] = drop_of_length-le t {i = i} l in record { same = rw none }
 
   -- without blocks
-  pub instr_plain : {r : Ends} → ReadsPlain t i h r → (get_or t i 0 ≡ 0x23 → ⊥) → (get_or t i 0 ≡ 0x24 → ⊥) → (get_or t i 0 ≡ 0x26 → ⊥)
+  pub instr_plain : {r : Option ℕ} → ReadsPlain t i h r → (get_or t i 0 ≡ 0x23 → ⊥) → (get_or t i 0 ≡ 0x24 → ⊥) → (get_or t i 0 ≡ 0x26 → ⊥)
       → ReadsInstr t i d h r
   instr_plain R n₃ n₄ n₆ = R.gives d n₃ n₄ n₆
 
   module _ (inside : i < length t) where
     -- a while inside an atomic block
-    pub while_inside : get_or t i 0 ≡ 0x23 → h.inside ≡ true → ReadsInstr t i d h Nothing
+    pub while_inside : get_or t i 0 ≡ 0x23 → h.inside ≡ true → ReadsInstr t i d h None
     while_inside q out = record {
       same = sym
           (rw (instr_at t i d 0x23 inside q)
@@ -53,14 +52,14 @@ module _ (t : List ℕ) (i d : ℕ) (h : Here) where
     }
 
     -- one without a test
-    pub while_cut : {f : Ends} → get_or t i 0 ≡ 0x23 → f ≡ Nothing → ReadsExpr t (i + 1) max_depth f → ReadsInstr t i d h Nothing
+    pub while_cut : {f : Option ℕ} → get_or t i 0 ≡ 0x23 → f ≡ None → ReadsExpr t (i + 1) max_depth f → ReadsInstr t i d h None
     while_cut q e R = record {
       same = rw (instr_at t i d 0x23 inside q, bind_assoc (expr max_depth (drop (i + 1) t)))
           (ends_none t (expr max_depth (drop (i + 1) t)) _ (sym e ∙ R.same));
     }
 
     -- one
-    pub reads_while : {f r : Ends} {k : ℕ} → get_or t i 0 ≡ 0x23 → h.inside ≡ false → f ≡ At k → ReadsExpr t (i + 1) max_depth f → ReadsBlock t k d h r
+    pub reads_while : {f r : Option ℕ} {k : ℕ} → get_or t i 0 ≡ 0x23 → h.inside ≡ false → f ≡ Some k → ReadsExpr t (i + 1) max_depth f → ReadsBlock t k d h r
         → ReadsInstr t i d h r
     reads_while {k = k} q out e F R = record {
       same =
@@ -70,14 +69,14 @@ module _ (t : List ℕ) (i d : ℕ) (h : Here) where
     }
 
     -- an if without a test
-    pub if_cut : {f : Ends} → get_or t i 0 ≡ 0x24 → f ≡ Nothing → ReadsExpr t (i + 1) max_depth f → ReadsInstr t i d h Nothing
+    pub if_cut : {f : Option ℕ} → get_or t i 0 ≡ 0x24 → f ≡ None → ReadsExpr t (i + 1) max_depth f → ReadsInstr t i d h None
     if_cut q e R = record {
       same = rw (instr_at t i d 0x24 inside q, bind_assoc (expr max_depth (drop (i + 1) t)))
           (ends_none t (expr max_depth (drop (i + 1) t)) _ (sym e ∙ R.same));
     }
 
     -- behind the test, two blocks
-    if_then : {f r : Ends} {k : ℕ} → get_or t i 0 ≡ 0x24 → f ≡ At k → ReadsExpr t (i + 1) max_depth f
+    if_then : {f r : Option ℕ} {k : ℕ} → get_or t i 0 ≡ 0x24 → f ≡ Some k → ReadsExpr t (i + 1) max_depth f
         → ((e : Expr) → r ≡ end_of t ((block d (drop k t) >>= λ (b, q). block d q >>= λ (c, q). is (if e b c, q)) >>= check (allowed_i h)))
         → ReadsInstr t i d h r
     if_then q e F next = record {
@@ -87,22 +86,22 @@ module _ (t : List ℕ) (i d : ℕ) (h : Here) where
     }
 
     -- without a first block
-    pub then_cut : {f g : Ends} {k : ℕ} → get_or t i 0 ≡ 0x24 → f ≡ At k → ReadsExpr t (i + 1) max_depth f → g ≡ Nothing → ReadsBlock t k d h g
-        → ReadsInstr t i d h Nothing
+    pub then_cut : {f g : Option ℕ} {k : ℕ} → get_or t i 0 ≡ 0x24 → f ≡ Some k → ReadsExpr t (i + 1) max_depth f → g ≡ None → ReadsBlock t k d h g
+        → ReadsInstr t i d h None
     then_cut {k = k} q e F n G = if_then q e F λ e.
         passed_none (allowed h) t (block d (drop k t)) (sym n ∙ G.same)
         (λ missed. rw missed)
         (λ b r found bad. rw found (sym (never_passes t (block d r) (if e b) (allowed_i h) (λ c. rw bad))))
 
     -- one
-    pub reads_if : {f g r : Ends} {k l : ℕ} → get_or t i 0 ≡ 0x24 → f ≡ At k → ReadsExpr t (i + 1) max_depth f → g ≡ At l → ReadsBlock t k d h g
+    pub reads_if : {f g r : Option ℕ} {k l : ℕ} → get_or t i 0 ≡ 0x24 → f ≡ Some k → ReadsExpr t (i + 1) max_depth f → g ≡ Some l → ReadsBlock t k d h g
         → ReadsBlock t l d h r → ReadsInstr t i d h r
     reads_if {k = k} {l} q e F n G R = if_then q e F λ e.
         let first = passed_at (allowed h) t k (block d (drop k t)) (block_leaves d (drop k t)) (sym n ∙ G.same) in
         rw first.1 (R.same ∙ sym (passed_made (allowed h) t (block d (drop l t)) (if e first.0) (allowed_i h) (λ c. rw first.2)))
 
     -- atomic where it may not stand
-    pub no_atomic : {b : Bool} → get_or t i 0 ≡ 0x26 → b ≡ both (is_concurrent h.kind) (plainly h) → b ≡ false → ReadsInstr t i d h Nothing
+    pub no_atomic : {b : Bool} → get_or t i 0 ≡ 0x26 → b ≡ both (is_concurrent h.kind) (plainly h) → b ≡ false → ReadsInstr t i d h None
     no_atomic q e f = record {
       same = sym
           (rw (instr_at t i d 0x26 inside q)
@@ -110,7 +109,7 @@ module _ (t : List ℕ) (i d : ℕ) (h : Here) where
     }
 
     -- and where it may
-    pub reads_atomic : {b : Bool} {g : Here} {r : Ends} → get_or t i 0 ≡ 0x26 → b ≡ both (is_concurrent h.kind) (plainly h) → b ≡ true
+    pub reads_atomic : {b : Bool} {g : Here} {r : Option ℕ} → get_or t i 0 ≡ 0x26 → b ≡ both (is_concurrent h.kind) (plainly h) → b ≡ true
         → g ≡ inside_of h → ReadsBlock t (i + 1) d g r → ReadsInstr t i d h r
     reads_atomic {g = g} q e f n R = record {
       same =
@@ -130,18 +129,18 @@ goes_on (suc d) zero bs deep q = absurd (q refl)
 goes_on (suc d) (suc m) bs deep q = let same : suc d - 1 ≡ d = omega arith in rw same (block_goes_on d m bs)
 
 -- nothing is read past the end
-block_none : (t : List ℕ) (d : ℕ) (h : Here) → Nothing ≡ end_of t (block d [] >>= check (allowed h))
+block_none : (t : List ℕ) (d : ℕ) (h : Here) → None ≡ end_of t (block d [] >>= check (allowed h))
 block_none t zero h = refl
 block_none t (suc d) h = refl
 
 module _ (t : List ℕ) (d : ℕ) (h : Here) (i : ℕ) where
   -- no depth is left
-  pub block_shallow : d ≡ 0 → ReadsBlock t i d h Nothing
+  pub block_shallow : d ≡ 0 → ReadsBlock t i d h None
   block_shallow e = record { same = rw e }
 
   -- whatever is read from k on is read from i on
   pub record BlockFrom (k : ℕ) : Type 0 where
-    pub back : (r : Ends) → ReadsBlock t k d h r → ReadsBlock t i d h r
+    pub back : (r : Option ℕ) → ReadsBlock t k d h r → ReadsBlock t i d h r
 
   module _ (deep : d ≡ 0 → ⊥) (inside : i < length t) where
     -- the first byte, and what follows
@@ -149,7 +148,7 @@ module _ (t : List ℕ) (d : ℕ) (h : Here) (i : ℕ) where
     bytes_at = let next : i + 1 ≡ suc i = omega arith in drop-cons t i 0 inside ∙ rw next
 
     -- the byte 00
-    ended : get_or t i 0 ≡ 0 → ReadsBlock t i d h (At (i + 1))
+    ended : get_or t i 0 ≡ 0 → ReadsBlock t i d h (Some (i + 1))
     ended q =
         let some : d ≡ suc (d - 1) = omega arith in
         let here : length t - length (drop (i + 1) t) ≡ i + 1 = rw length-drop (omega arith) in
@@ -161,7 +160,7 @@ module _ (t : List ℕ) (d : ℕ) (h : Here) (i : ℕ) where
       more = rw bytes_at (goes_on d (get_or t i 0) (drop (i + 1) t) deep q)
 
       -- which is none
-      cut : {f : Ends} → f ≡ Nothing → ReadsInstr t i (d - 1) h f → ReadsBlock t i d h Nothing
+      cut : {f : Option ℕ} → f ≡ None → ReadsInstr t i (d - 1) h f → ReadsBlock t i d h None
       cut e R = record {
         same =
             rw more
@@ -171,7 +170,7 @@ module _ (t : List ℕ) (d : ℕ) (h : Here) (i : ℕ) where
       }
 
       -- which ends at k
-      next : {f : Ends} {k : ℕ} → f ≡ At k → ReadsInstr t i (d - 1) h f → BlockFrom k
+      next : {f : Option ℕ} {k : ℕ} → f ≡ Some k → ReadsInstr t i (d - 1) h f → BlockFrom k
       next {k = k} e R =
           let rest = instr_leaves (block (d - 1)) (block_leaves (d - 1)) (drop i t) in
           let first = passed_at (allowed_i h) t i (instr (block (d - 1)) (drop i t)) rest (sym e ∙ R.same) in
@@ -184,7 +183,7 @@ module _ (t : List ℕ) (d : ℕ) (h : Here) (i : ℕ) where
           }
 
   -- past the end
-  past : length t ≤ i → ReadsBlock t i d h Nothing
+  past : length t ≤ i → ReadsBlock t i d h None
   past l = let none : drop i t ≡ [] = drop_of_length-le t {i = i} l in record { same = rw none (block_none t d h) }
 
 -- the loop
@@ -195,25 +194,25 @@ module _ (t : List ℕ) (d : ℕ) (h : Here) (i : ℕ) where
 
   module _ {k : ℕ} (F : BlockFrom t d h i k) where
     -- the bytes end first
-    pub block_past : length t ≤ k → ReadsBlock t i d h Nothing
+    pub block_past : length t ≤ k → ReadsBlock t i d h None
     block_past l = F.back _ (past t d h k l)
 
     -- the byte 00
-    pub block_end : (d ≡ 0 → ⊥) → k < length t → get_or t k 0 ≡ 0 → ReadsBlock t i d h (At (k + 1))
+    pub block_end : (d ≡ 0 → ⊥) → k < length t → get_or t k 0 ≡ 0 → ReadsBlock t i d h (Some (k + 1))
     block_end deep l q = F.back _ (ended t d h k deep l q)
 
     -- no instruction
-    pub block_cut : {f : Ends} → (d ≡ 0 → ⊥) → k < length t → (get_or t k 0 ≡ 0 → ⊥) → f ≡ Nothing → ReadsInstr t k (d - 1) h f
-        → ReadsBlock t i d h Nothing
+    pub block_cut : {f : Option ℕ} → (d ≡ 0 → ⊥) → k < length t → (get_or t k 0 ≡ 0 → ⊥) → f ≡ None → ReadsInstr t k (d - 1) h f
+        → ReadsBlock t i d h None
     block_cut deep l q e R = F.back _ (cut t d h k deep l q e R)
 
     -- one more
-    pub block_next : {f : Ends} {n : ℕ} → (d ≡ 0 → ⊥) → k < length t → (get_or t k 0 ≡ 0 → ⊥) → f ≡ At n → ReadsInstr t k (d - 1) h f
+    pub block_next : {f : Option ℕ} {n : ℕ} → (d ≡ 0 → ⊥) → k < length t → (get_or t k 0 ≡ 0 → ⊥) → f ≡ Some n → ReadsInstr t k (d - 1) h f
         → BlockFrom t d h i n
     block_next deep l q e R = record { back = λ r S. F.back r ((next t d h k deep l q e R).back r S) }
 
 -- an instruction takes a byte, so less is left behind it
-pub instr_less : {f : Ends} (t : List ℕ) (i d : ℕ) (h : Here) (k : ℕ) → i < length t → f ≡ At k → ReadsInstr t i d h f → length t - k < length t - i
+pub instr_less : {f : Option ℕ} (t : List ℕ) (i d : ℕ) (h : Here) (k : ℕ) → i < length t → f ≡ Some k → ReadsInstr t i d h f → length t - k < length t - i
 instr_less t i d h k l e R =
     let read = instr (block d) (drop i t) in
     let found = passed_at (allowed_i h) t i read (instr_leaves (block d) (block_leaves d) (drop i t)) (sym e ∙ R.same) in

@@ -1,4 +1,5 @@
 -- One law for each way through the reader of an instruction that holds no block.
+use Rattle.std.specs.Prelude.{Option, None}
 use Prim.Native.Nat.{ℕ, suc, ◌+◌, ◌≤◌, ◌<◌}
 use native.Mathlib.Omega.{arith}
 use mathlib.Core.Path.{◌≡◌, refl, sym, ◌∙◌}
@@ -20,8 +21,6 @@ use Rattle.parse.specs.Ends.{end_of, check, ReadsValues, ReadsPlain}
 use Rattle.format.proofs.Laws.Blocks.{forms?, form_right}
 use Rattle.format.proofs.Laws.Positions.{byte_at, byte_past, number_at_lem, number_past}
 use Rattle.parse.proofs.Chains.{ends_made, ends_made₂, ends_alike, always_passes, never_passes, fails_behind}
-use Rattle.parse.specs.declared.Ends.{Ends}
-use Rattle.parse.specs.declared.Ends.TheVariants.{Nothing}
 
 -- an instruction, by its first byte
 pub instr_at : (t : List ℕ) (i d : ℕ) (b : ℕ) → i < length t → get_or t i 0 ≡ b
@@ -48,25 +47,25 @@ other_form b n₀ n₁ n₂ n₃ n₄ n₅ n₆ n₇ = go (get_or forms b no_for
 
 module _ (t : List ℕ) (i : ℕ) (h : Here) where
   -- what is read of an instruction at i
-  abbrev here : ℕ → Ends
+  abbrev here : ℕ → Option ℕ
   here d = end_of t (instr (block d) (drop i t) >>= check (allowed_i h))
 
   -- past the end
-  pub plain_past : length t ≤ i → ReadsPlain t i h Nothing
+  pub plain_past : length t ≤ i → ReadsPlain t i h None
   plain_past l =
       let none : drop i t ≡ [] = drop_of_length-le t {i = i} l in
       record { gives = λ d n₃ n₄ n₆. record { same = rw none } }
 
   -- k bytes, and then n expressions
-  bytes_then : (k n : ℕ) {r : Ends} → ReadsValues t (i + k) n r
-      → ((d : ℕ) → i + k ≤ length t → here d ≡ end_of t (times (expr max_depth) n (drop (i + k) t))) → ((d : ℕ) → length t < i + k → here d ≡ Nothing)
+  bytes_then : (k n : ℕ) {r : Option ℕ} → ReadsValues t (i + k) n r
+      → ((d : ℕ) → i + k ≤ length t → here d ≡ end_of t (times (expr max_depth) n (drop (i + k) t))) → ((d : ℕ) → length t < i + k → here d ≡ None)
       → ReadsPlain t i h r
   bytes_then k n {r} R room short = by_test (leb (i + k) (length t))
       (λ e.
       let same : r ≡ end_of t (times (expr max_depth) n (drop (i + k) t)) = rw e at R.same in
       record { gives = λ d n₃ n₄ n₆. record { same = same ∙ sym (room d (leb-true (i + k) (length t) e)) } })
       (λ e.
-      let same : r ≡ Nothing = rw e at R.same in
+      let same : r ≡ None = rw e at R.same in
       record { gives = λ d n₃ n₄ n₆. record { same = same ∙ sym (short d (leb-false (i + k) (length t) e)) } })
 
   module _ (inside : i < length t) where
@@ -75,7 +74,7 @@ module _ (t : List ℕ) (i : ℕ) (h : Here) where
     one_value bs = sym (ends_made t (expr max_depth bs) (◌∷ []))
 
     -- x := e
-    pub reads_assign : {r : Ends} → get_or t i 0 ≡ 0x20 → ReadsValues t (i + 2) 1 r → ReadsPlain t i h r
+    pub reads_assign : {r : Option ℕ} → get_or t i 0 ≡ 0x20 → ReadsValues t (i + 2) 1 r → ReadsPlain t i h r
     reads_assign q R = bytes_then 2 1 R
         (λ d room.
         let next : i + 1 + 1 ≡ i + 2 = omega arith in
@@ -84,7 +83,7 @@ module _ (t : List ℕ) (i : ℕ) (h : Here) where
         (λ d short. rw (instr_at t i d 0x20 inside q, byte_past t (i + 1) (omega arith)))
 
     -- y[o] := e
-    pub reads_write : {r : Ends} → get_or t i 0 ≡ 0x21 → ReadsValues t (i + 2) 2 r → ReadsPlain t i h r
+    pub reads_write : {r : Option ℕ} → get_or t i 0 ≡ 0x21 → ReadsValues t (i + 2) 2 r → ReadsPlain t i h r
     reads_write q R = bytes_then 2 2 R
         (λ d room.
         let next : i + 1 + 1 ≡ i + 2 = omega arith in
@@ -103,7 +102,7 @@ module _ (t : List ℕ) (i : ℕ) (h : Here) where
         two_values y (is got) = always_passes t (expr max_depth got.1) (write y got.0) (allowed_i h) (λ e. refl)
 
     -- x := y[o]
-    pub reads_read : {r : Ends} → get_or t i 0 ≡ 0x22 → ReadsValues t (i + 3) 1 r → ReadsPlain t i h r
+    pub reads_read : {r : Option ℕ} → get_or t i 0 ≡ 0x22 → ReadsValues t (i + 3) 1 r → ReadsPlain t i h r
     reads_read q R = bytes_then 3 1 R
         (λ d room.
         let next : i + 1 + 1 ≡ i + 2 = omega arith in
@@ -120,7 +119,7 @@ module _ (t : List ℕ) (i : ℕ) (h : Here) where
         rw (byte_at t (i + 1) (leb-false (length t) (i + 1) e), next, byte_past t (i + 2) (omega arith)))))
 
     -- a call: its callee, the count of its arguments, and these
-    pub call_inside : get_or t i 0 ≡ 0x25 → h.inside ≡ true → ReadsPlain t i h Nothing
+    pub call_inside : get_or t i 0 ≡ 0x25 → h.inside ≡ true → ReadsPlain t i h None
     call_inside q e = record {
       gives = λ d n₃ n₄ n₆. record {
         same = sym
@@ -132,7 +131,7 @@ module _ (t : List ℕ) (i : ℕ) (h : Here) where
     }
 
     -- no byte for the count
-    pub call_cut : get_or t i 0 ≡ 0x25 → length t ≤ i + 3 → ReadsPlain t i h Nothing
+    pub call_cut : get_or t i 0 ≡ 0x25 → length t ≤ i + 3 → ReadsPlain t i h None
     call_cut q l = record {
       gives = λ d n₃ n₄ n₆. record {
         same =
@@ -146,7 +145,7 @@ module _ (t : List ℕ) (i : ℕ) (h : Here) where
     }
 
     -- and these
-    pub reads_call : {r : Ends} → get_or t i 0 ≡ 0x25 → h.inside ≡ false → i + 3 < length t → ReadsValues t (i + 4) (get_or t (i + 3) 0) r
+    pub reads_call : {r : Option ℕ} → get_or t i 0 ≡ 0x25 → h.inside ≡ false → i + 3 < length t → ReadsValues t (i + 4) (get_or t (i + 3) 0) r
         → ReadsPlain t i h r
     reads_call q e l R = bytes_then 4 (get_or t (i + 3) 0) R
         (λ d room.
@@ -159,7 +158,7 @@ module _ (t : List ℕ) (i : ℕ) (h : Here) where
 
     -- select where it may not stand
     pub no_select : {b : Bool} → get_or t i 0 ≡ 0x27 → b ≡ both (B.not (is_concurrent h.kind)) (eqb h.proc 0) → b ≡ false
-        → ReadsPlain t i h Nothing
+        → ReadsPlain t i h None
     no_select q e f = record {
       gives = λ d n₃ n₄ n₆. record {
         same = sym
@@ -170,7 +169,7 @@ module _ (t : List ℕ) (i : ℕ) (h : Here) where
     }
 
     -- and where it may
-    pub reads_select : {b : Bool} {r : Ends} → get_or t i 0 ≡ 0x27 → b ≡ both (B.not (is_concurrent h.kind)) (eqb h.proc 0) → b ≡ true
+    pub reads_select : {b : Bool} {r : Option ℕ} → get_or t i 0 ≡ 0x27 → b ≡ both (B.not (is_concurrent h.kind)) (eqb h.proc 0) → b ≡ true
         → ReadsValues t (i + 5) 0 r → ReadsPlain t i h r
     reads_select q e f R = bytes_then 5 0 R
         (λ d room.
@@ -187,7 +186,7 @@ module _ (t : List ℕ) (i : ℕ) (h : Here) where
 
     -- no other byte begins an instruction
     pub no_form_lem : (get_or t i 0 ≡ 0x20 → ⊥) → (get_or t i 0 ≡ 0x21 → ⊥) → (get_or t i 0 ≡ 0x22 → ⊥) → (get_or t i 0 ≡ 0x25 → ⊥) → (get_or t i 0 ≡ 0x27 → ⊥)
-        → ReadsPlain t i h Nothing
+        → ReadsPlain t i h None
     no_form_lem n₀ n₁ n₂ n₅ n₇ = record {
       gives = λ d n₃ n₄ n₆. record {
         same = rw (instr_at t i d (get_or t i 0) inside refl, other_form (get_or t i 0) n₀ n₁ n₂ n₃ n₄ n₅ n₆ n₇);

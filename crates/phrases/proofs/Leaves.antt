@@ -17,51 +17,51 @@ use Rattle.basics.specs.Places.{number_at}
 use Rattle.basics.specs.Laws.Places.{number_at_lem}
 use Rattle.ctext.specs.Pieces.{say, decimal, whole}
 use Rattle.ctext.specs.Text.{var, name₁, name₂, sep, expr_in}
+use Rattle.typeset.specs.declared.pieces.Page.{Page}
 use Rattle.typeset.specs.Page.{Put}
 use Rattle.typeset.proofs.Setting.{put_then, put_cons, put_same}
-use Rattle.phrases.specs.declared.exprs.Shown.{Shown}
 use Rattle.phrases.specs.Shows.{name_of, Shows, ShowsLeaf}
 
 -- ---- names
 
-module _ {x o o' : List ℕ} {p r : ℕ} (m : ℕ) where
+module _ {p r : Page} (m : ℕ) where
   -- z_equal(
-  pub name_equal : m ≡ 20 → Put x o p (122 ∷ 95 ∷ 101 ∷ 113 ∷ 117 ∷ 97 ∷ 108 ∷ 40 ∷ []) o' r → Put x o p (name_of m) o' r
+  pub name_equal : m ≡ 20 → Put p (122 ∷ 95 ∷ 101 ∷ 113 ∷ 117 ∷ 97 ∷ 108 ∷ 40 ∷ []) r → Put p (name_of m) r
   unfolding name_of say
   name_equal e P = rw (eq-eqb _ _ e) P
 
   -- z_add(
-  pub name_add : (m ≡ 20 → ⊥) → m ≡ 16 → Put x o p (122 ∷ 95 ∷ 97 ∷ 100 ∷ 100 ∷ 40 ∷ []) o' r → Put x o p (name_of m) o' r
+  pub name_add : (m ≡ 20 → ⊥) → m ≡ 16 → Put p (122 ∷ 95 ∷ 97 ∷ 100 ∷ 100 ∷ 40 ∷ []) r → Put p (name_of m) r
   unfolding name_of say
   name_add n0 e P = rw (ne_eqb _ _ n0, eq-eqb _ _ e) P
 
   -- z_and(
-  pub name_and : (m ≡ 20 → ⊥) → (m ≡ 16 → ⊥) → m ≡ 21 → Put x o p (122 ∷ 95 ∷ 97 ∷ 110 ∷ 100 ∷ 40 ∷ []) o' r → Put x o p (name_of m) o' r
+  pub name_and : (m ≡ 20 → ⊥) → (m ≡ 16 → ⊥) → m ≡ 21 → Put p (122 ∷ 95 ∷ 97 ∷ 110 ∷ 100 ∷ 40 ∷ []) r → Put p (name_of m) r
   unfolding name_of say
   name_and n0 n1 e P = rw (ne_eqb _ _ n0, ne_eqb _ _ n1, eq-eqb _ _ e) P
 
   -- z_not(
-  pub name_not : (m ≡ 20 → ⊥) → (m ≡ 16 → ⊥) → (m ≡ 21 → ⊥) → m ≡ 22 → Put x o p (122 ∷ 95 ∷ 110 ∷ 111 ∷ 116 ∷ 40 ∷ []) o' r → Put x o p (name_of m) o' r
+  pub name_not : (m ≡ 20 → ⊥) → (m ≡ 16 → ⊥) → (m ≡ 21 → ⊥) → m ≡ 22 → Put p (122 ∷ 95 ∷ 110 ∷ 111 ∷ 116 ∷ 40 ∷ []) r → Put p (name_of m) r
   unfolding name_of say
   name_not n0 n1 n2 e P = rw (ne_eqb _ _ n0, ne_eqb _ _ n1, ne_eqb _ _ n2, eq-eqb _ _ e) P
 
   -- z_less(
-  pub name_less : (m ≡ 20 → ⊥) → (m ≡ 16 → ⊥) → (m ≡ 21 → ⊥) → (m ≡ 22 → ⊥) → m ≡ 19 → Put x o p (122 ∷ 95 ∷ 108 ∷ 101 ∷ 115 ∷ 115 ∷ 40 ∷ []) o' r → Put x o p (name_of m) o' r
+  pub name_less : (m ≡ 20 → ⊥) → (m ≡ 16 → ⊥) → (m ≡ 21 → ⊥) → (m ≡ 22 → ⊥) → m ≡ 19 → Put p (122 ∷ 95 ∷ 108 ∷ 101 ∷ 115 ∷ 115 ∷ 40 ∷ []) r → Put p (name_of m) r
   unfolding name_of say
   name_less n0 n1 n2 n3 e P = rw (ne_eqb _ _ n0, ne_eqb _ _ n1, ne_eqb _ _ n2, ne_eqb _ _ n3, eq-eqb _ _ e) P
 
   -- z_sub(
-  pub name_sub : (m ≡ 20 → ⊥) → (m ≡ 16 → ⊥) → (m ≡ 21 → ⊥) → (m ≡ 22 → ⊥) → (m ≡ 19 → ⊥) → m ≡ 17 → Put x o p (122 ∷ 95 ∷ 115 ∷ 117 ∷ 98 ∷ 40 ∷ []) o' r → Put x o p (name_of m) o' r
+  pub name_sub : (m ≡ 20 → ⊥) → (m ≡ 16 → ⊥) → (m ≡ 21 → ⊥) → (m ≡ 22 → ⊥) → (m ≡ 19 → ⊥) → m ≡ 17 → Put p (122 ∷ 95 ∷ 115 ∷ 117 ∷ 98 ∷ 40 ∷ []) r → Put p (name_of m) r
   unfolding name_of say
   name_sub n0 n1 n2 n3 n4 e P = rw (ne_eqb _ _ n0, ne_eqb _ _ n1, ne_eqb _ _ n2, ne_eqb _ _ n3, ne_eqb _ _ n4, eq-eqb _ _ e) P
 
   -- z_mul(
-  pub name_mul : (m ≡ 20 → ⊥) → (m ≡ 16 → ⊥) → (m ≡ 21 → ⊥) → (m ≡ 22 → ⊥) → (m ≡ 19 → ⊥) → (m ≡ 17 → ⊥) → m ≡ 18 → Put x o p (122 ∷ 95 ∷ 109 ∷ 117 ∷ 108 ∷ 40 ∷ []) o' r → Put x o p (name_of m) o' r
+  pub name_mul : (m ≡ 20 → ⊥) → (m ≡ 16 → ⊥) → (m ≡ 21 → ⊥) → (m ≡ 22 → ⊥) → (m ≡ 19 → ⊥) → (m ≡ 17 → ⊥) → m ≡ 18 → Put p (122 ∷ 95 ∷ 109 ∷ 117 ∷ 108 ∷ 40 ∷ []) r → Put p (name_of m) r
   unfolding name_of say
   name_mul n0 n1 n2 n3 n4 n5 e P = rw (ne_eqb _ _ n0, ne_eqb _ _ n1, ne_eqb _ _ n2, ne_eqb _ _ n3, ne_eqb _ _ n4, ne_eqb _ _ n5, eq-eqb _ _ e) P
 
   -- z_neg(
-  pub name_neg : (m ≡ 20 → ⊥) → (m ≡ 16 → ⊥) → (m ≡ 21 → ⊥) → (m ≡ 22 → ⊥) → (m ≡ 19 → ⊥) → (m ≡ 17 → ⊥) → (m ≡ 18 → ⊥) → Put x o p (122 ∷ 95 ∷ 110 ∷ 101 ∷ 103 ∷ 40 ∷ []) o' r → Put x o p (name_of m) o' r
+  pub name_neg : (m ≡ 20 → ⊥) → (m ≡ 16 → ⊥) → (m ≡ 21 → ⊥) → (m ≡ 22 → ⊥) → (m ≡ 19 → ⊥) → (m ≡ 17 → ⊥) → (m ≡ 18 → ⊥) → Put p (122 ∷ 95 ∷ 110 ∷ 101 ∷ 103 ∷ 40 ∷ []) r → Put p (name_of m) r
   unfolding name_of say
   name_neg n0 n1 n2 n3 n4 n5 n6 P = rw (ne_eqb _ _ n0, ne_eqb _ _ n1, ne_eqb _ _ n2, ne_eqb _ _ n3, ne_eqb _ _ n4, ne_eqb _ _ n5, ne_eqb _ _ n6) P
 
@@ -84,32 +84,28 @@ name_two and = refl
 -- ---- small pieces
 
 -- a separator that ends the line
-pub sep_far : {x o o' : List ℕ} {p r : ℕ} (n : ℕ) → n ≡ 0 → Put x o p (44 ∷ 10 ∷ []) o' r → Put x o p (sep n) o' r
+pub sep_far : {p r : Page} (n : ℕ) → n ≡ 0 → Put p (44 ∷ 10 ∷ []) r → Put p (sep n) r
 unfolding say
 sep_far n e P = rw e P
 
 -- one that does not
-pub sep_near : {x o o' : List ℕ} {p r : ℕ} (n : ℕ) → (n ≡ 0 → ⊥) → Put x o p (44 ∷ 32 ∷ []) o' r → Put x o p (sep n) o' r
+pub sep_near : {p r : Page} (n : ℕ) → (n ≡ 0 → ⊥) → Put p (44 ∷ 32 ∷ []) r → Put p (sep n) r
 unfolding say
 sep_near zero z P = absurd (z refl)
 sep_near (suc n) z P = P
 
--- one level less
-pub deeper_none : (n : ℕ) → n ≡ 0 → 0 ≡ n - 1
-deeper_none n e = omega (arith, e)
-
 -- a local
-pub var_put : {x o o' o'' : List ℕ} {p q r : ℕ} (i : ℕ) → Put x o p (120 ∷ []) o' q → Put x o' q (decimal i) o'' r → Put x o p (var i) o'' r
+pub var_put : {p q r : Page} (i : ℕ) → Put p (120 ∷ []) q → Put q (decimal i) r → Put p (var i) r
 unfolding say
 var_put i A B = put_cons A B
 
 -- ---- leaves
 
-module _ {t x : List ℕ} {i m : ℕ} {o : List ℕ} {p : ℕ} where
+module _ {t : List ℕ} {i m : ℕ} {p : Page} where
   -- a local
-  pub leaf_local : {o' : List ℕ} {q v : ℕ} → m ≡ 5 → v ≡ get_or t (i + 1) 0 → Put x o p (var v) o' q
-      → ShowsLeaf t x i m o p o' (record { next = i + 2; to = q })
-  leaf_local {o'} {q} {v} e s P = record {
+  pub leaf_local : {q : Page} {v : ℕ} → m ≡ 5 → v ≡ get_or t (i + 1) 0 → Put p (var v) q
+      → ShowsLeaf t i m p q (i + 2)
+  leaf_local {q} {v} e s P = record {
     gives = λ d n w l. record {
       shown = λ f j h. rw ((local_here h (sym w ∙ e)).0, sym s) P;
       ends = λ f j h. sym (local_here h (sym w ∙ e)).1;
@@ -121,9 +117,9 @@ module _ {t x : List ℕ} {i m : ℕ} {o : List ℕ} {p : ℕ} where
   }
 
   -- z_num(<n>)
-  pub leaf_whole : {o₁ o₂ o₃ : List ℕ} {q r s w : ℕ} → m ≡ 1 → Put x o p (122 ∷ 95 ∷ 110 ∷ 117 ∷ 109 ∷ 40 ∷ []) o₁ q → w ≡ number_at 4 t (i + 1)
-      → Put x o₁ q (whole (unword w)) o₂ r → Put x o₂ r (41 ∷ []) o₃ s
-      → ShowsLeaf t x i m o p o₃ (record { next = i + 5; to = s })
+  pub leaf_whole : {q r s : Page} {w : ℕ} → m ≡ 1 → Put p (122 ∷ 95 ∷ 110 ∷ 117 ∷ 109 ∷ 40 ∷ []) q → w ≡ number_at 4 t (i + 1)
+      → Put q (whole (unword w)) r → Put r (41 ∷ []) s
+      → ShowsLeaf t i m p s (i + 5)
   unfolding say
   leaf_whole {w = w} e A v B C =
       let P = put_then (122 ∷ 95 ∷ 110 ∷ 117 ∷ 109 ∷ 40 ∷ []) _ A (put_then (whole (unword w)) _ B C) in
@@ -139,9 +135,9 @@ module _ {t x : List ℕ} {i m : ℕ} {o : List ℕ} {p : ℕ} where
       }
 
   -- z_loc(<l>)
-  pub leaf_location : {o₁ o₂ o₃ : List ℕ} {q r s w : ℕ} → m ≡ 2 → Put x o p (122 ∷ 95 ∷ 108 ∷ 111 ∷ 99 ∷ 40 ∷ []) o₁ q → w ≡ number_at 2 t (i + 1)
-      → Put x o₁ q (decimal w) o₂ r → Put x o₂ r (41 ∷ []) o₃ s
-      → ShowsLeaf t x i m o p o₃ (record { next = i + 3; to = s })
+  pub leaf_location : {q r s : Page} {w : ℕ} → m ≡ 2 → Put p (122 ∷ 95 ∷ 108 ∷ 111 ∷ 99 ∷ 40 ∷ []) q → w ≡ number_at 2 t (i + 1)
+      → Put q (decimal w) r → Put r (41 ∷ []) s
+      → ShowsLeaf t i m p s (i + 3)
   unfolding say
   leaf_location {w = w} e A v B C =
       let P = put_then (122 ∷ 95 ∷ 108 ∷ 111 ∷ 99 ∷ 40 ∷ []) _ A (put_then (decimal w) _ B C) in
@@ -157,8 +153,8 @@ module _ {t x : List ℕ} {i m : ℕ} {o : List ℕ} {p : ℕ} where
       }
 
   -- z_false()
-  pub leaf_false : {o' : List ℕ} {q : ℕ} → m ≡ 3 → Put x o p (122 ∷ 95 ∷ 102 ∷ 97 ∷ 108 ∷ 115 ∷ 101 ∷ 40 ∷ 41 ∷ []) o' q
-      → ShowsLeaf t x i m o p o' (record { next = i + 1; to = q })
+  pub leaf_false : {q : Page} → m ≡ 3 → Put p (122 ∷ 95 ∷ 102 ∷ 97 ∷ 108 ∷ 115 ∷ 101 ∷ 40 ∷ 41 ∷ []) q
+      → ShowsLeaf t i m p q (i + 1)
   unfolding say
   leaf_false e P = record {
     gives = λ d n b l. record {
@@ -172,11 +168,11 @@ module _ {t x : List ℕ} {i m : ℕ} {o : List ℕ} {p : ℕ} where
   }
 
   -- z_true(): the mark that is left
-  pub leaf_true : {o' : List ℕ} {q : ℕ} → (m ≡ 5 → ⊥) → (m ≡ 1 → ⊥) → (m ≡ 2 → ⊥) → (m ≡ 3 → ⊥)
-      → Put x o p (122 ∷ 95 ∷ 116 ∷ 114 ∷ 117 ∷ 101 ∷ 40 ∷ 41 ∷ []) o' q
-      → ShowsLeaf t x i m o p o' (record { next = i + 1; to = q })
+  pub leaf_true : {q : Page} → (m ≡ 5 → ⊥) → (m ≡ 1 → ⊥) → (m ≡ 2 → ⊥) → (m ≡ 3 → ⊥)
+      → Put p (122 ∷ 95 ∷ 116 ∷ 114 ∷ 117 ∷ 101 ∷ 40 ∷ 41 ∷ []) q
+      → ShowsLeaf t i m p q (i + 1)
   unfolding say
-  leaf_true {o'} {q} a b c d P = record {
+  leaf_true {q} a b c d P = record {
     gives = λ k n e l. record {
       shown = λ f j h. rw (yes_here h (sym e ∙ last f h e l)).0 P;
       ends = λ f j h. sym (yes_here h (sym e ∙ last f h e l)).1;
@@ -204,29 +200,29 @@ module _ {t x : List ℕ} {i m : ℕ} {o : List ℕ} {p : ℕ} where
 
 -- ---- operators
 
-module _ {t x : List ℕ} {i d n : ℕ} {o : List ℕ} {p : ℕ} where
+module _ {t : List ℕ} {i d n : ℕ} {p : Page} where
   -- nothing is asked where no expression can stand
-  none : ((e : Expr) (j : ℕ) → ExprAt t i d e j → ⊥) → Shows t x i d n o p o (record { next = i; to = p })
+  none : ((e : Expr) (j : ℕ) → ExprAt t i d e j → ⊥) → Shows t i d n p p i
   none f = record { shown = λ e j h. absurd (f e j h); ends = λ e j h. absurd (f e j h); forward = omega arith; kept = refl }
 
   -- no depth is left
-  pub show_deep : d ≡ 0 → Shows t x i d n o p o (record { next = i; to = p })
+  pub show_deep : d ≡ 0 → Shows t i d n p p i
   show_deep z = none (λ e j h. omega (arith, z, expr_deep h))
 
   -- the table ends
-  pub show_past : length t ≤ i → Shows t x i d n o p o (record { next = i; to = p })
+  pub show_past : length t ≤ i → Shows t i d n p p i
   show_past z = none (λ e j h. omega (arith, z, (expr_inside h).0, (expr_inside h).1))
 
   -- a leaf
-  pub show_leaf : {o' : List ℕ} {r : Shown} → get_or t i 0 < 16 → ShowsLeaf t x i (get_or t i 0) o p o' r → Shows t x i d n o p o' r
+  pub show_leaf : {r : Page} {nr : ℕ} → get_or t i 0 < 16 → ShowsLeaf t i (get_or t i 0) p r nr → Shows t i d n p r nr
   show_leaf l S = S.gives d n refl l
 
   -- one operand
-  pub show_one : {o₁ o₂ o₃ : List ℕ} {q r k : ℕ} {s : Shown} → 21 < get_or t i 0 → k ≡ n - 1 → Put x o p (name_of (get_or t i 0)) o₁ q
-      → Shows t x (i + 1) (d - 1) k o₁ q o₂ s → Put x o₂ s.to (41 ∷ []) o₃ r
-      → Shows t x i d n o p o₃ (record { next = s.next; to = r })
+  pub show_one : {q r : Page} {k : ℕ} {s : Page} {ns : ℕ} → 21 < get_or t i 0 → k ≡ n - 1 → Put p (name_of (get_or t i 0)) q
+      → Shows t (i + 1) (d - 1) k q s ns → Put s (41 ∷ []) r
+      → Shows t i d n p r ns
   unfolding say
-  show_one {o₁} {o₂} {o₃} {q} {r} {k} {s} l v A S C = record {
+  show_one {q} {r} {k} {s} {ns} l v A S C = record {
     shown = shown;
     ends = ends;
     forward = omega (arith, S.forward);
@@ -248,7 +244,7 @@ module _ {t x : List ℕ} {i d n : ℕ} {o : List ℕ} {p : ℕ} where
       small₂ equal = omega arith
       small₂ and = omega arith
 
-      shown : (e : Expr) (j : ℕ) → ExprAt t i d e j → Put x o p (expr_in n e) o₃ r
+      shown : (e : Expr) (j : ℕ) → ExprAt t i d e j → Put p (expr_in n e) r
       shown (constant (Whole z)) j h = absurd (omega (arith, l, first h.stands))
       shown (constant (Location z)) j h = absurd (omega (arith, l, first h.stands))
       shown (constant (Truth false)) j h = absurd (omega (arith, l, first h.stands))
@@ -259,7 +255,7 @@ module _ {t x : List ℕ} {i d n : ℕ} {o : List ℕ} {p : ℕ} where
           put_then (name₁ f) _ (put_same name A) (put_then (expr_in (n - 1) a) _ (rw v at (S.shown a j (inner f a h))) C)
       shown (two f a b) j h = absurd (omega (arith, l, first h.stands, small₂ f))
 
-      ends : (e : Expr) (j : ℕ) → ExprAt t i d e j → s.next ≡ j
+      ends : (e : Expr) (j : ℕ) → ExprAt t i d e j → ns ≡ j
       ends (constant (Whole z)) j h = absurd (omega (arith, l, first h.stands))
       ends (constant (Location z)) j h = absurd (omega (arith, l, first h.stands))
       ends (constant (Truth false)) j h = absurd (omega (arith, l, first h.stands))
@@ -269,12 +265,12 @@ module _ {t x : List ℕ} {i d n : ℕ} {o : List ℕ} {p : ℕ} where
       ends (two f a b) j h = absurd (omega (arith, l, first h.stands, small₂ f))
 
   -- two operands
-  pub show_two : {o₁ o₂ o₃ o₄ o₅ : List ℕ} {q u r k : ℕ} {s v : Shown} → 16 ≤ get_or t i 0 → get_or t i 0 ≤ 21 → k ≡ n - 1
-      → Put x o p (name_of (get_or t i 0)) o₁ q
-      → Shows t x (i + 1) (d - 1) k o₁ q o₂ s → Put x o₂ s.to (sep n) o₃ u → Shows t x s.next (d - 1) k o₃ u o₄ v → Put x o₄ v.to (41 ∷ []) o₅ r
-      → Shows t x i d n o p o₅ (record { next = v.next; to = r })
+  pub show_two : {q u r : Page} {k : ℕ} {s v : Page} {ns nv : ℕ} → 16 ≤ get_or t i 0 → get_or t i 0 ≤ 21 → k ≡ n - 1
+      → Put p (name_of (get_or t i 0)) q
+      → Shows t (i + 1) (d - 1) k q s ns → Put s (sep n) u → Shows t ns (d - 1) k u v nv → Put v (41 ∷ []) r
+      → Shows t i d n p r nv
   unfolding say
-  show_two {o₁} {o₂} {o₃} {o₄} {o₅} {q} {u} {r} {k} {s} {v} l m w A S B U C = record {
+  show_two {q} {u} {r} {k} {s} {v} {ns} {nv} l m w A S B U C = record {
     shown = shown;
     ends = ends;
     forward = omega (arith, S.forward, U.forward);
@@ -289,12 +285,12 @@ module _ {t x : List ℕ} {i d n : ℕ} {o : List ℕ} {p : ℕ} where
       left f a b h =
           record { stands = front (E.expr a) (E.expr b) (others h.stands); fits = (omega (arith, h.fits.0), h.fits.1.0) }
 
-      right : (f : Two) (a b : Expr) {j : ℕ} → ExprAt t i d (two f a b) j → ExprAt t s.next (d - 1) b j
+      right : (f : Two) (a b : Expr) {j : ℕ} → ExprAt t i d (two f a b) j → ExprAt t ns (d - 1) b j
       right f a b {j} h =
           subst (λ k. ExprAt t k (d - 1) b j) (sym (S.ends a _ (left f a b h)))
           (record { stands = back (E.expr a) (E.expr b) (others h.stands); fits = (omega (arith, h.fits.0), h.fits.1.1) })
 
-      shown : (e : Expr) (j : ℕ) → ExprAt t i d e j → Put x o p (expr_in n e) o₅ r
+      shown : (e : Expr) (j : ℕ) → ExprAt t i d e j → Put p (expr_in n e) r
       shown (constant (Whole z)) j h = absurd (omega (arith, l, first h.stands))
       shown (constant (Location z)) j h = absurd (omega (arith, l, first h.stands))
       shown (constant (Truth false)) j h = absurd (omega (arith, l, first h.stands))
@@ -308,7 +304,7 @@ module _ {t x : List ℕ} {i d n : ℕ} {o : List ℕ} {p : ℕ} where
           (put_then (sep n) _ B
           (put_then (expr_in (n - 1) b) _ (rw w at (U.shown b j (right f a b h))) C)))
 
-      ends : (e : Expr) (j : ℕ) → ExprAt t i d e j → v.next ≡ j
+      ends : (e : Expr) (j : ℕ) → ExprAt t i d e j → nv ≡ j
       ends (constant (Whole z)) j h = absurd (omega (arith, l, first h.stands))
       ends (constant (Location z)) j h = absurd (omega (arith, l, first h.stands))
       ends (constant (Truth false)) j h = absurd (omega (arith, l, first h.stands))
@@ -329,7 +325,6 @@ pub ruleset leaf_ways = (
   name_neg,
   sep_far,
   sep_near,
-  deeper_none,
   var_put,
   leaf_local,
   leaf_whole,

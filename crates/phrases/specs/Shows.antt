@@ -1,12 +1,12 @@
 -- What is promised of expressions, instructions and blocks in a table: whatever stands there, its text is set.
-use Rattle.std.specs.Prelude.{ℕ, ◌≤◌, ◌<◌, ◌≡◌, List, length, get_or, eqb}
+use Rattle.std.specs.Prelude.{ℕ, ◌≤◌, ◌<◌, ◌≡◌, List, get_or, eqb}
 use Rattle.value.specs.Maybe.{pick}
 use Rattle.format.specs.Syntax.{Expr}
 use Rattle.format.proofs.Laws.ExprGrammar.{ExprAt}
 use Rattle.ctext.specs.Pieces.{say}
 use Rattle.ctext.specs.Text.{expr_in}
-use Rattle.typeset.specs.Page.{Put}
-use Rattle.phrases.specs.declared.exprs.Shown.{Shown}
+use Rattle.typeset.specs.declared.pieces.Page.{Page}
+use Rattle.typeset.specs.Page.{lent, Put}
 
 -- ---- expressions
 
@@ -21,15 +21,15 @@ name_of m =
     (pick (eqb m 0x11) (say "z_sub(")
     (pick (eqb m 0x12) (say "z_mul(") (say "z_neg(")))))))
 
--- whatever expression stands at i, at most d deep, its text is set, n levels of it on their line
-pub record Shows (t x : List ℕ) (i d n : ℕ) (o : List ℕ) (p : ℕ) (o' : List ℕ) (r : Shown) : Type 0 where
-  pub shown : (e : Expr) (j : ℕ) → ExprAt t i d e j → Put x o p (expr_in n e) o' r.to
-  pub ends : (e : Expr) (j : ℕ) → ExprAt t i d e j → r.next ≡ j
-  pub forward : i ≤ r.next
-  pub kept : length o' ≡ length o
+-- whatever expression stands at i, at most d deep, its text is set, n levels of it on their line: page p became q, and the table goes on at k
+pub record Shows (t : List ℕ) (i d n : ℕ) (p q : Page) (k : ℕ) : Type 0 where
+  pub shown : (e : Expr) (j : ℕ) → ExprAt t i d e j → Put p (expr_in n e) q
+  pub ends : (e : Expr) (j : ℕ) → ExprAt t i d e j → k ≡ j
+  pub forward : i ≤ k
+  pub kept : lent q ≡ lent p
 
 -- a leaf with mark m
-pub record ShowsLeaf (t x : List ℕ) (i m : ℕ) (o : List ℕ) (p : ℕ) (o' : List ℕ) (r : Shown) : Type 0 where
-  pub gives : (d n : ℕ) → m ≡ get_or t i 0 → m < 0x10 → Shows t x i d n o p o' r
-  pub forward : i ≤ r.next
-  pub kept : length o' ≡ length o
+pub record ShowsLeaf (t : List ℕ) (i m : ℕ) (p q : Page) (k : ℕ) : Type 0 where
+  pub gives : (d n : ℕ) → m ≡ get_or t i 0 → m < 0x10 → Shows t i d n p q k
+  pub forward : i ≤ k
+  pub kept : lent q ≡ lent p

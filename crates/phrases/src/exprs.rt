@@ -5,163 +5,108 @@ ghost use Rattle.ctext.specs.Text.{var, sep};
 ghost use Rattle.typeset.specs.Page.{Put};
 ghost use Rattle.phrases.specs.Shows.{name_of, Shows, ShowsLeaf};
 
+use basics::bytes::{byte_at, four_bytes, two_bytes};
 use basics::marks::{ADD, AND, EQUAL, FALSE, LESS, MULTIPLY, NOT, NUMBER, PLACE, SUBTRACT};
 use basics::numbers::{DEPTH, LOCAL};
-use typeset::pieces::{put, put_all, put_number, put_whole};
-
-// What was shown: where the table goes on, and where the text does.
-#[derive(Clone, Copy)]
-pub struct Shown {
-    pub next: usize,
-    pub to: usize,
-}
+use typeset::pieces::Page;
 
 // "SEP(l) is `, ` for l = 1, 2, 3": so many levels keep to their line.
 pub const NEAR: u8 = 3;
 
 // An operator's name, up to its parenthesis.
-fn put_name(mark: u8, text: &[u8], out: &mut [u8], at: usize) -> usize
-    ensures { Put text.now out.old at (name_of mark) out.new result }
+fn put_name(mark: u8, page: &mut Page)
+    ensures { Put page.old (name_of mark) page.new }
 {
-    if mark == EQUAL {
-        return put_all(b"z_equal(", text, out, at);
+    match mark {
+        EQUAL => page.put_all(b"z_equal("),
+        ADD => page.put_all(b"z_add("),
+        AND => page.put_all(b"z_and("),
+        NOT => page.put_all(b"z_not("),
+        LESS => page.put_all(b"z_less("),
+        SUBTRACT => page.put_all(b"z_sub("),
+        MULTIPLY => page.put_all(b"z_mul("),
+        _ => page.put_all(b"z_neg("),
     }
-    if mark == ADD {
-        return put_all(b"z_add(", text, out, at);
-    }
-    if mark == AND {
-        return put_all(b"z_and(", text, out, at);
-    }
-    if mark == NOT {
-        return put_all(b"z_not(", text, out, at);
-    }
-    if mark == LESS {
-        return put_all(b"z_less(", text, out, at);
-    }
-    if mark == SUBTRACT {
-        return put_all(b"z_sub(", text, out, at);
-    }
-    if mark == MULTIPLY {
-        return put_all(b"z_mul(", text, out, at);
-    }
-    put_all(b"z_neg(", text, out, at)
 }
 
 // What stands between two operands.
-fn put_sep(near: u8, text: &[u8], out: &mut [u8], at: usize) -> usize
-    ensures { Put text.now out.old at (sep near) out.new result }
+fn put_sep(near: u8, page: &mut Page)
+    ensures { Put page.old (sep near) page.new }
 {
-    if near == 0 {
-        return put_all(b",\n", text, out, at);
+    match near {
+        0 => page.put_all(b",\n"),
+        _ => page.put_all(b", "),
     }
-    put_all(b", ", text, out, at)
-}
-
-// One level deeper.
-fn deeper(near: u8) -> u8
-    ensures { result ≡ near - 1 }
-{
-    if near == 0 {
-        return 0;
-    }
-    near - 1
 }
 
 // A local.
-pub fn put_var(i: u8, text: &[u8], out: &mut [u8], at: usize) -> usize
-    ensures { Put text.now out.old at (var i) out.new result }
+pub fn put_var(i: u8, page: &mut Page)
+    ensures { Put page.old (var i) page.new }
 {
-    let p = put(text, out, at, b'x');
-    put_number(i as usize, text, out, p)
+    page.put(b'x');
+    page.put_number(usize::from(i));
 }
 
 // A leaf: a local, a name with a number, or a name.
-fn put_leaf(t: &[u8], at: usize, mark: u8, text: &[u8], out: &mut [u8], to: usize) -> Shown
+fn put_leaf(t: &[u8], at: usize, mark: u8, page: &mut Page) -> usize
     requires { at < 2 ^ 63 }
-    ensures { ShowsLeaf t.now text.now at mark out.old to out.new result }
+    ensures { ShowsLeaf t.now at mark page.old page.new result }
 {
-    if mark == LOCAL {
-        return Shown {
-            next: at + 2,
-            to: put_var(basics::bytes::byte_at(t, at + 1), text, out, to),
-        };
-    }
-    if mark == NUMBER {
-        let p = put_all(b"z_num(", text, out, to);
-        let q = put_whole(basics::bytes::four_bytes(t, at + 1), text, out, p);
-        return Shown {
-            next: at + 5,
-            to: put(text, out, q, b')'),
-        };
-    }
-    if mark == PLACE {
-        let p = put_all(b"z_loc(", text, out, to);
-        let q = put_number(basics::bytes::two_bytes(t, at + 1) as usize, text, out, p);
-        return Shown {
-            next: at + 3,
-            to: put(text, out, q, b')'),
-        };
-    }
-    if mark == FALSE {
-        return Shown {
-            next: at + 1,
-            to: put_all(b"z_false()", text, out, to),
-        };
-    }
-    Shown {
-        next: at + 1,
-        to: put_all(b"z_true()", text, out, to),
+    match mark {
+        LOCAL => {
+            put_var(byte_at(t, at + 1), page);
+            at + 2
+        }
+        NUMBER => {
+            page.put_all(b"z_num(");
+            page.put_whole(four_bytes(t, at + 1));
+            page.put(b')');
+            at + 5
+        }
+        PLACE => {
+            page.put_all(b"z_loc(");
+            page.put_number(usize::from(two_bytes(t, at + 1)));
+            page.put(b')');
+            at + 3
+        }
+        FALSE => {
+            page.put_all(b"z_false()");
+            at + 1
+        }
+        _ => {
+            page.put_all(b"z_true()");
+            at + 1
+        }
     }
 }
 
-// The expression at `at`, which is at most `depth` deep; `near` levels of it keep to their line.
-pub fn put_levels(
-    t: &[u8],
-    at: usize,
-    depth: u8,
-    near: u8,
-    text: &[u8],
-    out: &mut [u8],
-    to: usize,
-) -> Shown
-    ensures { Shows t.now text.now at depth near out.old to out.new result }
+// The expression at `at`, which is at most `depth` deep; `near` levels of it keep to their line. Where the table goes on is answered.
+pub fn put_levels(t: &[u8], at: usize, depth: u8, near: u8, page: &mut Page) -> usize
+    ensures { Shows t.now at depth near page.old page.new result }
 {
-    if depth == 0 {
-        return Shown { next: at, to: to };
-    }
-    if t.len() <= at {
-        return Shown { next: at, to: to };
+    if depth == 0 || t.len() <= at {
+        return at;
     }
     let mark = t[at];
     if mark < ADD {
-        return put_leaf(t, at, mark, text, out, to);
+        return put_leaf(t, at, mark, page);
     }
-    let below = deeper(near);
-    let p = put_name(mark, text, out, to);
+    let below = near.saturating_sub(1);
+    put_name(mark, page);
+    let mid = put_levels(t, at + 1, depth - 1, below, page);
     if AND < mark {
-        let inner = put_levels(t, at + 1, depth - 1, below, text, out, p);
-        let end = inner.next;
-        let q = inner.to;
-        return Shown {
-            next: end,
-            to: put(text, out, q, b')'),
-        };
+        page.put(b')');
+        return mid;
     }
-    let left = put_levels(t, at + 1, depth - 1, below, text, out, p);
-    let mid = left.next;
-    let q = put_sep(near, text, out, left.to);
-    let right = put_levels(t, mid, depth - 1, below, text, out, q);
-    let end = right.next;
-    let r = right.to;
-    Shown {
-        next: end,
-        to: put(text, out, r, b')'),
-    }
+    put_sep(near, page);
+    let end = put_levels(t, mid, depth - 1, below, page);
+    page.put(b')');
+    end
 }
 
 // The expression at `at`.
-pub fn put_expr(t: &[u8], at: usize, text: &[u8], out: &mut [u8], to: usize) -> Shown
-    ensures { Shows t.now text.now at max_depth 3 out.old to out.new result }
+pub fn put_expr(t: &[u8], at: usize, page: &mut Page) -> usize
+    ensures { Shows t.now at max_depth 3 page.old page.new result }
 {
-    put_levels(t, at, DEPTH, NEAR, text, out, to)
+    put_levels(t, at, DEPTH, NEAR, page)
 }

@@ -4,8 +4,7 @@
 
 mod marks;
 
-ghost use Rattle.std.specs.Prelude.{◌≡◌, ◌+◌, ◌*◌, max, ◌<◌, ◌≤◌, length, get_or};
-ghost use Rattle.format.specs.Encode.{record_size};
+ghost use Rattle.std.specs.Prelude.{◌≡◌, ◌<◌, ◌≤◌, length};
 ghost use Rattle.format.specs.Rules.{limits};
 ghost use Rattle.format.specs.Syntax.{concurrent};
 ghost use Rattle.translation.specs.declared.Mode.TheVariants.{Own, Shared};
@@ -13,10 +12,12 @@ ghost use Rattle.places.specs.Placed.{Source, PlacesOf};
 ghost use Rattle.places.specs.Laws.Marking.{Marked};
 ghost use Rattle.places.specs.Laws.Raising.{end_at, raised_to, Low, Raises, Round, Longest};
 
-use basics::numbers::{PROCEDURES, RECORD};
-use marks::{MARKS, mark_calls};
-use scan::tokens::byte_at;
+use basics::numbers::PROCEDURES;
+use marks::calls_of;
+use scan::bodies::Bodies;
 use translation::Mode;
+
+// stays: `Source` is a clause of each function here; a ghost field holds no fact that names a program, since that may have two proofs.
 
 // Where the locals of each procedure begin, and how many locations there are for locals.
 #[derive(Drop)]
@@ -25,140 +26,111 @@ pub struct Places {
     pub row: u16,
 }
 
-// How many locals procedure m has.
-fn locals_of(t: &[u8], records: usize, m: usize) -> u16
-    requires { records + record_size * m + record_size ≤ length t.now }
-    ensures { (result ≡ get_or t.now (records + record_size * m + 1) 0) × (result < 256) }
-{
-    byte_at(t, records + RECORD * m + 1) as u16
-}
-
 // The old mode: "one per local of each procedure in order".
-fn in_order(t: &[u8], procedures: usize, records: usize) -> Places
-    requires { Source t.now procedures records }
-    ensures { PlacesOf t.now procedures records Own result }
+fn in_order(bodies: &Bodies) -> Places
+    requires { Source bodies.now.table.now bodies.now.procedures bodies.now.records }
+    ensures { PlacesOf bodies.now.table.now bodies.now.procedures bodies.now.records Own result }
 {
-    let mut starts = [0u16; PROCEDURES];
+    let mut starts = [0; PROCEDURES];
     let mut row = 0;
-    let mut m = 0;
-    while m < procedures {
+    for m in 0..bodies.procedures {
         starts[m] = row;
-        row += locals_of(t, records, m);
-        m += 1;
+        row += bodies.locals(m) as u16;
     }
-    Places {
-        starts: starts,
-        row: row,
-    }
+    Places { starts, row }
 }
 
 // Where a procedure's locals end.
-fn end_of(t: &[u8], procedures: usize, records: usize, starts: &[u16; PROCEDURES], m: usize) -> u16
-    requires { Source t.now procedures records × Low t.now procedures records starts.now × (m < procedures) }
-    ensures { result ≡ end_at t.now records starts.now m }
+#[tactic(auto, unfolding(crate::specs::Laws::Raising::end_at))]
+fn end_of(bodies: &Bodies, starts: &[u16; PROCEDURES], m: usize) -> u16
+    requires low { Low bodies.now.table.now bodies.now.procedures bodies.now.records starts.now }
+    requires below { m < bodies.now.procedures }
+    requires few { bodies.now.procedures ≤ (limits concurrent).procs }
+    ensures { result ≡ end_at bodies.now.table.now bodies.now.records starts.now m }
 {
-    starts[m] + locals_of(t, records, m)
+    starts[m] + bodies.locals(m) as u16
 }
 
-// The larger of two numbers.
-fn larger(a: u16, b: u16) -> u16
-    ensures { result ≡ max a b }
+// Where a procedure begins: not before `end`, if a caller's locals end there.
+#[tactic(auto, unfolding(crate::specs::Laws::Raising::raised_to))]
+fn raised(called: bool, start: u16, end: u16) -> u16
+    ensures { result ≡ raised_to called start end }
 {
-    if a < b {
-        return b;
-    }
-    a
+    if called { start.max(end) } else { start }
 }
 
-// Where a procedure begins: not before `end`, if the mark says that a caller's locals end there.
-fn raised(mark: u8, start: u16, end: u16) -> u16
-    ensures { result ≡ raised_to mark start end }
-{
-    if mark == 0 {
-        return start;
-    }
-    larger(start, end)
-}
-
-// No procedure that q calls begins before `end`.
+// None of the procedures that are called begins before `end`.
 fn raise_callees(
-    marks: &[u8; MARKS],
+    called: &[bool; PROCEDURES],
     procedures: usize,
-    q: usize,
     end: u16,
     starts: &mut [u16; PROCEDURES],
 )
-    requires { (procedures ≤ (limits concurrent).procs) × (q < procedures) × (length starts.old ≡ (limits concurrent).procs) }
-    ensures { Raises marks.now procedures q end starts.old starts.new }
+    requires { procedures ≤ (limits concurrent).procs }
+    ensures { Raises called.now procedures end starts.old starts.new }
 {
-    let mut m = 0;
-    while m < procedures {
-        starts[m] = raised(marks[PROCEDURES * q + m], starts[m], end);
-        m += 1;
+    for m in 0..procedures {
+        starts[m] = raised(called[m], starts[m], end);
     }
 }
 
 // No procedure begins before its callers' locals end, as these begin by now.
 fn raise_all(
-    t: &[u8],
-    procedures: usize,
-    records: usize,
-    marks: &[u8; MARKS],
+    bodies: &Bodies,
+    calls: &[[bool; PROCEDURES]; PROCEDURES],
     starts: &mut [u16; PROCEDURES],
 )
-    requires { Source t.now procedures records × Marked t.now procedures records marks.now × Low t.now procedures records starts.old }
-    ensures { Round t.now procedures records starts.old starts.new }
+    requires source { Source bodies.now.table.now bodies.now.procedures bodies.now.records }
+    requires marked { Marked bodies.now.table.now bodies.now.procedures bodies.now.records calls.now }
+    requires low { Low bodies.now.table.now bodies.now.procedures bodies.now.records starts.old }
+    ensures { Round bodies.now.table.now bodies.now.procedures bodies.now.records starts.old starts.new }
 {
-    let mut q = 0;
-    while q < procedures {
-        let end = end_of(t, procedures, records, starts, q);
-        raise_callees(marks, procedures, q, end, starts);
-        q += 1;
+    for q in 0..bodies.procedures {
+        let end = end_of(bodies, starts, q);
+        raise_callees(&calls[q], bodies.procedures, end, starts);
     }
 }
 
 // The largest end.
-fn longest(t: &[u8], procedures: usize, records: usize, starts: &[u16; PROCEDURES]) -> u16
-    requires { Source t.now procedures records × Low t.now procedures records starts.now }
-    ensures { Longest t.now procedures records starts.now result }
+fn longest(bodies: &Bodies, starts: &[u16; PROCEDURES]) -> u16
+    requires source { Source bodies.now.table.now bodies.now.procedures bodies.now.records }
+    requires low { Low bodies.now.table.now bodies.now.procedures bodies.now.records starts.now }
+    ensures { Longest bodies.now.table.now bodies.now.procedures bodies.now.records starts.now result }
 {
-    let mut row = 0;
-    let mut m = 0;
-    while m < procedures {
-        row = larger(row, end_of(t, procedures, records, starts, m));
-        m += 1;
+    let mut row = 0u16;
+    for m in 0..bodies.procedures {
+        row = row.max(end_of(bodies, starts, m));
     }
     row
 }
 
 // The shared mode: "a procedure's locals begin after the largest end among its callers' locals (at 0 without callers)". No procedure reaches
 // itself by calls, so that as many rounds as there are procedures are enough.
-fn shared(t: &[u8], procedures: usize, records: usize) -> Places
-    requires { Source t.now procedures records }
-    ensures { PlacesOf t.now procedures records Shared result }
+fn shared(bodies: &Bodies) -> Places
+    requires { Source bodies.now.table.now bodies.now.procedures bodies.now.records }
+    ensures { PlacesOf bodies.now.table.now bodies.now.procedures bodies.now.records Shared result }
 {
-    let mut marks = [0u8; MARKS];
-    mark_calls(t, procedures, records, &mut marks);
-    let mut starts = [0u16; PROCEDURES];
-    let mut round = 0;
-    while round < procedures {
-        raise_all(t, procedures, records, &marks, &mut starts);
-        round += 1;
+    let calls = calls_of(bodies);
+    let mut starts = [0; PROCEDURES];
+    for _ in 0..bodies.procedures {
+        raise_all(bodies, &calls, &mut starts);
     }
-    let row = longest(t, procedures, records, &starts);
-    Places {
-        starts: starts,
-        row: row,
-    }
+    let row = longest(bodies, &starts);
+    Places { starts, row }
 }
 
 // The places of the locals of an accepted concurrent table, whose procedure records begin at `records`.
-pub fn place(t: &[u8], mode: Mode, procedures: usize, records: usize) -> Places
-    requires { Source t.now procedures records }
-    ensures { PlacesOf t.now procedures records mode result }
+pub fn place(table: &[u8], mode: Mode, procedures: usize, records: usize) -> Places
+    requires { Source table.now procedures records }
+    ensures { PlacesOf table.now procedures records mode result }
 {
+    let bodies = Bodies {
+        table,
+        procedures,
+        records,
+    };
     match mode {
-        Mode::Own => in_order(t, procedures, records),
-        Mode::Shared => shared(t, procedures, records),
+        Mode::Own => in_order(&bodies),
+        Mode::Shared => shared(&bodies),
     }
 }

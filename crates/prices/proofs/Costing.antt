@@ -1,5 +1,5 @@
 -- One law for each way through the price list.
-use Prim.Native.Nat.{ℕ, ◌+◌, ◌*◌, ◌-◌, ◌≤◌, ◌<◌, min, max}
+use Prim.Native.Nat.{ℕ, ◌+◌, ◌*◌, ◌-◌, ◌≤◌, min, max}
 use native.Mathlib.Omega.{arith}
 use mathlib.Core.Path.{◌≡◌, sym, ap, ◌∙◌}
 use mathlib.Core.List.{List, [], ◌∷◌, ◌++◌}
@@ -20,6 +20,7 @@ use Rattle.agreement.specs.Price.{vars}
 use Rattle.agreement.specs.Prices.{inside, inside_i}
 use Rattle.agreement.proofs.Laws.Cheap.{expr_vars}
 use Rattle.prices.specs.Costs.{within, InnerIn, InsideIn, costing, CostsPlain, CostsInner, CostsInside, Walking}
+use Rattle.prices.specs.declared.costs.Cost.{Cost}
 use Rattle.prices.specs.declared.costs.Inside.{Inside}
 
 -- ---- prices stay small
@@ -49,24 +50,6 @@ mutual
       let w = small_block n b in
       (omega (arith, v.0, w.0), omega (arith, v.1, w.1, length-append (instr i) (block b)))
 
--- ---- two numbers
-
--- the smaller one
-pub smaller_first : (a b : ℕ) → a < b → a ≡ min a b
-smaller_first a b h = omega arith
-
-pub smaller_second : (a b : ℕ) → b ≤ a → b ≡ min a b
-smaller_second a b h = omega arith
-
--- the larger one
-pub larger_second : (a b : ℕ) → a < b → b ≡ max a b
-larger_second a b h = omega arith
-
-pub larger_first : (a b : ℕ) → b ≤ a → a ≡ max a b
-larger_first a b h = omega arith
-
-pub ruleset order_ways = (smaller_first, smaller_second, larger_second, larger_first)
-
 -- ---- variables
 
 -- k of an expression, and where it ends
@@ -75,24 +58,29 @@ pub counted : {t : List ℕ} {i k : ℕ} {g : Gathered} → Gathers t i max_dept
 counted G C e j h = (C.counts (e ∷ []) (λ x l. G.set e j h x l ∙ sym (either_false (mentioned x e))), G.ends e j h)
 
 -- one price, and where it ends
+abbrev pub exactly : ℕ → Cost
+exactly x = record { least = x; most = x }
+
 abbrev one : ℕ → ℕ → Inside
-one x j = record { least = x; most = x; next = j }
+one x j = record { cost = exactly x; next = j }
 
 module _ {t : List ℕ} {i : ℕ} where
   -- ---- assign, write and read
 
   -- "20 x e"
-  pub plain_assign : {k : ℕ} {g : Gathered} → get_or t i 0 ≡ 0x20 → Gathers t (i + 2) max_depth g → CountsSet g.set k
-      → CostsPlain t i (one (2 * k + 2) g.next)
-  plain_assign {k} {g} q G C = record { gives = λ d m a j h al z. by a j (assign_here h q); few = omega (arith, C.few) }
+  pub plain_assign : {k : ℕ} {g : Gathered} {x : Cost} → get_or t i 0 ≡ 0x20 → Gathers t (i + 2) max_depth g → CountsSet g.set k
+      → x ≡ exactly (2 * k + 2) → CostsPlain t i (record { cost = x; next = g.next })
+  plain_assign {k} {g} q G C e = rw e (record { gives = λ d m a j h al z. by a j (assign_here h q); few = omega (arith, C.few) })
     where
       by : {d : ℕ} (a : Instr ℕ) (j : ℕ) → AssignAt t i d a j → one (2 * k + 2) g.next ≡ costing (inside_i max_locals a) j
       by a j w = let v = counted G C w.e j w.source in rw (w.is, v.0, v.1)
 
   -- "21 y o e"
-  pub plain_write : {k l : ℕ} {f g : Gathered} → get_or t i 0 ≡ 0x21 → Gathers t (i + 2) max_depth f → Gathers t f.next max_depth g
-      → CountsSet g.set k → CountsSet f.set l → CostsPlain t i (one (2 * k + 2 * l + 3) g.next)
-  plain_write {k} {l} {f} {g} q F G C D = record { gives = λ d m a j h al z. by a j (write_here h q); few = omega (arith, C.few, D.few) }
+  pub plain_write : {k l : ℕ} {f g : Gathered} {x : Cost} → get_or t i 0 ≡ 0x21 → Gathers t (i + 2) max_depth f → Gathers t f.next max_depth g
+      → CountsSet g.set k → CountsSet f.set l → x ≡ exactly (2 * k + 2 * l + 3)
+      → CostsPlain t i (record { cost = x; next = g.next })
+  plain_write {k} {l} {f} {g} q F G C D e =
+      rw e (record { gives = λ d m a j h al z. by a j (write_here h q); few = omega (arith, C.few, D.few) })
     where
       by : {d : ℕ} (a : Instr ℕ) (j : ℕ) → WriteAt t i d a j → one (2 * k + 2 * l + 3) g.next ≡ costing (inside_i max_locals a) j
       by a j w =
@@ -101,9 +89,9 @@ module _ {t : List ℕ} {i : ℕ} where
           rw (w.is, v.0, v.1, u.0)
 
   -- "22 x y o": no other instruction is left
-  pub plain_read : {k : ℕ} {g : Gathered} → (get_or t i 0 ≡ 0x20 → ⊥) → (get_or t i 0 ≡ 0x21 → ⊥) → Gathers t (i + 3) max_depth g
-      → CountsSet g.set k → CostsPlain t i (one (2 * k + 5) g.next)
-  plain_read {k} {g} q₀ q₁ G C = record { gives = gives; few = omega (arith, C.few) }
+  pub plain_read : {k : ℕ} {g : Gathered} {x : Cost} → (get_or t i 0 ≡ 0x20 → ⊥) → (get_or t i 0 ≡ 0x21 → ⊥) → Gathers t (i + 3) max_depth g
+      → CountsSet g.set k → x ≡ exactly (2 * k + 5) → CostsPlain t i (record { cost = x; next = g.next })
+  plain_read {k} {g} q₀ q₁ G C e = rw e (record { gives = gives; few = omega (arith, C.few) })
     where
       by : {d : ℕ} (a : Instr ℕ) (j : ℕ) → ReadAt t i d a j → one (2 * k + 5) g.next ≡ costing (inside_i max_locals a) j
       by a j w = let v = counted G C w.o j w.offset in rw (w.is, v.0, v.1)
@@ -131,8 +119,8 @@ inner_costs {t} {i} {d} {r} H f =
     let v = small_instr max_locals H.instr in
     record {
       gives = f;
-      order = omega (arith, v.0, ap (λ (x : Inside). x.least) s, ap (λ (x : Inside). x.most) s);
-      room = omega (arith, v.1, ap (λ (x : Inside). x.most) s, ap (λ (x : Inside). x.next) s, H.there.stands.ends);
+      order = omega (arith, v.0, ap (λ (x : Inside). x.cost.least) s, ap (λ (x : Inside). x.cost.most) s);
+      room = omega (arith, v.1, ap (λ (x : Inside). x.cost.most) s, ap (λ (x : Inside). x.next) s, H.there.stands.ends);
       fits = omega (arith, ap (λ (x : Inside). x.next) s, H.there.stands.fits);
       onward = omega (arith, ap (λ (x : Inside). x.next) s, (instr_inside H.there).0);
     }
@@ -145,8 +133,8 @@ inside_costs {t} {i} {d} {r} H f =
     let v = small_block max_locals H.block in
     record {
       gives = f;
-      order = omega (arith, v.0, ap (λ (x : Inside). x.least) s, ap (λ (x : Inside). x.most) s);
-      room = omega (arith, v.1, ap (λ (x : Inside). x.most) s, ap (λ (x : Inside). x.next) s, H.there.stands.ends);
+      order = omega (arith, v.0, ap (λ (x : Inside). x.cost.least) s, ap (λ (x : Inside). x.cost.most) s);
+      room = omega (arith, v.1, ap (λ (x : Inside). x.cost.most) s, ap (λ (x : Inside). x.next) s, H.there.stands.ends);
       fits = omega (arith, ap (λ (x : Inside). x.next) s, H.there.stands.fits);
     }
 
@@ -187,12 +175,12 @@ module _ {t : List ℕ} {i d : ℕ} where
 
   -- "2k+1 and the branch taken"
   pub inner_if : {k lo hi : ℕ} {g : Gathered} {x y : Inside} → InnerIn t i d → get_or t i 0 ≡ 0x24 → Gathers t (i + 1) max_depth g
-      → CostsInside t g.next d x → CostsInside t x.next d y → CountsSet g.set k → lo ≡ min x.least y.least
-      → hi ≡ max x.most y.most → CostsInner t i d (record { least = 2 * k + 1 + lo; most = 2 * k + 1 + hi; next = y.next })
+      → CostsInside t g.next d x → CostsInside t x.next d y → CountsSet g.set k → lo ≡ min x.cost.least y.cost.least
+      → hi ≡ max x.cost.most y.cost.most → CostsInner t i d (record { cost = record { least = 2 * k + 1 + lo; most = 2 * k + 1 + hi }; next = y.next })
   inner_if {k} {lo} {hi} {g} {x} {y} H q G X Y C e f = inner_costs H (λ m a j h al. by m a j al (if_here h q))
     where
       by : (m : ℕ) (a : Instr ℕ) (j : ℕ) → allowed_i (within m) a ≡ true → IfAt t i d a j
-          → ◌≡◌ {A = Inside} (record { least = 2 * k + 1 + lo; most = 2 * k + 1 + hi; next = y.next }) (costing (inside_i max_locals a) j)
+          → ◌≡◌ {A = Inside} (record { cost = record { least = 2 * k + 1 + lo; most = 2 * k + 1 + hi }; next = y.next }) (costing (inside_i max_locals a) j)
       by m a j al w =
           let al₂ = both_passed (allowed (within m) w.b) (allowed (within m) w.c) (rw w.is at al) in
           let v = counted G C w.e w.k w.test in
@@ -212,8 +200,8 @@ module _ {t : List ℕ} {i d : ℕ} where
     order = omega arith;
     room = omega arith;
     back = λ r R.
-        let lo : 0 + r.least ≡ r.least = omega arith in
-        let hi : 0 + r.most ≡ r.most = omega arith in
+        let lo : 0 + r.cost.least ≡ r.cost.least = omega arith in
+        let hi : 0 + r.cost.most ≡ r.cost.most = omega arith in
         rw (lo, hi) R;
   }
 
@@ -233,7 +221,7 @@ module _ {t : List ℕ} {i d : ℕ} where
       }
 
   pub walk_next : {k lo hi : ℕ} {x : Inside} → Walking t i d k lo hi → (get_or t k 0 ≡ 0 → ⊥) → CostsInner t k (d - 1) x
-      → Walking t i d x.next (lo + x.least) (hi + x.most)
+      → Walking t i d x.next (lo + x.cost.least) (hi + x.cost.most)
   walk_next {k} {lo} {hi} {x} W q X =
       let H : InsideIn t k d = W.rest in
       let w : StepAt t k d H.block H.next = step_here H.there q in
@@ -247,13 +235,13 @@ module _ {t : List ℕ} {i d : ℕ} where
         order = omega (arith, W.order, X.order);
         room = omega (arith, W.room, X.room);
         back = λ r R.
-            let least : lo + (x.least + r.least) ≡ lo + x.least + r.least = omega arith in
-            let most : hi + (x.most + r.most) ≡ hi + x.most + r.most = omega arith in
+            let least : lo + (x.cost.least + r.cost.least) ≡ lo + x.cost.least + r.cost.least = omega arith in
+            let most : hi + (x.cost.most + r.cost.most) ≡ hi + x.cost.most + r.cost.most = omega arith in
             rw (← least, ← most) (W.back _ (inside_costs H (λ m b j h al. more r R m b j al (step_here h q))));
       }
     where
       more : (r : Inside) → CostsInside t x.next d r → (m : ℕ) (b : Block ℕ) (j : ℕ) → allowed (within m) b ≡ true → StepAt t k d b j
-          → ◌≡◌ {A = Inside} (record { least = x.least + r.least; most = x.most + r.most; next = r.next }) (costing (inside max_locals b) j)
+          → ◌≡◌ {A = Inside} (record { cost = record { least = x.cost.least + r.cost.least; most = x.cost.most + r.cost.most }; next = r.next }) (costing (inside max_locals b) j)
       more r R m b j al v =
           let al₂ = both_passed (allowed_i (within m) v.s) (allowed (within m) v.rest) (rw v.is at al) in
           let here : x ≡ costing (inside_i max_locals v.s) v.k = X.gives m v.s v.k v.here al₂.0 in
@@ -262,13 +250,13 @@ module _ {t : List ℕ} {i d : ℕ} where
           rw (v.is, here, rest)
 
   -- "a block ends with byte 00"
-  pub walk_end : {k lo hi : ℕ} → Walking t i d k lo hi → get_or t k 0 ≡ 0 → CostsInside t i d (record { least = lo; most = hi; next = k + 1 })
+  pub walk_end : {k lo hi : ℕ} → Walking t i d k lo hi → get_or t k 0 ≡ 0 → CostsInside t i d (record { cost = record { least = lo; most = hi }; next = k + 1 })
   walk_end {k} {lo} {hi} W q =
       let least : lo + 0 ≡ lo = omega arith in
       let most : hi + 0 ≡ hi = omega arith in
-      rw (least, most) at (W.back (record { least = 0; most = 0; next = k + 1 }) (inside_costs W.rest (λ m b j h al. by b j (end_here h q))))
+      rw (least, most) at (W.back (record { cost = record { least = 0; most = 0 }; next = k + 1 }) (inside_costs W.rest (λ m b j h al. by b j (end_here h q))))
     where
-      by : (b : Block ℕ) (j : ℕ) → (b ≡ end) × (j ≡ k + 1) → ◌≡◌ {A = Inside} (record { least = 0; most = 0; next = k + 1 }) (costing (inside max_locals b) j)
+      by : (b : Block ℕ) (j : ℕ) → (b ≡ end) × (j ≡ k + 1) → ◌≡◌ {A = Inside} (record { cost = record { least = 0; most = 0 }; next = k + 1 }) (costing (inside max_locals b) j)
       by b j v = rw (v.0, v.1)
 
 pub ruleset inside_ways = (inner_plain, yes_in, no_in, inner_if, walk_start, walk_in, walk_next, walk_end)

@@ -4,6 +4,10 @@ use native.Mathlib.Omega.{arith}
 use mathlib.Core.Path.{◌≡◌, refl, sym, ap, ap₂, subst, ◌∙◌}
 use mathlib.Core.List.{List, [], ◌∷◌, ◌++◌, map}
 use mathlib.Core.Bool.{true}
+use mathlib.Core.Logic.{◌⊎◌, inl, inr}
+use mir.Syntax.{w8}
+use mir.Val.{Fits}
+use Rattle.std.specs.Prelude.{Result, Ok, Err, None}
 use lib.ListN.{length, get_or, length-map}
 use lib.Dec.{ltb}
 use borrow.Author.Tests.{ltb-true}
@@ -37,7 +41,12 @@ use Rattle.labels.specs.Walks.{BodiesIn, MapsLabels}
 use Rattle.labels.specs.Laws.LabelMap.{NodeOf, node_of_lem, node_there, length_nodes}
 use Rattle.labels.specs.Laws.Spots.{spot_has, allowed_inherited}
 use Rattle.labels.specs.Laws.Walked.{named_inherited, bodies_in, node_block}
-use Rattle.agreement.specs.declared.PricesAnswer.{PricesAnswer}
+use Rattle.basics.specs.Refusals.{refusal_number}
+use Rattle.basics.specs.declared.refusals.Refusal.{Refusal}
+use Rattle.basics.specs.declared.refusals.Refusal.TheVariants.{Trailer, Counts, Records, Bodies, Names, Labels, Cycle, Unset, TooLong, NoRoom, Schedule, NoCells, Allotments, NoChoice, Choices, NotOurs}
+use Rattle.reader.specs.Answers as Reader
+use Rattle.reader.specs.declared.verdict.Counts as Read
+use Rattle.prices.specs.Answers.{answer_with, answer_of}
 use Rattle.agreement.specs.Price.{vars}
 use Rattle.agreement.specs.Prices.{Prices, inside, inside_i, step_prices, all, prices_at, answered, prices_as, prices_call}
 use Rattle.agreement.specs.Prices as Prices
@@ -295,7 +304,7 @@ module _ {t : List ℕ} {c l : ℕ} (H : LabelIn t c l) where
 
     -- the prices of the label
     pub label_priced : {x : Cost} → CostsStep t (get_or map (4 * l) 0) x
-        → ◌≡◌ {A = PricesAnswer} (record { refusal = 0; least = x.least; most = x.most }) (prices_call t l)
+        → answer_with x ≡ prices_call t l
     label_priced {x} X =
         let locals : locals_at (at p.procs m) ≡ found.0.locals = ap locals_at found.2 in
         let own : node_prices p node.0 ≡ code_prices max_locals there.left =
@@ -308,66 +317,88 @@ module _ {t : List ℕ} {c l : ℕ} (H : LabelIn t c l) where
         let answer : prices_call t l ≡ answered 0 (is (code_prices max_locals there.left)) =
         ap (λ (v : Verdict). prices_as v l) H.verdict ∙ ap (answered 0) (prices_node p l node.1 ∙ ap is own)
         in
-        ap (λ (y : Cost). record { refusal = 0; least = y.least; most = y.most }) cost ∙ sym answer
+        ap answer_with cost ∙ sym answer
 
 pub ruleset label_ways = (label_bodies, label_step, label_priced)
 
 -- ---- the call
 
-module _ (t : List ℕ) {a : ReadAnswer} (same : a ≡ read_call concurrent t) where
-  -- 1 to 8
-  pub prices_refused : (l : ℕ) {r : PricesAnswer} → (a.number ≡ 0 → ⊥) → r ≡ answered a.number nothing → r ≡ prices_call t l
-  prices_refused l {r} some e = by (verdict concurrent t) refl
-    where
-      by : (v : Verdict) → verdict concurrent t ≡ v → r ≡ prices_call t l
-      by (refused n) q =
-          let number : a.number ≡ n = ap (λ (x : ReadAnswer). x.number) same ∙ ap (λ (v : Verdict). (read_as concurrent v).number) q in
-          e ∙ ap (λ (z : ℕ). answered z nothing) number ∙ sym (ap (λ (v : Verdict). prices_as v l) q)
-      by (accepted p) q = absurd (some (ap (λ (x : ReadAnswer). x.number) same ∙ ap (λ (v : Verdict). (read_as concurrent v).number) q))
+-- no reason has the number 0
+some_number : (e : Refusal) → 1 ≤ refusal_number e
+some_number Trailer = omega arith
+some_number Counts = omega arith
+some_number Records = omega arith
+some_number Bodies = omega arith
+some_number Names = omega arith
+some_number Labels = omega arith
+some_number Cycle = omega arith
+some_number Unset = omega arith
+some_number TooLong = omega arith
+some_number NoRoom = omega arith
+some_number Schedule = omega arith
+some_number NoCells = omega arith
+some_number Allotments = omega arith
+some_number NoChoice = omega arith
+some_number Choices = omega arith
+some_number NotOurs = omega arith
 
-  module _ (zero-answered : a.number ≡ 0) where
+module _ (t : List ℕ) {f : Result Read.Counts Refusal} (same : Reader.answer_of f ≡ read_call concurrent t) where
+  -- 1 to 8
+  pub prices_refused : (l : ℕ) {e : Refusal} → f ≡ Err e → answer_of (Err e) ≡ prices_call t l
+  prices_refused l {e} why = by (verdict concurrent t) refl
+    where
+      told : Reader.answer_of (Err e) ≡ read_call concurrent t
+      told = ap Reader.answer_of (sym why) ∙ same
+
+      by : (v : Verdict) → verdict concurrent t ≡ v → answer_of (Err e) ≡ prices_call t l
+      by (refused n) q =
+          let number : refusal_number e ≡ n = ap (λ (x : ReadAnswer). x.number) told ∙ ap (λ (v : Verdict). (read_as concurrent v).number) q in
+          ap (λ (z : ℕ). answered z nothing) number ∙ sym (ap (λ (v : Verdict). prices_as v l) q)
+      by (accepted p) q =
+          absurd (omega (arith, some_number e, ap (λ (x : ReadAnswer). x.number) told, ap (λ (v : Verdict). (read_as concurrent v).number) q))
+
+  module _ {c : Read.Counts} (ok : f ≡ Ok c) where
+    counts_told : Reader.answer_of (Ok c) ≡ read_call concurrent t
+    counts_told = ap Reader.answer_of (sym ok) ∙ same
+
     -- the program that was accepted
     program : (p : Program Plain) × (verdict concurrent t ≡ accepted p)
     program = by (verdict concurrent t) refl
       where
         by : (v : Verdict) → verdict concurrent t ≡ v → (p : Program Plain) × (verdict concurrent t ≡ accepted p)
         by (refused n) q =
-            let number : a.number ≡ n = ap (λ (x : ReadAnswer). x.number) same ∙ ap (λ (v : Verdict). (read_as concurrent v).number) q in
-            absurd (omega (arith, zero-answered, number, (refused_within concurrent t n q).low))
+            let number : 0 ≡ n = ap (λ (x : ReadAnswer). x.number) counts_told ∙ ap (λ (v : Verdict). (read_as concurrent v).number) q in
+            absurd (omega (arith, number, (refused_within concurrent t n q).low))
         by (accepted p) q = (p, q)
 
     -- and its reader's answer
-    answer : a ≡ read_as concurrent (accepted program.0)
-    answer = same ∙ ap (read_as concurrent) program.1
+    read_is : Reader.answer_of (Ok c) ≡ read_as concurrent (accepted program.0)
+    read_is = counts_told ∙ ap (read_as concurrent) program.1
 
-    -- no label: the answer has zeros
-    absent : (l : ℕ) {r : PricesAnswer} → prices_at program.0 l ≡ nothing → r ≡ answered 0 nothing → r ≡ prices_call t l
-    absent l none e = e ∙ sym (ap (λ (v : Verdict). prices_as v l) program.1 ∙ ap (answered 0) none)
-
-    -- "0 is a finished thread"
-    pub prices_zero : (l : ℕ) {r : PricesAnswer} → l ≡ 0 → r ≡ answered 0 nothing → r ≡ prices_call t l
-    prices_zero l z e = absent l (ap (prices_at program.0) z) e
-
-    -- past the last label
-    pub prices_beyond : (l : ℕ) {r : PricesAnswer} → a.labels < l → r ≡ answered 0 nothing → r ≡ prices_call t l
-    prices_beyond l h e = absent l (prices_past program.0 l (omega (arith, ap (λ (x : ReadAnswer). x.labels) answer))) e
+    -- no label: the answer has zeros. "0 is a finished thread"
+    pub prices_absent : (l : ℕ) → (l ≡ 0) ⊎ ((l ≡ 0 → ⊥) × (c.labels < l)) → answer_of (Ok None) ≡ prices_call t l
+    prices_absent l none = sym (ap (λ (v : Verdict). prices_as v l) program.1 ∙ ap (answered 0) (past none))
+      where
+        past : (l ≡ 0) ⊎ ((l ≡ 0 → ⊥) × (c.labels < l)) → prices_at program.0 l ≡ nothing
+        past (inl z) = ap (prices_at program.0) z
+        past (inr h) = prices_past program.0 l (omega (arith, h.1, ap (λ (x : ReadAnswer). x.labels) read_is))
 
     -- a label that there is
-    pub prices_label : ((i : ℕ) → i < length t → get_or t i 0 < 256) → (l : ℕ) → (l ≡ 0 → ⊥) → l ≤ a.labels → LabelIn t a.procedures l
+    pub prices_label : ((i : ℕ) → Fits w8 (get_or t i 0)) → (l : ℕ) → (l ≡ 0 → ⊥) → l ≤ c.labels → LabelIn t c.procedures l
     prices_label bytes l some h =
         let both : (t ≡ table concurrent program.0) × Sound concurrent program.0 =
-        (accepted_exactly concurrent t (bytes_at t bytes) program.0).0 program.1
+        (accepted_exactly concurrent t (bytes_at t (λ i l. (bytes i).fits)) program.0).0 program.1
         in
-        let labels : a.labels ≡ counts program.0.procs = ap (λ (x : ReadAnswer). x.labels) answer in
+        let labels : c.labels ≡ counts program.0.procs = ap (λ (x : ReadAnswer). x.labels) read_is in
         record {
           program = program.0;
           verdict = program.1;
           same = both.0;
           sound = both.1;
-          procs = ap (λ (x : ReadAnswer). x.procedures) answer;
+          procs = ap (λ (x : ReadAnswer). x.procedures) read_is;
           low = omega (arith, some);
           high = omega arith;
           few = omega (arith, both.1.labels);
         }
 
-pub ruleset call_ways = (prices_refused, prices_zero, prices_beyond)
+pub ruleset call_ways = (prices_refused, prices_absent)

@@ -53,27 +53,27 @@ pub record StepIn (t : List ℕ) (i : ℕ) : Type 0 where
 
 -- these prices, and where it ends
 abbrev pub costing : Prices → ℕ → Inside
-costing q j = record { least = q.least; most = q.most; next = j }
+costing q j = record { cost = record { least = q.least; most = q.most }; next = j }
 
 -- assign, write and read
 pub record CostsPlain (t : List ℕ) (i : ℕ) (r : Inside) : Type 0 where
   pub gives : (d m : ℕ) (a : Instr ℕ) (j : ℕ) → InstrAt t i d a j → allowed_i (within m) a ≡ true → (get_or t i 0 ≡ 0x24 → ⊥)
       → r ≡ costing (inside_i max_locals a) j
-  pub few : r.least ≤ 67
+  pub few : r.cost.least ≤ 67
 
 -- an instruction; its price is at most twice its bytes
 pub record CostsInner (t : List ℕ) (i d : ℕ) (r : Inside) : Type 0 where
   pub gives : (m : ℕ) (a : Instr ℕ) (j : ℕ) → InstrAt t i d a j → allowed_i (within m) a ≡ true → r ≡ costing (inside_i max_locals a) j
-  pub order : r.least ≤ r.most
-  pub room : 2 * i + r.most ≤ 2 * r.next
+  pub order : r.cost.least ≤ r.cost.most
+  pub room : 2 * i + r.cost.most ≤ 2 * r.next
   pub fits : r.next ≤ length t
   pub onward : i < r.next
 
 -- a block
 pub record CostsInside (t : List ℕ) (i d : ℕ) (r : Inside) : Type 0 where
   pub gives : (m : ℕ) (b : Block ℕ) (j : ℕ) → BlockAt t i d b j → allowed (within m) b ≡ true → r ≡ costing (inside max_locals b) j
-  pub order : r.least ≤ r.most
-  pub room : 2 * i + r.most ≤ 2 * r.next
+  pub order : r.cost.least ≤ r.cost.most
+  pub room : 2 * i + r.cost.most ≤ 2 * r.next
   pub fits : r.next ≤ length t
 
 -- what is walked from k on, after prices of lo to hi, is walked from i on
@@ -83,7 +83,7 @@ pub record Walking (t : List ℕ) (i d k lo hi : ℕ) : Type 0 where
   pub short : length t ≤ (limits concurrent).bytes
   pub order : lo ≤ hi
   pub room : 2 * i + hi ≤ 2 * k
-  pub back : (r : Inside) → CostsInside t k d r → CostsInside t i d (record { least = lo + r.least; most = hi + r.most; next = r.next })
+  pub back : (r : Inside) → CostsInside t k d r → CostsInside t i d (record { cost = record { least = lo + r.cost.least; most = hi + r.cost.most }; next = r.next })
 
 -- ---- what a step costs
 

@@ -2,3 +2,5 @@
 
 -- what the functions over the price list promise
 pub mod Costs
+-- the answer of the call
+pub mod Answers

@@ -1,5 +1,5 @@
 // The price list. k is the count of ones of a set of variables; for a call the sets of all arguments are joined first.
-ghost use Rattle.std.specs.Prelude.{◌≡◌, ◌<◌, min, max, length};
+ghost use Rattle.std.specs.Prelude.{◌≡◌, ◌<◌, length};
 ghost use Rattle.prices.specs.Costs.{InnerIn, InsideIn, StepIn, CostsPlain, CostsInner, CostsInside, CostsStep};
 
 use basics::bytes::byte_at;
@@ -13,32 +13,21 @@ pub struct Cost {
     pub most: u64,
 }
 
-// The same of code inside an atomic block, and where it ends.
+// What code inside an atomic block costs, and where it ends.
 #[derive(Clone, Copy)]
 struct Inside {
-    least: u64,
-    most: u64,
+    cost: Cost,
     next: usize,
 }
 
-// The smaller of two.
-fn smaller(a: u64, b: u64) -> u64
-    ensures { result ≡ min a b }
+// A step that costs the same in any case.
+fn exactly(price: u64) -> Cost
+    ensures { result ≡ record { least = price; most = price } }
 {
-    if a < b {
-        return a;
+    Cost {
+        least: price,
+        most: price,
     }
-    b
-}
-
-// The larger.
-fn larger(a: u64, b: u64) -> u64
-    ensures { result ≡ max a b }
-{
-    if a < b {
-        return b;
-    }
-    a
 }
 
 // assign, write and read in place: "assign, read and write 2 lower".
@@ -46,32 +35,29 @@ fn plain_costs(t: &[u8], at: usize) -> Inside
     requires { at < length t.now }
     ensures { CostsPlain t.now at result }
 {
-    let form = t[at];
-    if form == ASSIGN {
-        let e = gather(t, at + 2, DEPTH);
-        let price = 2 * count(e.set) + 2;
-        return Inside {
-            least: price,
-            most: price,
-            next: e.next,
-        };
-    }
-    if form == WRITE {
-        let o = gather(t, at + 2, DEPTH);
-        let e = gather(t, o.next, DEPTH);
-        let price = 2 * count(e.set) + 2 * count(o.set) + 3;
-        return Inside {
-            least: price,
-            most: price,
-            next: e.next,
-        };
-    }
-    let o = gather(t, at + 3, DEPTH);
-    let price = 2 * count(o.set) + 5;
-    Inside {
-        least: price,
-        most: price,
-        next: o.next,
+    match t[at] {
+        ASSIGN => {
+            let e = gather(t, at + 2, DEPTH);
+            Inside {
+                cost: exactly(2 * count(e.set) + 2),
+                next: e.next,
+            }
+        }
+        WRITE => {
+            let o = gather(t, at + 2, DEPTH);
+            let e = gather(t, o.next, DEPTH);
+            Inside {
+                cost: exactly(2 * count(e.set) + 2 * count(o.set) + 3),
+                next: e.next,
+            }
+        }
+        _ => {
+            let o = gather(t, at + 3, DEPTH);
+            Inside {
+                cost: exactly(2 * count(o.set) + 5),
+                next: o.next,
+            }
+        }
     }
 }
 
@@ -87,8 +73,10 @@ fn inner_costs(t: &[u8], at: usize, depth: u8) -> Inside
         let no = inside_costs(t, yes.next, depth);
         let own = 2 * count(test.set) + 1;
         return Inside {
-            least: own + smaller(yes.least, no.least),
-            most: own + larger(yes.most, no.most),
+            cost: Cost {
+                least: own + yes.cost.least.min(no.cost.least),
+                most: own + yes.cost.most.max(no.cost.most),
+            },
             next: no.next,
         };
     }
@@ -106,24 +94,13 @@ fn inside_costs(t: &[u8], at: usize, depth: u8) -> Inside
     let mut most = 0;
     while t[i] != END {
         let one = inner_costs(t, i, depth - 1);
-        least += one.least;
-        most += one.most;
+        least += one.cost.least;
+        most += one.cost.most;
         i = one.next;
     }
     Inside {
-        least: least,
-        most: most,
+        cost: Cost { least, most },
         next: i + 1,
-    }
-}
-
-// A step that costs the same in any case.
-fn exactly(price: u64) -> Cost
-    ensures { result ≡ record { least = price; most = price } }
-{
-    Cost {
-        least: price,
-        most: price,
     }
 }
 
@@ -132,28 +109,21 @@ pub fn step_costs(t: &[u8], at: usize) -> Cost
     requires { StepIn t.now at }
     ensures { CostsStep t.now at result }
 {
-    let form = t[at];
-    if form == END {
-        return exactly(4);
+    match t[at] {
+        END => exactly(4),
+        IF | WHILE => exactly(2 * count(gather(t, at + 1, DEPTH).set) + 3),
+        CALL => {
+            let n = byte_at(t, at + 3);
+            let k = count(gather_each(t, at + 4, n));
+            exactly(2 * k + 2 * u64::from(n) + 4)
+        }
+        ATOMIC => {
+            let inside = inside_costs(t, at + 1, NESTING).cost;
+            Cost {
+                least: inside.least + 2,
+                most: inside.most + 2,
+            }
+        }
+        _ => exactly(plain_costs(t, at).cost.least + 2),
     }
-    if form == IF {
-        return exactly(2 * count(gather(t, at + 1, DEPTH).set) + 3);
-    }
-    if form == WHILE {
-        return exactly(2 * count(gather(t, at + 1, DEPTH).set) + 3);
-    }
-    if form == CALL {
-        let n = byte_at(t, at + 3);
-        let k = count(gather_each(t, at + 4, n));
-        return exactly(2 * k + 2 * (n as u64) + 4);
-    }
-    if form == ATOMIC {
-        let inside = inside_costs(t, at + 1, NESTING);
-        return Cost {
-            least: inside.least + 2,
-            most: inside.most + 2,
-        };
-    }
-    let plain = plain_costs(t, at);
-    exactly(plain.least + 2)
 }

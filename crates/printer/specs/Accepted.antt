@@ -3,11 +3,11 @@ use Rattle.std.specs.Prelude.{ℕ, ◌+◌, ◌*◌, ◌≤◌, ◌≡◌, List,
 use Rattle.format.specs.Syntax.{Program, Plain, sequential}
 use Rattle.format.specs.Encode.{table}
 use Rattle.format.specs.Rules.{accepted, verdict}
-use Rattle.format.specs.declared.ReadAnswer.{ReadAnswer}
 use Rattle.format.proofs.Laws.Sound.{Sound}
+use Rattle.reader.specs.declared.verdict.Counts.{Counts}
 
--- t is an accepted table, and a its reader's answer
-pub record Accepts (t : List ℕ) (a : ReadAnswer) : Type 0 where
+-- t is an accepted table, and a its reader's counts
+pub record Accepts (t : List ℕ) (a : Counts) : Type 0 where
   pub program : Program Plain
   pub verdict : verdict sequential t ≡ accepted program
   pub same : t ≡ table sequential program

@@ -12,7 +12,7 @@ use lib.Dec.{eqb}
 use borrow.Author.Tests.{eqb-true, eq-eqb, ne_eqb}
 use Rattle.value.specs.Maybe.{is}
 use Rattle.value.specs.declared.Value.TheVariants.{Truth}
-use Rattle.value.specs.declared.Answer.TheVariants as A
+use Rattle.std.specs.Prelude.{Ok}
 use Rattle.basics.specs.Places.{number_at}
 use Rattle.format.specs.Decode.{max_depth}
 use Rattle.engine.specs.Words.{held}
@@ -116,8 +116,8 @@ choice_step {t} {ls} {bs} {cs} {fb} {k} {w} b m c q e l z =
     W.sure_plain low high (byte t (k + 1 + 1) (k + 2) (omega arith) c.local) (byte t (k + 1 + 3) (k + 4) (omega arith) c.number)
     (q ∙ ap (λ j. get_or ls (fb + get_or t j 0) 0) (sym third)) N O
     in
-    let E : Evaluates t ls fb (k + 1) max_depth (valued (A.Is (Truth b)) (k + 9)) =
-    subst (λ j. Evaluates t ls fb (k + 1) max_depth (valued (A.Is (Truth b)) j)) ninth (sure_known (Truth b) s (truth_some b) (truth_word_lem b))
+    let E : Evaluates t ls fb (k + 1) max_depth (valued (Ok (Truth b)) (k + 9)) =
+    subst (λ j. Evaluates t ls fb (k + 1) max_depth (valued (Ok (Truth b)) j)) ninth (sure_known (Truth b) s (truth_some b) (truth_word_lem b))
     in
     D.decides_test m E (record { step = refl })
 

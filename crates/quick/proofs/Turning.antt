@@ -14,19 +14,18 @@ use Rattle.value.specs.Values.{given, number, place}
 use Rattle.value.proofs.Laws.Tries.{has_inj, lacking}
 use Rattle.value.specs.declared.Value.{Value}
 use Rattle.value.specs.declared.Value.TheVariants.{Whole, Location, Truth}
-use Rattle.value.specs.declared.Answer.TheVariants as A
+use Rattle.std.specs.Prelude.{Option, Some, None, Ok}
 use Rattle.value.specs.declared.Reason.{Reason}
 use Rattle.value.specs.declared.Reason.TheVariants.{WrongKind}
 use Rattle.format.specs.Decode.{max_depth}
 use Rattle.semantics.proofs.Laws.Cells.{shape}
 use Rattle.engine.specs.Words.{held, value_in}
-use Rattle.engine.specs.Work.{cell_words, most_locations, Placed}
+use Rattle.engine.specs.Work.{cell_words, most_locations, Placed, Places}
 use Rattle.engine.specs.Evaluated.{valued, Evaluates}
 use Rattle.engine.specs.Laws.Words.{held_word}
 use Rattle.engine.specs.Laws.Holding.{length_flat, cell_full, cell_held}
 use Rattle.engine.specs.Laws.Starting.{next_start}
 use Rattle.engine.specs.declared.memory.Spot.{Spot}
-use Rattle.engine.specs.declared.memory.Spot.TheVariants.{At, Nowhere}
 use Rattle.decide.specs.declared.step.Step.TheVariants as S
 use Rattle.decide.specs.Decided.{Kept}
 use Rattle.decide.proofs.Deciding as D
@@ -42,12 +41,12 @@ use Rattle.quick.proofs.Wording.{answer_given, location_is}
 
 module _ {t ls : List ℕ} {fb i : ℕ} {e : Worded} (s : Sure t ls fb i e) (n : e.word ≡ 0 → ⊥) where
   -- it is evaluated
-  pub sure_eval : Evaluates t ls fb i max_depth (valued (A.Is (s.shows n).value) e.next)
+  pub sure_eval : Evaluates t ls fb i max_depth (valued (Ok (s.shows n).value) e.next)
   sure_eval = subst (λ a. Evaluates t ls fb i max_depth (valued a e.next)) (ap answer_of (s.shows n).holds) (s.words.says n max_depth)
 
 -- that of a word that is known
 pub sure_known : {t ls : List ℕ} {fb i : ℕ} {e : Worded} (v : Value) → Sure t ls fb i e → (e.word ≡ 0 → ⊥) → held e.word ≡ is v
-    → Evaluates t ls fb i max_depth (valued (A.Is v) e.next)
+    → Evaluates t ls fb i max_depth (valued (Ok v) e.next)
 sure_known {t} {ls} {fb} {i} {e} v s n h = subst (λ a. Evaluates t ls fb i max_depth (valued a e.next)) (ap answer_of h) (s.words.says n max_depth)
 
 -- ---- "x := e"
@@ -103,25 +102,26 @@ kept_small {bs} {cs} k f = record {
 }
 
 module _ {bs : List ℕ} {p o : ℕ} where
-  pub spot_none : {s : Spot} {r : Reason} → s ≡ Nowhere r → Spotted bs p o s
-  spot_none {s} {r} q = record { places = λ l i k e. clash (sym q ∙ e) }
-    where
-      clash : {G : Type 0} {l i k : ℕ} → ◌≡◌ {A = Spot} (Nowhere r) (At l i k) → G
-      clash e = let z : ◌≡◌ {A = ℕ} 0 1 = cc in absurd (omega arith)
+  pub spot_none : Spotted bs p o None
+  spot_none = record { places = λ at e. cc }
 
   pub spot_some : {a e : ℕ} → Small bs → 8589934592 ≤ p → p - 8589934592 < most_locations → 4294967296 ≤ o
       → a ≡ get_or bs (p - 8589934592) 0 → e ≡ get_or bs (p - 8589934592 + 1) 0 → a + (o - 4294967296) < e
-      → Spotted bs p o (At (p - 8589934592) (o - 4294967296) (a + (o - 4294967296)))
+      → Spotted bs p o (Some (record { location = p - 8589934592; index = o - 4294967296; cell = a + (o - 4294967296) }))
   spot_some {a} {e} s lp hp lo qa qe c = record {
-    places = λ l i k z. record {
+    places = λ at z. some_placed z (record {
       placed = λ η b.
           let from : a ≡ sum (take (p - 8589934592) (shape η)) = qa ∙ b.starts (p - 8589934592) (omega arith) in
           let to : e ≡ sum (take (p - 8589934592 + 1) (shape η)) = qe ∙ b.starts (p - 8589934592 + 1) (omega arith) in
           let low : o - 4294967296 < 2 ^ 31 = omega (arith, s.small (p - 8589934592 + 1) (omega arith)) in
           (index_read (answer_index low), place_read, record { number = ap (◌+ (o - 4294967296)) from; size = omega (arith, next_start (shape η) (p - 8589934592)) });
-    };
+    });
   }
     where
+      some_placed : {u v : Spot} → Some u ≡ Some v → Places bs (given (answer_in p)) (given (answer_in o)) (Ok u)
+          → Places bs (given (answer_in p)) (given (answer_in o)) (Ok v)
+      some_placed {u} {v} e P = let same : u ≡ v = cc in rw (← same) P
+
       answer_index : o - 4294967296 < 2 ^ 31 → held o ≡ is (Whole (pos (o - 4294967296)))
       answer_index l =
           let same : o ≡ 2 ^ 32 * 1 + (o - 4294967296) = omega arith in
@@ -163,9 +163,10 @@ module _ {t ls bs : List ℕ} {fb i : ℕ} {e : Worded} where
     word = D.write_word w.poised w.mark refl;
   }
 
-  pub writes_some : {p o l k c : ℕ} {s : Spot} → Writing t ls bs fb i e → (e.word ≡ 0 → ⊥) → p ≡ get_or ls (fb + get_or t (i + 1) 0) 0
-      → o ≡ get_or ls (fb + get_or t (i + 3) 0) 0 → Spotted bs p o s → s ≡ At l k c → Writes t ls bs fb i (Write l k c e.word e.next)
-  writes_some {p} {o} {l} {k} {c} {s} w n qp qo P z = record {
+  pub writes_some : {p o : ℕ} {s : Option Spot} {at : Spot} → Writing t ls bs fb i e → (e.word ≡ 0 → ⊥) → p ≡ get_or ls (fb + get_or t (i + 1) 0) 0
+      → o ≡ get_or ls (fb + get_or t (i + 3) 0) 0 → Spotted bs p o s → s ≡ Some at
+      → Writes t ls bs fb i (Write at.location at.index at.cell e.word e.next)
+  writes_some {p} {o} {s} {at} w n qp qo P z = record {
     turned = λ js cs left.
         let v = (w.source.shows n).value in
         let third : i + 2 + 1 ≡ i + 3 = omega arith in
@@ -173,13 +174,13 @@ module _ {t ls bs : List ℕ} {fb i : ℕ} {e : Worded} where
         let X : Evaluates t ls fb (i + 2) max_depth (valued (answer_in o) (i + 2 + 2)) =
         W.local_eval max_depth w.offset (qo ∙ ap (λ k. get_or ls (fb + get_or t k 0) 0) (sym third))
         in
-        let Y : Evaluates t ls fb (i + 2 + 2) max_depth (valued (A.Is v) e.next) =
-        subst (λ k. Evaluates t ls fb k max_depth (valued (A.Is v) e.next)) (sym fourth) (sure_eval w.source n)
+        let Y : Evaluates t ls fb (i + 2 + 2) max_depth (valued (Ok v) e.next) =
+        subst (λ k. Evaluates t ls fb k max_depth (valued (Ok v) e.next)) (sym fourth) (sure_eval w.source n)
         in (
           v,
           (w.source.shows n).holds,
           D.decides_write w.mark
-              (D.write_some w.mark X Y (answer_in p) refl refl (answer_given (held p) ∙ ap value_in qp) (P.places l k c z) z),
+              (D.write_some w.mark X Y (answer_in p) refl refl (answer_given (held p) ∙ ap value_in qp) (P.places at z) refl),
         );
   }
 
@@ -195,21 +196,21 @@ module _ {t ls bs cs : List ℕ} {fb i o n : ℕ} where
   pub read_target : Reading t ls bs cs fb i o n → i + 1 < length t
   read_target r = omega (arith, D.read_inside (record { poised = r.poised; mark = r.mark; offset = r.offset }))
 
-  pub read_cell : {p l k c : ℕ} {s : Spot} → Reading t ls bs cs fb i o n → Spotted bs p o s → s ≡ At l k c → c < length cs
-  read_cell {p} {l} {k} {c} {s} r P z = D.found_word (given (answer_in p)) (given (answer_in o)) r.kept (P.places l k c z) z
+  pub read_cell : {p : ℕ} {s : Option Spot} {at : Spot} → Reading t ls bs cs fb i o n → Spotted bs p o s → s ≡ Some at → at.cell < length cs
+  read_cell {p} {s} {at} r P z = D.found_word (given (answer_in p)) (given (answer_in o)) r.kept (P.places at z) refl
 
-  pub reads_some : {x p l k c w : ℕ} {s : Spot} → Reading t ls bs cs fb i o n → x ≡ get_or t (i + 1) 0 → p ≡ get_or ls (fb + get_or t (i + 2) 0) 0
-      → Spotted bs p o s → s ≡ At l k c → w ≡ get_or cs c 0 → Reads t ls bs cs fb i (Read x l k w n)
-  reads_some {x} {p} {l} {k} {c} {w} {s} r qx qp P z qw = record {
+  pub reads_some : {x p w : ℕ} {s : Option Spot} {at : Spot} → Reading t ls bs cs fb i o n → x ≡ get_or t (i + 1) 0 → p ≡ get_or ls (fb + get_or t (i + 2) 0) 0
+      → Spotted bs p o s → s ≡ Some at → w ≡ get_or cs at.cell 0 → Reads t ls bs cs fb i (Read x at.location at.index w n)
+  reads_some {x} {p} {w} {s} {at} r qx qp P z qw = record {
     turned = λ js left.
-        let found = subst (Placed r.kept.memory (given (answer_in p)) (given (answer_in o))) z ((P.places l k c z).placed r.kept.memory r.kept.lies.bases) in
+        let found = (P.places at z).placed r.kept.memory r.kept.lies.bases in
         let full = cell_full r.kept.memory found.2 in
-        let there : held (get_or cs c 0) ≡ is full.0 = has_held (held (get_or cs c 0)) full.0 (cell_held r.kept.lies.holds found.2 ∙ full.1) in (
+        let there : held (get_or cs at.cell 0) ≡ is full.0 = has_held (held (get_or cs at.cell 0)) full.0 (cell_held r.kept.lies.holds found.2 ∙ full.1) in (
           full.0,
           ap held qw ∙ there,
           D.decides_read r.mark
-              (D.read_some (answer_in p) r.mark r.offset refl (answer_given (held p) ∙ ap value_in qp) (P.places l k c z)
-              (A.Is full.0) z (sym (ap (or_lacks WrongKind) there)) refl qx),
+              (D.read_some (answer_in p) r.mark r.offset refl (answer_given (held p) ∙ ap value_in qp) (P.places at z)
+              (Ok full.0) refl (sym (ap (or_lacks WrongKind) there)) refl qx),
         );
   }
 

@@ -19,7 +19,7 @@ use Rattle.value.proofs.Laws.Bytes.{word_unword}
 use Rattle.value.proofs.Laws.Maybes.{missing}
 use Rattle.value.specs.declared.Value.{Value}
 use Rattle.value.specs.declared.Value.TheVariants.{Whole, Location, Truth}
-use Rattle.value.specs.declared.Answer.TheVariants as A
+use Rattle.std.specs.Prelude.{Ok}
 use Rattle.value.specs.declared.Reason.TheVariants.{WrongKind}
 use Rattle.basics.specs.Places.{number_at}
 use Rattle.basics.specs.Columns.{operands_of}
@@ -177,7 +177,7 @@ module _ {t ls : List ℕ} {fb i : ℕ} where
   sure_none e = record { words = words_none e; shows = λ n. absurd (n (ap (λ (r : Worded). r.word) e)) }
 
   -- of a leaf whose value is v, at whatever depth
-  leaf_sure : {w j : ℕ} {v : Value} → get_or t i 0 < 6 → held w ≡ is v → Evaluates t ls fb i 1 (valued (A.Is v) j) → Sure t ls fb i (worded w j)
+  leaf_sure : {w j : ℕ} {v : Value} → get_or t i 0 < 6 → held w ≡ is v → Evaluates t ls fb i 1 (valued (Ok v) j) → Sure t ls fb i (worded w j)
   leaf_sure {w} {j} {v} l h X = record {
     words = record { says = λ n d. subst (λ a. Evaluates t ls fb i d (valued a j)) (sym (ap answer_of h)) (E.as_leaf l X) };
     shows = λ n. record { value = v; holds = h };
@@ -203,7 +203,7 @@ module _ {t ls : List ℕ} {fb i : ℕ} where
       let z : ℤ = unword (number_at 4 t (i + 1)) in
       let f : SFits w32 z = record { sfits = (word_unword (number_at 4 t (i + 1)) n.small).1 } in
       leaf_sure (omega arith) (number_is n)
-      (subst (λ z. Evaluates t ls fb i 1 (valued (A.Is (Whole z)) (i + 5))) (to_z-of_z f) (E.eval_whole e refl refl f))
+      (subst (λ z. Evaluates t ls fb i 1 (valued (Ok (Whole z)) (i + 5))) (to_z-of_z f) (E.eval_whole e refl refl f))
 
   pub words_number : {w : ℕ} → get_or t i 0 ≡ 1 → NumberAt t (i + 1) w → Words t ls fb i (worded w (i + 5))
   words_number e n = (sure_number e n).words

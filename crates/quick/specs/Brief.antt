@@ -1,12 +1,12 @@
 -- Words of operators and of brief expressions. An answer that is NOTHING, the word 0, claims nothing: whoever asked then goes the general way. Any other is right.
-use Rattle.std.specs.Prelude.{ℕ, ◌+◌, ◌*◌, ◌^◌, ◌<◌, ◌≡◌, List, Bool, true, ℤ, length, get_or}
+use Rattle.std.specs.Prelude.{ℕ, ◌+◌, ◌*◌, ◌^◌, ◌<◌, ◌≡◌, List, Bool, true, ℤ, length, get_or, Result, Ok, Err}
 use Rattle.value.specs.Maybe.{Maybe, is, nothing}
 use Rattle.value.specs.Try.{Try, has}
 use Rattle.value.specs.Marks.{mark_of}
 use Rattle.value.specs.declared.Value.{Value}
 use Rattle.value.specs.declared.Value.TheVariants.{Whole, Truth}
-use Rattle.value.specs.declared.Answer.{Answer}
-use Rattle.value.specs.declared.Answer.TheVariants as A
+use Rattle.value.specs.declared.Reason.{Reason}
+use Rattle.value.specs.declared.Reason.TheVariants.{WrongKind}
 use Rattle.basics.specs.Columns.{applied₂}
 use Rattle.basics.specs.Places.{number_at}
 use Rattle.engine.specs.Words.{held}
@@ -45,11 +45,11 @@ pub record SaysTruth (w : ℕ) (r : Bool) : Type 0 where
   pub yes : r ≡ true → IsTruth w
 
 -- what a word holds, as an answer of the evaluator; a word that holds nothing is that of a local that is not set
-abbrev pub answer_of : Maybe Value → Answer
-answer_of (is v) = A.Is v
-answer_of nothing = A.WrongKind
+abbrev pub answer_of : Maybe Value → Result Value Reason
+answer_of (is v) = Ok v
+answer_of nothing = Err WrongKind
 
-abbrev pub answer_in : ℕ → Answer
+abbrev pub answer_in : ℕ → Result Value Reason
 answer_in w = answer_of (held w)
 
 -- ---- operators

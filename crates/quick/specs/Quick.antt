@@ -1,12 +1,11 @@
 -- The deciding half of a frequent step, by words: what is answered stands for the step that `decide` answers, or for several tests in a row that fail.
 -- `Left` stands for nothing: the step is then done the general way.
-use Rattle.std.specs.Prelude.{ℕ, suc, ◌+◌, ◌^◌, ◌≤◌, ◌<◌, ◌≡◌, List, Bool, true, false, length, get_or}
+use Rattle.std.specs.Prelude.{ℕ, suc, ◌+◌, ◌^◌, ◌≤◌, ◌<◌, ◌≡◌, List, Bool, true, false, length, get_or, Option, Some, Ok}
 use Rattle.value.specs.Maybe.{is}
 use Rattle.value.specs.declared.Value.{Value}
 use Rattle.engine.specs.Words.{held}
 use Rattle.engine.specs.Work.{Beside, frame_words, cell_words, most_locations, Places}
 use Rattle.engine.specs.declared.memory.Spot.{Spot}
-use Rattle.engine.specs.declared.memory.Spot.TheVariants.{At}
 use Rattle.decide.specs.declared.step.Step.TheVariants as S
 use Rattle.decide.specs.Decided.{Poised, Kept, Lies, DecidesAll, Tests}
 use Rattle.jumps.specs.Jumps.{positions}
@@ -71,8 +70,8 @@ pub record Small (bs : List ℕ) : Type 0 where
   pub small : (l : ℕ) → l ≤ most_locations → get_or bs l 0 ≤ 2 ^ 31
 
 -- a cell of a pointer and an index that are these words is the right one; of none nothing is said
-pub record Spotted (bs : List ℕ) (p o : ℕ) (s : Spot) : Type 0 where
-  pub places : (l i k : ℕ) → s ≡ At l i k → Places bs (given (answer_in p)) (given (answer_in o)) s
+pub record Spotted (bs : List ℕ) (p o : ℕ) (s : Option Spot) : Type 0 where
+  pub places : (at : Spot) → s ≡ Some at → Places bs (given (answer_in p)) (given (answer_in o)) (Ok at)
 
 -- "x := e", by the word of e
 pub record Assigns (t : List ℕ) (i : ℕ) (e : Worded) (q : Quick) : Type 0 where

@@ -21,6 +21,7 @@ const SINGLE: u8 = marks::NOT;
 const PAST: u64 = FIRST_LOCATION + 65536;
 
 // The word of an expression, and where it ends; that means nothing if the word is NOTHING.
+// stays: an Option costs 21 instructions a step on c (134.8 against 113.8), 16 on b (86.2 against 70.6), counted in an unproved build
 #[derive(Clone, Copy)]
 pub struct Worded {
     pub word: u64,

@@ -1,8 +1,6 @@
 // The deciding half of a frequent step, by words: what `decide` answers, with the words of its values instead of the values, and with
 // the tests in a row that fail as one. `Left` claims nothing: the run then goes the general way. So this may leave out whatever it likes.
 ghost use Rattle.std.specs.Prelude.{◌≡◌, ◌+◌, ◌≤◌, ◌<◌, length, get_or};
-ghost use Rattle.value.specs.declared.Reason.TheVariants.{IndexOutside};
-ghost use Rattle.engine.specs.declared.memory.Spot.TheVariants.{Nowhere};
 ghost use Rattle.jumps.specs.Jumps.{positions};
 ghost use Rattle.decide.specs.Decided.{Poised};
 ghost use Rattle.quick.specs.Quick.{Turning, Turns, steps_of, Small, Spotted, Assigns, Writing, Writes, Reading, Reads, Tested, Testing};
@@ -17,7 +15,6 @@ use engine::memory::Spot;
 use engine::word::{FALSE, FIRST_LOCATION, KIND, NOTHING, TRUE};
 use engine::{memory, table};
 use jumps::ways;
-use value::Reason;
 
 // What a step does. `next` is where the instruction ends, of a test that holds where its expression ends. Of tests that fail `at` is
 // where the run goes on after so many of them. The arguments of a call are in the frame above.
@@ -53,6 +50,7 @@ pub enum Quick {
         procedure: usize,
         next: usize,
     },
+    // stays: an Option costs 2.8 instructions a step on b (73.4 against 70.6), 2.4 on c (116.2 against 113.8), counted in an unproved build
     Left,
 }
 
@@ -61,31 +59,12 @@ pub fn steps(quick: Quick) -> u64
     ensures { result ≡ steps_of quick }
 {
     match quick {
-        Quick::Assign {
-            x: _,
-            word: _,
-            next: _,
-        } => 1,
-        Quick::Read {
-            x: _,
-            location: _,
-            index: _,
-            word: _,
-            next: _,
-        } => 1,
-        Quick::Write {
-            location: _,
-            index: _,
-            cell: _,
-            word: _,
-            next: _,
-        } => 1,
-        Quick::Holds { next: _ } => 1,
+        Quick::Assign { .. } => 1,
+        Quick::Read { .. } => 1,
+        Quick::Write { .. } => 1,
+        Quick::Holds { .. } => 1,
         Quick::Fails { at: _, steps } => steps,
-        Quick::Call {
-            procedure: _,
-            next: _,
-        } => 1,
+        Quick::Call { .. } => 1,
         Quick::Left => 0,
     }
 }
@@ -105,38 +84,31 @@ fn assign(t: &[u8], at: usize, e: Worded) -> Quick
     }
 }
 
-// No cell, for whatever reason.
-fn nowhere() -> Spot
-    ensures { result ≡ Nowhere IndexOutside }
-{
-    Spot::Nowhere(Reason::IndexOutside)
-}
-
-// The cell of a pointer and an index. Words of other kinds are too low, or too high for a location, or for an index of any.
-fn place(starts: &[u32; STARTS], pointer: u64, offset: u64) -> Spot
+// The cell of a pointer and an index, if they have one. Words of other kinds are too low, or too high for a location, or for an index of any.
+fn place(starts: &[u32; STARTS], pointer: u64, offset: u64) -> Option<Spot>
     requires { Small starts.now }
     ensures { Spotted starts.now pointer offset result }
 {
     if pointer < FIRST_LOCATION {
-        return nowhere();
+        return None;
     }
     let location = (pointer - FIRST_LOCATION) as usize;
     if location >= LOCATIONS {
-        return nowhere();
+        return None;
     }
     if offset < KIND {
-        return nowhere();
+        return None;
     }
     let index = (offset - KIND) as usize;
     let cell = memory::start(starts, location) + index;
     if cell < memory::start(starts, location + 1) {
-        Spot::At {
+        Some(Spot {
             location,
             index,
             cell,
-        }
+        })
     } else {
-        nowhere()
+        None
     }
 }
 
@@ -157,11 +129,13 @@ fn write(
     }
     let pointer = brief::local(t, words, base, at + 1);
     let offset = brief::local(t, words, base, at + 3);
-    let Spot::At {
-        location,
-        index,
-        cell,
-    } = place(starts, pointer, offset)
+    let Some(
+        Spot {
+            location,
+            index,
+            cell,
+        },
+    ) = place(starts, pointer, offset)
     else {
         return Quick::Left;
     };
@@ -189,11 +163,13 @@ fn read(
     ensures { Reads t.now words.now starts.now cells.now base at result }
 {
     let pointer = brief::local(t, words, base, at + 2);
-    let Spot::At {
-        location,
-        index,
-        cell,
-    } = place(starts, pointer, offset)
+    let Some(
+        Spot {
+            location,
+            index,
+            cell,
+        },
+    ) = place(starts, pointer, offset)
     else {
         return Quick::Left;
     };
@@ -319,9 +295,8 @@ fn call(t: &[u8], words: &mut [u64], base: usize, at: usize) -> Quick
 {
     let count = table::byte(t, at + 3);
     let above = base + FRAME;
-    let mut i = 0;
     let mut next = at + 4;
-    while i < count {
+    for i in 0..count {
         let e = if t[next] < LEAVES {
             brief::leaf(t, words, base, next)
         } else {
@@ -332,7 +307,6 @@ fn call(t: &[u8], words: &mut [u64], base: usize, at: usize) -> Quick
         }
         words[above + i] = e.word;
         next = e.next;
-        i += 1;
     }
     Quick::Call {
         procedure: table::two(t, at + 1) as usize,

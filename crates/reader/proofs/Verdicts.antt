@@ -4,16 +4,20 @@ use native.Mathlib.Omega.{arith}
 use mathlib.Core.Path.{◌≡◌, refl, sym, ap, subst, ◌∙◌}
 use mathlib.Core.List.{List}
 use mathlib.Core.Bool.{Bool, true, false}
-use lib.ListN.{length, get_or}
+use lib.ListN.{get_or}
 use mir.Syntax.{w8}
 use mir.Val.{Fits}
 use lib.Dec.{leb}
 use borrow.Author.Tests.{le-leb, lt-leb}
 use Rattle.value.proofs.Laws.Bytes.{Bytes, bytes_at}
 use Rattle.format.specs.Syntax.{Program, Plain, Kind, concurrent, sequential}
-use Rattle.format.specs.Rules.{all_named, few_labels, no_cycle, set_first, accepted, limits, max_labels}
+use Rattle.format.specs.Rules.{all_named, few_labels, no_cycle, set_first, accepted, max_labels}
 use Rattle.format.specs.Calls.{labels_of, read_as}
-use Rattle.shape.specs.Shapes.{ShapedAs, HasShape, FormFor, FormIs, LabelsAre, refusal, acceptance, Answers}
+use Rattle.shape.specs.Shapes.{ShapedAs, HasShape, FormFor, FormIs, LabelsAre}
+use Rattle.reader.specs.Answers.{Answers, answer_of}
+use Rattle.std.specs.Prelude.{Result, Ok, Err}
+use Rattle.basics.specs.declared.refusals.Refusal.{Refusal}
+use Rattle.basics.specs.declared.refusals.Refusal.TheVariants.{Names, Labels, Cycle, Unset}
 use Rattle.format.proofs.Laws.Passes.{at_most}
 use Rattle.format.proofs.Laws.TablePlaces.{trailer_at}
 use Rattle.scan.specs.Laws.Laid.{Laid, Named, Room, Judges}
@@ -21,9 +25,7 @@ use Rattle.scan.specs.Laws.NameScans.{Counted}
 use Rattle.scan.specs.Laws.LabelScans.{CountsLabels}
 use Rattle.shape.proofs.Rule3.{is_concurrent_lem, is_sequential}
 use Rattle.shape.specs.declared.form.Shape.{Shape}
-use Rattle.shape.specs.declared.form.Form.{Form}
-use Rattle.shape.specs.declared.form.Form.TheVariants.{Refused, Shaped}
-use Rattle.format.specs.declared.ReadAnswer.{ReadAnswer}
+use Rattle.reader.specs.declared.verdict.Counts.{Counts}
 
 -- rule 6, by the number of labels
 few_labels_lem : (k : Kind) (p : Program Plain) → few_labels k p ≡ leb (labels_of k p) max_labels
@@ -43,10 +45,6 @@ module _ {k : Kind} {t : List ℕ} {s : Shape} {p : Program Plain} (shaped : Sha
     size = omega (arith, shaped.formed.size, (at_most k).bytes);
   }
 
-  -- so are the bodies
-  pub labels_room : (s.records ≤ length t) × (s.procedures ≤ (limits sequential).procs)
-  labels_room = omega (arith, shape_room.few, shape_room.room)
-
   -- ---- the number of labels
 
   -- those of a concurrent program
@@ -62,11 +60,9 @@ module _ {k : Kind} {t : List ℕ} {s : Shape} {p : Program Plain} (shaped : Sha
   -- ---- the rules
 
   -- 5
-  pub names_wrong : {b : Bool} {r : ReadAnswer} → Judges (Counted t s.procedures s.locations s.records) all_named b → b ≡ false
-      → r ≡ refusal 5
-      → Answers k t r
-  names_wrong J e q = record {
-    same = q ∙ sym (ap (read_as k) shaped.verdict ∙ rw (← J.gives p (record { laid = laid; places = shaped.locations }), e));
+  pub names_wrong : {b : Bool} → Judges (Counted t s.procedures s.locations s.records) all_named b → b ≡ false → Answers k t (Err Names)
+  names_wrong J e = record {
+    same = sym (ap (read_as k) shaped.verdict ∙ rw (← J.gives p (record { laid = laid; places = shaped.locations }), e));
   }
 
   module _ {b : Bool} (J : Judges (Counted t s.procedures s.locations s.records) all_named b) (names : b ≡ true) {n : ℕ}
@@ -75,9 +71,9 @@ module _ {k : Kind} {t : List ℕ} {s : Shape} {p : Program Plain} (shaped : Sha
     named = sym (J.gives p (record { laid = laid; places = shaped.locations })) ∙ names
 
     -- 6
-    pub labels_over : {r : ReadAnswer} → max_labels < n → r ≡ refusal 6 → Answers k t r
-    labels_over h q = record {
-      same = q ∙ sym (ap (read_as k) shaped.verdict ∙ rw (named, few_labels_lem k p, ← L.same p shaped, lt-leb n max_labels h));
+    pub labels_over : max_labels < n → Answers k t (Err Labels)
+    labels_over h = record {
+      same = sym (ap (read_as k) shaped.verdict ∙ rw (named, few_labels_lem k p, ← L.same p shaped, lt-leb n max_labels h));
     }
 
     module _ (labels : n ≤ max_labels) {c : Bool} (C : Judges (Named t s.procedures s.records) no_cycle c) where
@@ -89,11 +85,15 @@ module _ {k : Kind} {t : List ℕ} {s : Shape} {p : Program Plain} (shaped : Sha
       called = sym (C.gives p (record { laid = laid; named = named }))
 
       -- 7
-      pub cycle_found : {r : ReadAnswer} → c ≡ false → r ≡ refusal 7 → Answers k t r
-      cycle_found e q = record { same = q ∙ sym (ap (read_as k) shaped.verdict ∙ rw (named, few, called, e)) }
+      pub cycle_found : c ≡ false → Answers k t (Err Cycle)
+      cycle_found e = record { same = sym (ap (read_as k) shaped.verdict ∙ rw (named, few, called, e)) }
 
       -- what is answered of p
-      counted : read_as k (accepted p) ≡ acceptance s n
+      abbrev counts : Counts
+      counts = record { procedures = s.procedures; locations = s.locations; threads = s.threads; labels = n; cells = s.cells }
+
+      -- as the paper answers it
+      counted : read_as k (accepted p) ≡ answer_of (Ok counts)
       counted = λ i. record {
         number = 0;
         procedures = sym shaped.procedures i;
@@ -108,21 +108,19 @@ module _ {k : Kind} {t : List ℕ} {s : Shape} {p : Program Plain} (shaped : Sha
         set = sym (D.gives p (record { laid = laid; named = named }))
 
         -- 8
-        pub not_set : {r : ReadAnswer} → d ≡ false → r ≡ refusal 8 → Answers k t r
-        not_set e q = record { same = q ∙ sym (ap (read_as k) shaped.verdict ∙ rw (named, few, called, calls, set, e)) }
+        pub not_set : d ≡ false → Answers k t (Err Unset)
+        not_set e = record { same = sym (ap (read_as k) shaped.verdict ∙ rw (named, few, called, calls, set, e)) }
 
         -- accepted
-        pub all_right : {r : ReadAnswer} → d ≡ true → r ≡ acceptance s n → Answers k t r
-        all_right e q = record {
-          same = q ∙ sym (ap (read_as k) shaped.verdict ∙ rw (named, few, called, calls, set, e) counted);
+        pub all_right : d ≡ true → Answers k t (Ok counts)
+        all_right e = record {
+          same = sym (ap (read_as k) shaped.verdict ∙ rw (named, few, called, calls, set, e) counted);
         }
 
 -- one law for each way
 pub ruleset verdict_ways = (
   is_concurrent_lem,
   is_sequential,
-  shape_room,
-  labels_room,
   labels_counted,
   labels_none,
   names_wrong,
@@ -134,15 +132,18 @@ pub ruleset verdict_ways = (
 
 -- ---- rules 1 to 4 first
 
-module _ (k : Kind) (t : List ℕ) (h : Bytes t) {f : Form} (F : FormIs k t f) where
+module _ (k : Kind) (t : List ℕ) (h : Bytes t) {f : Result Shape Refusal} (F : FormIs k t f) where
   -- refused by one of them
-  pub read_refused : {n : ℕ} {r : ReadAnswer} → f ≡ Refused n → r ≡ refusal n → Answers k t r
-  read_refused e q = record { same = q ∙ sym (ap (read_as k) (subst (FormFor k t) e (F.gives h))) }
+  pub read_refused : {e : Refusal} → f ≡ Err e → Answers k t (Err e)
+  read_refused e = record { same = sym (ap (read_as k) (subst (FormFor k t) e (F.gives h))) }
 
   -- let through by all
-  pub read_shaped : {s : Shape} → f ≡ Shaped s → HasShape k t s
+  pub read_shaped : {s : Shape} → f ≡ Ok s → HasShape k t s
   read_shaped e = subst (FormFor k t) e (F.gives h)
 
 -- a slice of bytes is bytes
 pub slice_bytes : (t : List ℕ) → ((i : ℕ) → Fits w8 (get_or t i 0)) → Bytes t
 slice_bytes t h = bytes_at t (λ i l. omega (arith, h i))
+
+-- one law for each way
+pub ruleset read_ways = (read_refused, read_shaped, slice_bytes)

@@ -15,13 +15,14 @@ use Rattle.format.proofs.Laws.TablePlaces.{records_at}
 use Rattle.semantics.specs.Memory.{Memory}
 use Rattle.semantics.specs.Threads as P
 use Rattle.semantics.specs.Buffers.{cells}
-use Rattle.semantics.specs.Calls.{Outcome, result, unlabelled, plain_outcome}
+use Rattle.engine.specs.Ends.{end_of}
+use Rattle.semantics.specs.Calls.{end_number, reason_of, Outcome, result, unlabelled, plain_outcome}
 use Rattle.engine.specs.Work.{frame_words, thread_words, program_words, flat, Bases, sizes_at, Starts, Writes}
 use Rattle.engine.specs.Laws.Holding.{length_flat, holds_fresh}
 use Rattle.atomic.specs.Threaded.{thread_frames}
 use Rattle.concurrent.specs.Concurrent.{Entries, Accepted}
 use Rattle.concurrent.proofs.ConcurrentCall.{accepted_mains, main_read, mains_at, sizes_at_lem, zeros}
-use Rattle.report.specs.declared.machine.Ran.{Ran}
+use Rattle.concurrent.specs.declared.machine.Ran.{Ran}
 use Rattle.report.specs.Running.{Beginning, Begins, Starting, RanAs, Runs, Outcomes}
 use Rattle.report.proofs.Starting.{first_labels, starts_threaded, starts_rowed}
 
@@ -93,7 +94,7 @@ run_taken q R = (R.ran q).taken
 outcome_of : {p : Program Plain} {c : ℕ} {ts cs es ms os es' : List ℕ} {r : Ran} → c ≡ sum p.sizes → cell_size * c ≤ length cs
     → RanAs p ts es ms es' r → Writes ms c cs os
     → ◌≡◌ {A = Outcome} (record {
-      answer = record { number = 0; end = r.end; steps = r.taken; unused = length ts - r.taken; events = r.events; reason = r.reason };
+      answer = record { number = 0; end = end_number (end_of r.end); steps = r.taken; unused = length ts - r.taken; events = r.events; reason = reason_of (end_of r.end) };
       cells = os;
       events = es';
     }) (plain_outcome ts cs es p)
@@ -101,14 +102,15 @@ outcome_of {p} {c} {ts} {cs} {es} {os = os} {es'} {r} size room z W =
     let η : Memory = z.state.memory in
     let all : c ≡ length (flat η) = size ∙ ap sum (sym z.sizes) ∙ sym (length_flat η) in
     let wrote : os ≡ over (cells η) cs = W.written η z.memory all room in
-    rw (z.end, z.reason, z.events.count, wrote, z.events.bytes)
+    rw (z.end, z.events.count, wrote, z.events.bytes)
     (sym (ap (λ (ran : P.Ran). result ran.how ran.steps ran.unused ran.state.memory (map unlabelled ran.events) cs es) z.same))
 
 -- of the whole call
-pub run_outcome : {t : List ℕ} {P M T c n : ℕ} {ts ss depths heights rows cs es ms os es' : List ℕ} {r : Ran}
+pub run_outcome : {t : List ℕ} {P M T c n : ℕ} {ts ss depths heights rows cs es ms os es' : List ℕ} {r : Ran} {u v : ℕ}
     → Starts (sizes_at t (length t - trailer_size - 2 * T - 2 * M) M) ss n
     → Begins t (mains_in t T) (records_in t P M T) T depths heights rows
-    → Runs t (records_in t P M T) T ts ss depths heights rows (replicate thread_words 0) (replicate program_words (2 ^ 32)) es ms es' r → Writes ms c cs os
-    → Outcomes t P M T c ts cs es (record { number = 0; end = r.end; steps = r.taken; unused = length ts - r.taken; events = r.events; reason = r.reason }) os es'
+    → Runs t (records_in t P M T) T ts ss depths heights rows (replicate thread_words 0) (replicate program_words (2 ^ 32)) es ms es' r
+    → Writes ms c cs os → u ≡ end_number (end_of r.end) → v ≡ reason_of (end_of r.end)
+    → Outcomes t P M T c ts cs es (record { number = 0; end = u; steps = r.taken; unused = length ts - r.taken; events = r.events; reason = v }) os es'
 unfolding accepted_starting
-run_outcome S B R O = record { same = λ a e room. outcome_of a.cells room (R.ran (accepted_starting a e S B)) O }
+run_outcome S B R O u v = rw (u, v) (record { same = λ a e room. outcome_of a.cells room (R.ran (accepted_starting a e S B)) O })

@@ -3,33 +3,28 @@ use Prim.Native.Nat.{ℕ, suc, ◌+◌, ◌*◌, ◌-◌, ◌≤◌, ◌<◌}
 use native.Mathlib.Omega.{arith}
 use mathlib.Core.Path.{◌≡◌, sym, ◌∙◌}
 use mathlib.Core.List.{List}
-use mathlib.Core.Bool.{Bool, true, false}
+use mathlib.Core.Bool.{Bool}
 use lib.ListN.{length, get_or, set}
+use Rattle.std.specs.Prelude.{Result, Ok, Err}
 use Rattle.value.specs.declared.Reason.{Reason}
-use Rattle.value.specs.declared.Reason.TheVariants.{WrongKind}
-use Rattle.value.specs.declared.Value.{Value}
 use Rattle.basics.specs.Places.{number_at}
 use Rattle.format.specs.Syntax.{Block}
 use Rattle.format.specs.Encode.{instr, record_size}
 use Rattle.format.specs.Decode.{max_nesting}
 use Rattle.format.proofs.Laws.Grammar.{BlockAt, block_deep}
 use Rattle.labels.specs.Walks.{BlockIn}
-use Rattle.engine.specs.Work.{frame_words, Clears, Puts}
-use Rattle.engine.specs.Events.{with_event, event_of}
+use Rattle.engine.specs.Work.{frame_words, Clears}
 use Rattle.decide.specs.declared.step.Step.{Step}
 use Rattle.decide.specs.declared.step.Step.TheVariants as S
 use Rattle.decide.specs.Decided.{Poised, Kept, Lies, DecidesAll}
 use Rattle.atomic.specs.declared.block.Done.{Done}
-use Rattle.atomic.specs.declared.block.Done.TheVariants as A
-use Rattle.atomic.specs.Doing.{Doing, DoesWhole, Carrying}
-use Rattle.atomic.proofs.Carrying.{assign_room, read_room, write_room}
+use Rattle.atomic.specs.Doing.{Doing, DoesWhole, Carrying, Carries}
 use Rattle.atomic.proofs.Inside.{plain_in}
-use Rattle.report.specs.declared.step.Stepped.TheVariants.{To, Blocked}
 use Rattle.report.specs.Rows.{most_rows, Testing, Tested, HasRecord}
 use Rattle.report.specs.Stepping.{Stepping, Ready, Rules}
 use Rattle.report.proofs.Turning.{doing_atomic, atomic_stays, atomic_went}
-use Rattle.report.proofs.Taking.{turn_poised, turn_kept, turn_other, turn_stays, turn_came, call_byte, call_room, call_above, turn_calls, turn_carrying}
-use Rattle.report.proofs.Taking.{Neither, went_assign, went_read, went_write}
+use Rattle.report.proofs.Taking.{turn_poised, turn_kept, turn_came, call_byte, call_room, call_above, turn_calls, turn_carrying}
+use Rattle.report.proofs.Taking.{Straight, turn_went, turn_blocked}
 use Rattle.report.proofs.Standing.{deeper, TestAt, loops, forks, body_here}
 use Rattle.report.proofs.Ruling.{lower, lower_is, row_is, up, turning}
 use Rattle.report.proofs.Ways.{goes_next, goes_test, goes_call, stays_there, test_here}
@@ -52,16 +47,16 @@ module _ {t : List ℕ} {records : ℕ} {ss : List ℕ} {thread top : ℕ} {dept
   pub rule_doing : get_or t (place_of top heights rows) 0 ≡ 0x26 → Stepping t records ss thread depths heights rows ends ls cs o n → Ready t thread top depths heights rows ls n → Doing t thread 0 (frame_words * top) ss ((place_of top heights rows) + 1) max_nesting ls cs o n
   rule_doing e h R = doing_atomic e (turning R h)
 
-  module _ {ls' cs' o' : List ℕ} {r : Done} (e : get_or t (place_of top heights rows) 0 ≡ 0x26) (D : DoesWhole t thread 0 (frame_words * top) ss ((place_of top heights rows) + 1) max_nesting ls cs o n ls' cs' o' r) where
-    pub rule_atomic : {j k : ℕ} → r ≡ A.To j k
-        → Rules t records ss thread top depths heights rows ends ls cs o n depths heights (set rows (row_of top heights) j) ends ls' cs' o' (To k)
+  module _ {ls' cs' o' : List ℕ} {r : Result Done Reason} (e : get_or t (place_of top heights rows) 0 ≡ 0x26) (D : DoesWhole t thread 0 (frame_words * top) ss ((place_of top heights rows) + 1) max_nesting ls cs o n ls' cs' o' r) where
+    pub rule_atomic : {d : Done} → r ≡ Ok d
+        → Rules t records ss thread top depths heights rows ends ls cs o n depths heights (set rows (row_of top heights) d.next) ends ls' cs' o' (Ok d.events)
     unfolding turning
     rule_atomic q = record {
       rules = λ R. record { steps = λ h. let w = atomic_went e D (turning R h) q in goes_next R h w.0 w.1 };
     }
 
-    pub rule_atomic_blocks : {why : Reason} → r ≡ A.Blocked why
-        → Rules t records ss thread top depths heights rows ends ls cs o n depths heights rows ends ls' cs' o' (Blocked why)
+    pub rule_atomic_blocks : {why : Reason} → r ≡ Err why
+        → Rules t records ss thread top depths heights rows ends ls cs o n depths heights rows ends ls' cs' o' (Err why)
     rule_atomic_blocks q = record { rules = λ R. record { steps = λ h. stays_there R h (atomic_stays e D (turning R h) q) } }
 
   module _ (y : get_or t (place_of top heights rows) 0 ≡ 0x26 → ⊥) where
@@ -78,41 +73,19 @@ module _ {t : List ℕ} {records : ℕ} {ss : List ℕ} {thread top : ℕ} {dept
       pub rule_carrying : Stepping t records ss thread depths heights rows ends ls cs o n → Ready t thread top depths heights rows ls n → Carrying (frame_words * top) u ls₁ cs o n
       rule_carrying h R = turn_carrying y E (turning R h)
 
-      -- [assign]
-      pub rule_assign : {x j : ℕ} {v : Value} {ls' : List ℕ} → u ≡ S.Assign x v j → Puts ls₁ ls' (frame_words * top + x) v
-          → Rules t records ss thread top depths heights rows ends ls cs o n depths heights (set rows (row_of top heights) j) ends ls' cs o (To n)
-      unfolding turning
-      rule_assign e p = record {
-        rules = λ R. record { steps = λ h. let w = went_assign y E (turning R h) e p in goes_next R h w.0 (w.1 ∙ sym (next_is R h)) };
-      }
+      module _ {ls' cs' o' : List ℕ} {r : Result Done Reason} (C : Carries thread 0 (frame_words * top) u ls₁ cs o n ls' cs' o' r) where
+        -- [assign], [read], [write]
+        pub rule_carried : {d : Done} → r ≡ Ok d
+            → Rules t records ss thread top depths heights rows ends ls cs o n depths heights (set rows (row_of top heights) d.next) ends ls' cs' o' (Ok d.events)
+        unfolding turning
+        rule_carried q = record {
+          rules = λ R. record { steps = λ h. let w = turn_went y E (turning R h) C q in goes_next R h w.0 (w.1 ∙ sym (next_is R h)) };
+        }
 
-      -- [write]
-      pub rule_write : {l k c j : ℕ} {v : Value} {cs' o' : List ℕ} → u ≡ S.Write l k c v j → Puts cs cs' c v
-          → o' ≡ with_event o n (event_of (record { thread = thread; writes = true; location = l; index = k; value = v; label = 0 }))
-          → Rules t records ss thread top depths heights rows ends ls cs o n depths heights (set rows (row_of top heights) j) ends ls₁ cs' o' (To (n + 1))
-      unfolding turning
-      rule_write e p q = record {
-        rules = λ R. record { steps = λ h. let w = went_write y E (turning R h) e p q in goes_next R h w.0 (w.1 ∙ sym (next_is R h)) };
-      }
-
-      -- [read]
-      pub rule_read : {x l k j : ℕ} {v : Value} {ls' o' : List ℕ} → u ≡ S.Read x l k v j → Puts ls₁ ls' (frame_words * top + x) v
-          → o' ≡ with_event o n (event_of (record { thread = thread; writes = false; location = l; index = k; value = v; label = 0 }))
-          → Rules t records ss thread top depths heights rows ends ls cs o n depths heights (set rows (row_of top heights) j) ends ls' cs o' (To (n + 1))
-      unfolding turning
-      rule_read e p q = record {
-        rules = λ R. record { steps = λ h. let w = went_read y E (turning R h) e p q in goes_next R h w.0 (w.1 ∙ sym (next_is R h)) };
-      }
-
-      -- it blocks
-      pub rule_blocks : {why : Reason} → u ≡ S.Blocked why
-          → Rules t records ss thread top depths heights rows ends ls cs o n depths heights rows ends ls₁ cs o (Blocked why)
-      rule_blocks e = record { rules = λ R. record { steps = λ h. stays_there R h (turn_stays y E (turning R h) e) } }
-
-      -- no other step stands there
-      pub rule_other : Neither u
-          → Rules t records ss thread top depths heights rows ends ls cs o n depths heights rows ends ls₁ cs o (Blocked WrongKind)
-      rule_other k = record { rules = λ R. record { steps = λ h. absurd (turn_other y E (turning R h) k) } }
+        -- it blocks
+        pub rule_blocked : {why : Reason} → Straight u → r ≡ Err why
+            → Rules t records ss thread top depths heights rows ends ls cs o n depths heights rows ends ls' cs' o' (Err why)
+        rule_blocked k q = record { rules = λ R. record { steps = λ h. stays_there R h (turn_blocked y E (turning R h) C k q) } }
 
       -- ---- [while : true], [while : false], [if : true], [if : false]
 
@@ -146,7 +119,7 @@ module _ {t : List ℕ} {records : ℕ} {ss : List ℕ} {thread top : ℕ} {dept
           by (forks e b c l s mark first second) = make b l first (λ z. plain_in (deeper (omega arith) second))
 
       pub rule_test : {q : Bool} {j : ℕ} {heights' rows' ends' : List ℕ} → u ≡ S.Test q j → Tested t (place_of top heights rows) q j top rows heights rows' heights' ends'
-          → Rules t records ss thread top depths heights rows ends ls cs o n depths heights' rows' ends' ls₁ cs o (To n)
+          → Rules t records ss thread top depths heights rows ends ls cs o n depths heights' rows' ends' ls₁ cs o (Ok n)
       unfolding turning
       rule_test e T = record {
         rules = λ R. record { steps = λ h. let w = turn_came y E (turning R h) e in goes_test R h w.0 w.1 w.2 T };
@@ -175,33 +148,11 @@ module _ {t : List ℕ} {records : ℕ} {ss : List ℕ} {thread top : ℕ} {dept
 
           pub rule_call : {k : ℕ} → k ≡ number_at 4 t (records + record_size * q + 2)
               → Rules t records ss thread top depths heights rows ends ls cs o n (set depths thread (get_or depths thread 0 + 1)) (set heights (top + 1) 1)
-              (set (set rows (row_of top heights) j) (most_rows * (top + 1)) k) ends ls₂ cs o (To n)
+              (set (set rows (row_of top heights) j) (most_rows * (top + 1)) k) ends ls₂ cs o (Ok n)
           unfolding turning
           rule_call g = record {
             rules = λ R. record { steps = λ h. let w = turn_calls y E (turning R h) e f C in goes_call R h w.0 (w.1 ∙ sym (next_is R h)) g };
           }
 
 -- one law for each way
-pub ruleset rule_ways = (
-  rule_doing,
-  rule_atomic,
-  rule_atomic_blocks,
-  rule_poised,
-  rule_kept,
-  rule_carrying,
-  assign_room,
-  read_room,
-  write_room,
-  rule_assign,
-  rule_write,
-  rule_read,
-  rule_blocks,
-  rule_other,
-  rule_testing,
-  rule_test,
-  rule_call_byte,
-  rule_call_room,
-  rule_call_above,
-  rule_record,
-  rule_call,
-)
+pub ruleset rule_ways = (rule_doing, rule_poised, rule_kept, rule_testing, rule_test, rule_call)

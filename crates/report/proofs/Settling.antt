@@ -13,8 +13,8 @@ use Rattle.format.specs.Labels.{labelled}
 use Rattle.semantics.specs.Step.{Stack}
 use Rattle.atomic.specs.Threaded.{thread_frames, all_frames, most_frames, most_threads}
 use Rattle.concurrent.proofs.Stepping.{step_finished}
-use Rattle.report.specs.declared.step.Stepped.{Stepped}
-use Rattle.report.specs.declared.step.Stepped.TheVariants.{To, Blocked}
+use Rattle.std.specs.Prelude.{Result, Ok, Err}
+use Rattle.value.specs.declared.Reason.{Reason}
 use Rattle.report.specs.Rows.{most_rows, all_rows, RowsAt, none, Within, Leaves}
 use Rattle.report.specs.Stepping.{Stepping, Answers, Steps, Ready, Rules}
 use Rattle.report.proofs.Rowed.{few_rows, rows_within, own_rows, rows_settled}
@@ -46,7 +46,7 @@ pub record Small (t : List ℕ) (thread : ℕ) (depths heights rows : List ℕ) 
 module _ {t : List ℕ} {records : ℕ} {ss : List ℕ} {thread : ℕ} {depths heights rows ends ls cs o : List ℕ} {n : ℕ} where
   -- a finished thread blocks
   pub step_still : get_or depths thread 0 ≡ 0
-      → Steps t records ss thread depths heights rows ends ls cs o n depths heights rows ends ls cs o (Blocked FinishedThread)
+      → Steps t records ss thread depths heights rows ends ls cs o n depths heights rows ends ls cs o (Err FinishedThread)
   step_still z = record {
     steps = λ h. record {
       blocks = step_finished (labelled h.loaded.program) thread h.state (gone h (stacked h).0 (stacked h).1);
@@ -154,7 +154,7 @@ module _ {t : List ℕ} {records : ℕ} {ss : List ℕ} {thread : ℕ} {depths h
     -- none is: [return]
     pub step_returns : get_or (set heights (top_of thread depths) r) (top_of thread depths) 0 ≡ 0
         → Steps t records ss thread depths heights rows ends ls cs o n (set depths thread (get_or depths thread 0 - 1))
-        (set heights (top_of thread depths) r) rows ends ls cs o (To n)
+        (set heights (top_of thread depths) r) rows ends ls cs o (Ok n)
     unfolding settled
     step_returns y = record {
       steps = λ h.
@@ -177,7 +177,7 @@ module _ {t : List ℕ} {records : ℕ} {ss : List ℕ} {thread : ℕ} {depths h
             (own_rows thread u.frame u.below (settled h).present.rowed u.found (few_all (settled h)))
 
     -- it is done
-    pub step_rules : {depths' heights' rows' ends' ls' cs' o' : List ℕ} {x : Stepped}
+    pub step_rules : {depths' heights' rows' ends' ls' cs' o' : List ℕ} {x : Result ℕ Reason}
         → (get_or (set heights (top_of thread depths) r) (top_of thread depths) 0 ≡ 0 → ⊥)
         → Rules t records ss thread (top_of thread depths) depths (set heights (top_of thread depths) r) rows ends ls cs o n
         depths' heights' rows' ends' ls' cs' o' x
@@ -187,10 +187,10 @@ module _ {t : List ℕ} {records : ℕ} {ss : List ℕ} {thread : ℕ} {depths h
       steps = λ h. by h x ((U.rules (step_ready h y)).steps (settled h));
     }
       where
-        by : (h : Stepping t records ss thread depths heights rows ends ls cs o n) (x : Stepped) → Answers (settled h) depths' heights' rows' ends' ls' cs' o' x
+        by : (h : Stepping t records ss thread depths heights rows ends ls cs o n) (x : Result ℕ Reason) → Answers (settled h) depths' heights' rows' ends' ls' cs' o' x
             → Answers h depths' heights' rows' ends' ls' cs' o' x
-        by h (To k) w = record { step = w.step; goes = w.goes; present = w.present; few = w.few }
-        by h (Blocked why) w = record { blocks = w.blocks; present = w.present }
+        by h (Ok k) w = record { step = w.step; goes = w.goes; present = w.present; few = w.few }
+        by h (Err why) w = record { blocks = w.blocks; present = w.present }
 
 -- one law for each way
 pub ruleset step_ways = (step_still, step_within, settled, step_ready, step_returns, step_rules)

@@ -3,43 +3,39 @@ use Prim.Native.Nat.{ℕ, ◌+◌, ◌-◌, ◌≤◌, ◌<◌}
 use native.Mathlib.Omega.{arith}
 use mathlib.Core.Path.{◌≡◌, refl, sym, ap, subst, ◌∙◌}
 use mathlib.Core.List.{List, [], ◌∷◌, ◌++◌, append-nil, map}
-use mathlib.Core.Bool.{Bool, true, false}
+use mathlib.Core.Bool.{Bool}
 use lib.ListN.{length, get_or}
-use Rattle.value.specs.Try.{Try, has}
+use Rattle.value.specs.Try.{Try, has, lacks}
+use Rattle.std.specs.Prelude.{Result, Ok, Err}
 use Rattle.value.specs.declared.Reason.{Reason}
 use Rattle.value.specs.declared.Value.{Value}
-use Rattle.value.proofs.Laws.Tries.{has_inj, lacking}
+use Rattle.value.proofs.Laws.Tries.{has_inj, lacks_inj, lacking}
 use Rattle.format.specs.Encode.{instr}
 use Rattle.format.specs.Labels.{labelled}
 use Rattle.decide.specs.declared.step.Step.{Step}
 use Rattle.decide.specs.declared.step.Step.TheVariants as S
-use Rattle.engine.specs.Events.{with_event, event_of}
-use Rattle.atomic.specs.declared.block.Done.TheVariants.{To}
 use Rattle.semantics.specs.Memory.{evals, Event}
 use Rattle.semantics.specs.Step.{Stack, Moved}
 use Rattle.semantics.specs.Threads.{Atomic}
 use Rattle.semantics.specs.Calls.{unlabelled}
-use Rattle.engine.specs.Work.{frame_words, Beside, Clears, Puts}
+use Rattle.engine.specs.Work.{frame_words, Beside, Clears}
 use Rattle.engine.specs.Laws.Work.{framed_below}
 use Rattle.decide.specs.Decided.{act_end, args_of, decided, Right, Poised, Kept, Lies, DecidesAll}
 use Rattle.decide.specs.Decided as D
 use Rattle.decide.specs.Laws.Deciding.{decided_right, evals_length}
 use Rattle.atomic.specs.Doing.{Works, carried, end_of, Carrying, Carries}
+use Rattle.atomic.specs.Doing as W
+use Rattle.atomic.specs.declared.block.Done.{Done}
 use Rattle.atomic.specs.Laws.Threading.{beside_wide}
-use Rattle.atomic.proofs.Inside.{came, beside_again}
-use Rattle.atomic.proofs.Carrying.{carries_assign, carries_read, carries_write}
+use Rattle.atomic.proofs.Inside.{came, stopped, beside_again}
 use Rattle.concurrent.specs.Laws.Leading.{Called, Leads}
 use Rattle.concurrent.proofs.Turning.{step_fits, step_past, framed_called, call_count}
 use Rattle.report.proofs.Turning.{Turning, doing, Went, Came, Calls, Stays, IsTest, Ended, ended, turn_inside, asked}
 
--- a return or a select: none of the other steps
-pub record Neither (u : Step) : Type 0 where
-  pub no_assign : (x : ℕ) (v : Value) (j : ℕ) → u ≡ S.Assign x v j → ⊥
-  pub no_read : (x l z : ℕ) (v : Value) (j : ℕ) → u ≡ S.Read x l z v j → ⊥
-  pub no_write : (l z d : ℕ) (v : Value) (j : ℕ) → u ≡ S.Write l z d v j → ⊥
+-- all steps but a test and a call
+pub record Straight (u : Step) : Type 0 where
   pub no_test : (q : Bool) (j : ℕ) → u ≡ S.Test q j → ⊥
   pub no_call : (q j : ℕ) → u ≡ S.Call q j → ⊥
-  pub no_block : (q : Reason) → u ≡ S.Blocked q → ⊥
 
 module _ {t : List ℕ} {thread fb : ℕ} {bs : List ℕ} {i : ℕ} {ls cs o : List ℕ} {n : ℕ} where
   -- a step that was carried out
@@ -129,20 +125,6 @@ module _ {t : List ℕ} {thread fb : ℕ} {bs : List ℕ} {i : ℕ} {ls cs o : L
         logged = h.works.logged;
       }
 
-      -- no step of another kind
-      pub turn_other : Neither u → ⊥
-      turn_other k = by u k ending
-        where
-          by : (u : Step) → Neither u → Ended i h.running.instr u → ⊥
-          by S.Return k m = m
-          by (S.Assign x v j) k m = k.no_assign x v j refl
-          by (S.Read x l z v j) k m = k.no_read x l z v j refl
-          by (S.Write l z d v j) k m = k.no_write l z d v j refl
-          by (S.Test q j) k m = k.no_test q j refl
-          by (S.Call q j) k m = k.no_call q j refl
-          by (S.Select c e j) k m = m
-          by (S.Blocked q) k m = k.no_block q refl
-
       -- it blocks
       pub turn_stays : {why : Reason} → u ≡ S.Blocked why → Stays h ls₁ cs o why
       turn_stays e = record {
@@ -221,41 +203,42 @@ module _ {t : List ℕ} {thread fb : ℕ} {bs : List ℕ} {i : ℕ} {ls cs o : L
         few = omega (arith, h.few, turn_inside h);
       }
 
-      -- it was carried out
-      turn_went : {ls' cs' o' : List ℕ} {j k : ℕ} → Carries thread 0 fb u ls₁ cs o n ls' cs' o' (To j k)
-          → Went h ls' cs' o' k × (j ≡ i + length (instr h.running.instr))
-      unfolding turn_carrying
-      turn_went {ls'} {cs'} {o'} {j} {k} C =
-          let w = came refl (C.carries turn_carrying (end_of u - 1)
-          (step_past h.a.env h.a.memory (asked h y).act (act_end i h.running.instr) u (omega (arith, (asked h y).past)) right))
-          in
-          let v = carried_is h u ending w.is in (
-            record {
-              b = w.a;
-              new = v.new;
-              code = λ s. acts s ∙ v.code s;
-              log = v.log;
-              works = w.worked.works;
-              same = w.worked.same;
-              beside = beside_again (beside_wide above (omega arith) (omega arith)) (beside_wide w.worked.beside (omega arith) (omega arith));
-              few = omega (arith, w.worked.few, turn_inside h);
-            },
-            w.ends ∙ v.ends,
-          )
+      module _ {ls' cs' o' : List ℕ} {r : Result Done Reason} (C : Carries thread 0 fb u ls₁ cs o n ls' cs' o' r) where
+        -- how it went
+        went : W.Went fb (end_of u - 1) (end_of u) bs h.es ls₁ n (length h.a.env) ls' cs' o' (carried thread 0 u h.a) r
+        unfolding turn_carrying
+        went =
+            C.carries turn_carrying (end_of u - 1)
+            (step_past h.a.env h.a.memory (asked h y).act (act_end i h.running.instr) u (omega (arith, (asked h y).past)) right)
 
-      -- [assign]
-      pub went_assign : {x j : ℕ} {v : Value} {ls' : List ℕ} → u ≡ S.Assign x v j → Puts ls₁ ls' (fb + x) v
-          → Went h ls' cs o n × (j ≡ i + length (instr h.running.instr))
-      went_assign e p = turn_went (carries_assign e p)
+        -- it was carried out
+        pub turn_went : {d : Done} → r ≡ Ok d → Went h ls' cs' o' d.events × (d.next ≡ i + length (instr h.running.instr))
+        turn_went q =
+            let w = came q went in
+            let v = carried_is h u ending w.is in (
+              record {
+                b = w.a;
+                new = v.new;
+                code = λ s. acts s ∙ v.code s;
+                log = v.log;
+                works = w.worked.works;
+                same = w.worked.same;
+                beside = beside_again (beside_wide above (omega arith) (omega arith)) (beside_wide w.worked.beside (omega arith) (omega arith));
+                few = omega (arith, w.worked.few, turn_inside h);
+              },
+              w.ends ∙ v.ends,
+            )
 
-      -- [read]
-      pub went_read : {x l k j : ℕ} {v : Value} {ls' o' : List ℕ} → u ≡ S.Read x l k v j → Puts ls₁ ls' (fb + x) v
-          → o' ≡ with_event o n (event_of (record { thread = thread; writes = false; location = l; index = k; value = v; label = 0 }))
-          → Went h ls' cs o' (n + 1) × (j ≡ i + length (instr h.running.instr))
-      went_read e p q = turn_went (carries_read e p q)
-
-      -- [write]
-      pub went_write : {l k c j : ℕ} {v : Value} {cs' o' : List ℕ} → u ≡ S.Write l k c v j → Puts cs cs' c v
-          → o' ≡ with_event o n (event_of (record { thread = thread; writes = true; location = l; index = k; value = v; label = 0 }))
-          → Went h ls₁ cs' o' (n + 1) × (j ≡ i + length (instr h.running.instr))
-      went_write e p q = turn_went (carries_write e p q)
+        -- it blocked
+        pub turn_blocked : {why : Reason} → Straight u → r ≡ Err why → Stays h ls' cs' o' why
+        turn_blocked {why} k q = rw ((C.still _ q).0, (C.still _ q).1, (C.still _ q).2) (turn_stays (by u k ending (stopped q went)))
+          where
+            by : (u : Step) → Straight u → Ended i h.running.instr u → carried thread 0 u h.a ≡ lacks why → u ≡ S.Blocked why
+            by S.Return k m e = absurd m
+            by (S.Assign x v j) k m e = lacking (sym e)
+            by (S.Read x l z v j) k m e = lacking (sym e)
+            by (S.Write l z d v j) k m e = lacking (sym e)
+            by (S.Test q j) k m e = absurd (k.no_test q j refl)
+            by (S.Call q j) k m e = absurd (k.no_call q j refl)
+            by (S.Select c z j) k m e = absurd m
+            by (S.Blocked q) k m e = ap S.Blocked (lacks_inj e)

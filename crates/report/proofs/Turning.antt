@@ -23,7 +23,7 @@ use Rattle.format.proofs.Laws.Procs.{body_in}
 use Rattle.decide.specs.declared.step.Step.{Step}
 use Rattle.decide.specs.declared.step.Step.TheVariants as S
 use Rattle.atomic.specs.declared.block.Done.{Done}
-use Rattle.atomic.specs.declared.block.Done.TheVariants.{To, Blocked}
+use Rattle.std.specs.Prelude.{Result, Ok, Err}
 use Rattle.semantics.specs.Memory.{Env, eval, evals, index, Memory, cell, Event}
 use Rattle.semantics.specs.Step.{Stack, Moved, entered, quiet, runs}
 use Rattle.semantics.specs.Threads.{Atomic, size}
@@ -268,10 +268,10 @@ module _ {t : List ℕ} {thread fb : ℕ} {bs : List ℕ} {i : ℕ} {ls cs o : L
         same_later thread 0 (atomic_block h e).block h.a
         ∙ ap (◌⟫ λ r. has (later h.a.events r)) (act_without thread h.running.tag (atomic_block h e).block (bare h.a))
 
-  module _ {ls' cs' o' : List ℕ} {r : Done} (e : get_or t i 0 ≡ 0x26) (D : DoesWhole t thread 0 fb bs (i + 1) max_nesting ls cs o n ls' cs' o' r)
+  module _ {ls' cs' o' : List ℕ} {r : Result Done Reason} (e : get_or t i 0 ≡ 0x26) (D : DoesWhole t thread 0 fb bs (i + 1) max_nesting ls cs o n ls' cs' o' r)
       (h : Turning t thread fb bs i ls cs o n) where
     -- it blocks
-    pub atomic_stays : {why : Reason} → r ≡ Blocked why → Stays h ls' cs' o' why
+    pub atomic_stays : {why : Reason} → r ≡ Err why → Stays h ls' cs' o' why
     unfolding doing_atomic
     atomic_stays q =
         let w = D.still (doing_atomic e h) _ q in
@@ -283,9 +283,9 @@ module _ {t : List ℕ} {thread fb : ℕ} {bs : List ℕ} {i : ℕ} {ls cs o : L
         }
 
     -- it is done
-    pub atomic_went : {j k : ℕ} → r ≡ To j k → Went h ls' cs' o' k × (j ≡ h.running.next)
+    pub atomic_went : {d : Done} → r ≡ Ok d → Went h ls' cs' o' d.events × (d.next ≡ h.running.next)
     unfolding doing_atomic
-    atomic_went {j} {k} q =
+    atomic_went q =
         let b = atomic_block h e in
         let w = came q (D.does.does (doing_atomic e h)) in
         let v = chain_has (inside h e ⟫ λ r. has (without r)) _ (sym (bare_code h e) ∙ w.is) in

@@ -10,13 +10,14 @@ use Rattle.semantics.specs.declared.RunAnswer.{RunAnswer}
 use Rattle.semantics.specs.Memory.{fresh, Event}
 use Rattle.semantics.specs.Threads.{End}
 use Rattle.semantics.specs.Threads as P
-use Rattle.semantics.specs.Calls.{end_number, reason_of, Outcome, concurrent_run, unlabelled, plain_outcome}
+use Rattle.engine.specs.Ends.{end_of}
+use Rattle.semantics.specs.Calls.{Outcome, concurrent_run, unlabelled, plain_outcome}
 use Rattle.semantics.proofs.Laws.Cells.{shape}
 use Rattle.engine.specs.Work.{thread_words, Holds}
 use Rattle.engine.specs.Events.{Logged}
 use Rattle.atomic.specs.Threaded.{Threaded}
 use Rattle.concurrent.specs.Concurrent.{MainsAt, Entries, Accepted}
-use Rattle.report.specs.declared.machine.Ran.{Ran}
+use Rattle.concurrent.specs.declared.machine.Ran.{Ran}
 use Rattle.report.specs.Rows.{most_rows, all_rows, AllRows}
 use Rattle.report.specs.Stepping.{Loaded}
 
@@ -38,10 +39,6 @@ pub record Begins (t : List ℕ) (i records n : ℕ) (depths heights rows : List
 
 -- ---- the run
 
--- what a run came to
-abbrev pub ran_with : ℕ → ℕ → ℕ → ℕ → Ran
-ran_with how reason taken events = record { end = how; reason = reason; taken = taken; events = events }
-
 -- a table of n threads and a schedule of them; the stacks, the rows and the words of the locals and of the cells before the first step
 pub record Starting (t : List ℕ) (records n : ℕ) (ts ss depths heights rows ls cs : List ℕ) : Type 0 where
   pub loaded : Loaded t records ss
@@ -59,8 +56,7 @@ pub record RanAs (p : Program Plain) (ts lent cs es : List ℕ) (r : Ran) : Type
   pub state : P.State
   pub so_far : List Event
   pub same : concurrent_run p ts ≡ record { how = how; steps = r.taken; unused = length ts - r.taken; state = state; events = so_far }
-  pub end : r.end ≡ end_number how
-  pub reason : r.reason ≡ reason_of how
+  pub end : end_of r.end ≡ how
   pub memory : Holds state.memory cs
   pub sizes : shape state.memory ≡ p.sizes
   pub taken : r.taken ≤ length ts

@@ -1,5 +1,5 @@
 -- What the code for a step of a thread is asked and answers: the thread's stack, memory and events at work.
-use Rattle.std.specs.Prelude.{ℕ, ◌+◌, ◌*◌, ◌-◌, ◌^◌, ◌≤◌, ◌<◌, ◌≡◌, List, ◌++◌, map, length, get_or}
+use Rattle.std.specs.Prelude.{ℕ, ◌+◌, ◌*◌, ◌-◌, ◌^◌, ◌≤◌, ◌<◌, ◌≡◌, List, ◌++◌, map, length, get_or, Result, Ok, Err}
 use Rattle.value.specs.Try.{has, lacks}
 use Rattle.value.specs.declared.Reason.{Reason}
 use Rattle.basics.specs.Sizes.{thread_frames, most_threads, all_frames}
@@ -15,8 +15,6 @@ use Rattle.semantics.proofs.Laws.Cells.{shape}
 use Rattle.engine.specs.Work.{thread_words, Holds, Bases}
 use Rattle.engine.specs.Events.{Logged}
 use Rattle.atomic.specs.Threaded.{most_frames, Threaded}
-use Rattle.report.specs.declared.step.Stepped.{Stepped}
-use Rattle.report.specs.declared.step.Stepped.TheVariants.{To, Blocked}
 use Rattle.report.specs.Rows.{most_rows, all_rows, places, AllRows, Known}
 
 -- ---- what a run keeps
@@ -71,13 +69,13 @@ module _ {t : List ℕ} {records : ℕ} {ss : List ℕ} {thread : ℕ} {depths h
     pub present : Present t h.loaded.program h.lent depths' heights' rows' ends' ls' cs' o' n h.state h.so_far
 
   -- what is so of each answer
-  abbrev pub Answers : Stepped → Type 0
-  Answers (To k) = Went k
-  Answers (Blocked why) = Stays why
+  abbrev pub Answers : Result ℕ Reason → Type 0
+  Answers (Ok k) = Went k
+  Answers (Err why) = Stays why
 
 -- whatever run it is
 pub record Steps (t : List ℕ) (records : ℕ) (ss : List ℕ) (thread : ℕ) (depths heights rows ends ls cs o : List ℕ) (n : ℕ)
-    (depths' heights' rows' ends' ls' cs' o' : List ℕ) (r : Stepped) : Type 0 where
+    (depths' heights' rows' ends' ls' cs' o' : List ℕ) (r : Result ℕ Reason) : Type 0 where
   pub steps : (h : Stepping t records ss thread depths heights rows ends ls cs o n) → Answers h depths' heights' rows' ends' ls' cs' o' r
 
 -- ---- an instruction
@@ -102,6 +100,6 @@ pub record Ready (t : List ℕ) (thread top : ℕ) (depths heights rows ls : Lis
 
 -- it is done, or blocks
 pub record Rules (t : List ℕ) (records : ℕ) (ss : List ℕ) (thread top : ℕ) (depths heights rows ends ls cs o : List ℕ) (n : ℕ)
-    (depths' heights' rows' ends' ls' cs' o' : List ℕ) (r : Stepped) : Type 0 where
+    (depths' heights' rows' ends' ls' cs' o' : List ℕ) (r : Result ℕ Reason) : Type 0 where
   pub rules : Ready t thread top depths heights rows ls n
       → Steps t records ss thread depths heights rows ends ls cs o n depths' heights' rows' ends' ls' cs' o' r

@@ -3,28 +3,19 @@ ghost use Rattle.std.specs.Prelude.{◌≡◌, length};
 ghost use Rattle.basics.specs.Sizes.{all_frames, most_threads};
 ghost use Rattle.concurrent.specs.Concurrent.{Accepted, Entries};
 ghost use Rattle.report.specs.Rows.{all_rows};
-ghost use Rattle.report.specs.Running.{Beginning, Begins, ran_with, Starting, Runs, Outcomes};
+ghost use Rattle.report.specs.Running.{Beginning, Begins, Starting, Runs, Outcomes};
 
 use super::rows::{ALL_ROWS, PLACES, ROWS, body};
-use super::step::{Stepped, step};
+use super::step::step;
 use basics::numbers::{
-    ALL_FRAMES, BLOCKED, FINISHED, MAIN, PROGRAM_WORDS, RECORD, SIZE, STARTS, THREAD_FRAMES,
-    THREAD_WORDS, THREADS, TRAILER, USED,
+    ALL_FRAMES, MAIN, PROGRAM_WORDS, RECORD, SIZE, STARTS, THREAD_FRAMES, THREAD_WORDS, THREADS,
+    TRAILER,
 };
-use basics::reasons;
-use concurrent::machine::{finished, write_out};
+use concurrent::machine::{Ran, finished, outcome, write_out};
+use engine::ends::End;
 use engine::word::ZERO;
 use engine::{memory, table};
 use semantics::RunAnswer;
-
-// What a run came to: its end, the reason (0 unless it blocked), the entries taken, each for a step, and the events recorded.
-#[derive(Clone, Copy)]
-struct Ran {
-    end: u8,
-    reason: u8,
-    taken: usize,
-    events: usize,
-}
 
 // "Then per thread its main procedure", from `at` on: each thread begins with one frame, whose one row is the body of its main.
 fn begin(
@@ -39,26 +30,12 @@ fn begin(
     requires { Beginning t.now at records threads × (length depths.old ≡ most_threads) × (length heights.old ≡ all_frames) × (length rows.old ≡ all_rows) }
     ensures { Begins t.now at records threads depths.new heights.new rows.new }
 {
-    let mut i = 0;
-    while i < threads {
-        let main = table::two(t, at + MAIN * i) as usize;
+    for i in 0..threads {
+        let main = usize::from(table::two(t, at + MAIN * i));
         let first = THREAD_FRAMES * i;
         rows[ROWS * first] = body(t, records, main);
         heights[first] = 1;
         depths[i] = 1;
-        i += 1;
-    }
-}
-
-// How a run ended.
-fn outcome(end: u8, reason: u8, taken: usize, events: usize) -> Ran
-    ensures { result ≡ ran_with end reason taken events }
-{
-    Ran {
-        end,
-        reason,
-        taken,
-        events,
     }
 }
 
@@ -82,36 +59,23 @@ fn go(
         cells.new events.new result }
 {
     let mut ends = [0u16; PLACES];
-    let mut taken = 0;
     let mut count = 0;
-    loop {
+    for (taken, &thread) in schedule.iter().enumerate() {
         if finished(depths, threads) {
-            return outcome(FINISHED, 0, taken, count);
-        }
-        if taken == schedule.len() {
-            return outcome(USED, 0, taken, count);
+            return outcome(End::Finished, taken, count);
         }
         match step(
-            t,
-            records,
-            starts,
-            schedule[taken],
-            depths,
-            heights,
-            rows,
-            &mut ends,
-            words,
-            cells,
-            events,
+            t, records, starts, thread, depths, heights, rows, &mut ends, words, cells, events,
             count,
         ) {
-            Stepped::To(after) => count = after,
-            Stepped::Blocked(reason) => {
-                return outcome(BLOCKED, reasons::number(reason), taken, count);
-            }
+            Ok(after) => count = after,
+            Err(reason) => return outcome(End::Blocked(reason), taken, count),
         }
-        taken += 1;
     }
+    if finished(depths, threads) {
+        return outcome(End::Finished, schedule.len(), count);
+    }
+    outcome(End::UsedUp, schedule.len(), count)
 }
 
 // The run on a table that is accepted, under a schedule of its threads, with room for its cells.
@@ -164,10 +128,10 @@ pub fn run(
     write_out(&memory, count, cells);
     RunAnswer {
         number: 0,
-        end: ran.end,
+        end: ran.end.number(),
         steps: ran.taken as u64,
         unused: schedule.len() - ran.taken,
         events: ran.events as u64,
-        reason: ran.reason,
+        reason: ran.end.reason(),
     }
 }

@@ -18,19 +18,13 @@ pub const ALL_ROWS: usize = ROWS * ALL_FRAMES;
 // The positions of a concurrent table.
 pub const PLACES: usize = numbers::CONCURRENT.bytes;
 
-// An entry as a position.
-fn wide(entry: u16) -> usize
-    ensures { result ≡ entry }
-{
-    entry as usize
-}
-
 // Where the block at `at` ends. It is walked over once: `ends` keeps what was found, and 0 where nothing was.
+// stays: an array of Option<u16> has no such number, but takes twice the room on the stack
 pub fn after_block(t: &[u8], at: usize, ends: &mut [u16; PLACES]) -> usize
     requires { Passing t.now ends.old at }
     ensures { Passes t.now at ends.new result }
 {
-    let known = wide(ends[at]);
+    let known = usize::from(ends[at]);
     if known != 0 {
         return known;
     }
@@ -39,19 +33,12 @@ pub fn after_block(t: &[u8], at: usize, ends: &mut [u16; PLACES]) -> usize
     next
 }
 
-// A number of 32 bits, as a position.
-fn far(n: u32) -> usize
-    ensures { result ≡ n }
-{
-    n as usize
-}
-
 // Where the body of a procedure begins, whose record is one of those from `records` on.
 pub fn body(t: &[u8], records: usize, procedure: usize) -> usize
     requires { HasRecord t.now records procedure }
     ensures { result ≡ number_at 4 t.now (records + record_size * procedure + 2) }
 {
-    far(table::four(t, records + RECORD * procedure + 2))
+    table::four(t, records + RECORD * procedure + 2) as usize
 }
 
 // How many rows are left of `height` ones, the lowest at place `low`: those that are used up go away, without a step.
@@ -59,12 +46,10 @@ pub fn left(t: &[u8], rows: &[usize; ALL_ROWS], low: usize, height: usize) -> us
     requires { Within t.now rows.now low height }
     ensures { Leaves t.now rows.now low height result }
 {
-    let mut n = height;
-    while 0 < n {
-        if t[rows[low + n - 1]] != END {
-            return n;
+    for n in (0..height).rev() {
+        if t[rows[low + n]] != END {
+            return n + 1;
         }
-        n -= 1;
     }
     0
 }

@@ -1,23 +1,15 @@
-// One step of a thread: report RR-2017-03, figures 1 and 2. Each rule of the figures is one arm, with its name.
+// One step of a thread: report RR-2017-03, figures 1 and 2. Each rule of the figures stands by its name where it is done.
 ghost use Rattle.report.specs.Rows.{Testing, Tested};
 ghost use Rattle.report.specs.Stepping.{Stepping, Steps, Ready, Rules};
 
 use super::rows::{ALL_ROWS, PLACES, ROWS, after_block, body, left};
-use atomic::block::{Done, do_atomic};
+use atomic::block::{carry_out, do_atomic};
 use basics::numbers::{
     ALL_FRAMES, ATOMIC, FRAME, PROGRAM_WORDS, STARTS, THREAD_FRAMES, THREAD_WORDS, THREADS, WHILE,
 };
 use decide::step::{Step, decide};
-use engine::event::Event;
-use engine::{event, locals, memory, table};
+use engine::{locals, table};
 use value::Reason;
-
-// How many events there are after a thread's step, or why it did not take it.
-#[derive(Clone, Copy)]
-pub enum Stepped {
-    To(usize),
-    Blocked(Reason),
-}
 
 // Where the rows of a frame go on after a test at `at` whose expression ends at `next`.
 fn after_test(
@@ -58,7 +50,7 @@ fn after_test(
     }
 }
 
-// The first instruction of frame `top`, which is that of its uppermost row.
+// The first instruction of frame `top`, which is that of its uppermost row; answers how many events there are then.
 fn rule(
     t: &[u8],
     records: usize,
@@ -73,7 +65,7 @@ fn rule(
     cells: &mut [u64; PROGRAM_WORDS],
     events: &mut [u8],
     count: usize,
-) -> Stepped
+) -> Result<usize, Reason>
     requires stepping { Stepping t.now records starts.now thread depths.old heights.old rows.old ends.old words.old cells.old events.old count }
     requires ready { Ready t.now thread top depths.old heights.old rows.old words.old count }
     ensures { Rules t.now records starts.now thread top depths.old heights.old rows.old ends.old
@@ -85,7 +77,7 @@ fn rule(
     let base = FRAME * top;
     // [atomic], of figure 2
     if t[at] == ATOMIC {
-        return match do_atomic(
+        let went = do_atomic(
             t,
             at + 1,
             thread,
@@ -96,73 +88,17 @@ fn rule(
             cells,
             events,
             count,
-        ) {
-            Done::To { next, events: n } => {
-                rows[row] = next;
-                Stepped::To(n)
-            }
-            Done::Blocked(reason) => Stepped::Blocked(reason),
-        };
+        );
+        let done = went?;
+        rows[row] = done.next;
+        return Ok(done.events);
     }
-    match decide(t, words, base, starts, cells, at) {
-        // [assign]
-        Step::Assign { x, value, next } => {
-            locals::put(words, base, x, value);
-            rows[row] = next;
-            Stepped::To(count)
-        }
-        // [write]; the figure has the names of this rule and the next one the other way round
-        Step::Write {
-            location,
-            index,
-            cell,
-            value,
-            next,
-        } => {
-            memory::put(cells, cell, value);
-            event::write_event(
-                events,
-                count,
-                Event {
-                    thread,
-                    writes: true,
-                    location,
-                    index,
-                    value,
-                    label: 0,
-                },
-            );
-            rows[row] = next;
-            Stepped::To(count + 1)
-        }
-        // [read]
-        Step::Read {
-            x,
-            location,
-            index,
-            value,
-            next,
-        } => {
-            locals::put(words, base, x, value);
-            event::write_event(
-                events,
-                count,
-                Event {
-                    thread,
-                    writes: false,
-                    location,
-                    index,
-                    value,
-                    label: 0,
-                },
-            );
-            rows[row] = next;
-            Stepped::To(count + 1)
-        }
+    let step = decide(t, words, base, starts, cells, at);
+    match step {
         // [while : true], [while : false], [if : true], [if : false]
         Step::Test { truth, next } => {
             after_test(t, at, truth, next, top, rows, heights, ends);
-            Stepped::To(count)
+            Ok(count)
         }
         // [call]; that the procedure runs in no frame is so by rule 7
         Step::Call { procedure, next } => {
@@ -172,15 +108,18 @@ fn rule(
             rows[ROWS * (top + 1)] = body(t, records, procedure);
             heights[top + 1] = 1;
             depths[thread as usize] += 1;
-            Stepped::To(count)
+            Ok(count)
         }
-        Step::Blocked(reason) => Stepped::Blocked(reason),
-        // no select stands in a concurrent table, and a row's end is no instruction
-        _ => Stepped::Blocked(Reason::WrongKind),
+        // [assign], [read], [write]; the figure has the names of the last two the other way round. No other step stands in a row
+        _ => {
+            let done = carry_out(step, thread, 0, base, words, cells, events, count)?;
+            rows[row] = done.next;
+            Ok(done.events)
+        }
     }
 }
 
-// Thread `thread` takes a step, if it can: figure 2, [seq]. Frame d of thread i is frame THREAD_FRAMES * i + d of all.
+// Thread `thread` takes a step, if it can, and answers how many events there are then: figure 2, [seq]. Frame d of thread i is frame THREAD_FRAMES * i + d of all.
 pub fn step(
     t: &[u8],
     records: usize,
@@ -194,7 +133,7 @@ pub fn step(
     cells: &mut [u64; PROGRAM_WORDS],
     events: &mut [u8],
     count: usize,
-) -> Stepped
+) -> Result<usize, Reason>
     requires { Stepping t.now records starts.now thread depths.old heights.old rows.old ends.old words.old cells.old events.old count }
     ensures { Steps t.now records starts.now thread depths.old heights.old rows.old ends.old
         words.old cells.old events.old count
@@ -203,7 +142,7 @@ pub fn step(
     let i = thread as usize;
     // "4 finished thread chosen".
     if depths[i] == 0 {
-        return Stepped::Blocked(Reason::FinishedThread);
+        return Err(Reason::FinishedThread);
     }
     let top = THREAD_FRAMES * i + depths[i] - 1;
     // a row that is used up goes away
@@ -211,7 +150,7 @@ pub fn step(
     // [return]: no code remains
     if heights[top] == 0 {
         depths[i] -= 1;
-        return Stepped::To(count);
+        return Ok(count);
     }
     rule(
         t, records, starts, thread, top, depths, heights, rows, ends, words, cells, events, count,

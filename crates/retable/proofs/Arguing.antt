@@ -21,7 +21,7 @@ use Rattle.retable.specs.Laws.Exprs.{Parses, ParsesByte, ParsesTwo, ParsesExpr}
 use Rattle.retable.specs.Laws.Lines.{ParsesPointed, ParsesTarget, ParsesWrite, ParsesSelect, ParsesCall, Argued, ParsesMore, ParsesArgs, ParsesCounted}
 use Rattle.retable.specs.declared.pieces.Numbered.{Numbered}
 use Rattle.retable.specs.declared.exprs.Parsed.{Parsed}
-use Rattle.retable.specs.declared.statements.Arguments.{Arguments}
+use Rattle.retable.specs.declared.exprs.Listed.{Listed}
 
 -- ---- from what stands at a place
 
@@ -160,7 +160,7 @@ select_way {x} {i} {o} {o₃ = o₃} {p} {p₁} {s} {t} {u} {a} {b} P S A T B U 
 
 -- what is written from k on, behind n arguments, is what is written from i on, behind m
 pub record MoreFrom (x : List ℕ) (i m : ℕ) (o : List ℕ) (p k n : ℕ) (o' : List ℕ) (q : ℕ) : Type 0 where
-  pub back : {o'' : List ℕ} {r : Arguments} → ParsesMore x k n o' q o'' r → ParsesMore x i m o p o'' r
+  pub back : {o'' : List ℕ} {r : Listed ℕ} → ParsesMore x k n o' q o'' r → ParsesMore x i m o p o'' r
   pub kept : length o' ≡ length o
 
 -- no arguments
@@ -173,7 +173,7 @@ args_void {x} {i} {k} {o} {p} e f = record {
 }
 
 -- the first, and the others
-pub args_first : {x : List ℕ} {i k : ℕ} {o o₁ o₂ : List ℕ} {p : ℕ} {e : Parsed} {r : Arguments} → k ≡ get_or x (i + 0) 0 → (k ≡ 41 → ⊥)
+pub args_first : {x : List ℕ} {i k : ℕ} {o o₁ o₂ : List ℕ} {p : ℕ} {e : Parsed} {r : Listed ℕ} → k ≡ get_or x (i + 0) 0 → (k ≡ 41 → ⊥)
     → ParsesExpr x i 16 o p o₁ e → ParsesMore x e.next 1 o₁ e.to o₂ r → ParsesArgs x i o p o₂ r
 args_first {x} {i} {k} {o} {o₁} {o₂} {p} {e} {r} q f E M = record { gives = go }
   where
@@ -197,7 +197,7 @@ module _ {x : List ℕ} {i m : ℕ} {o : List ℕ} {p k n : ℕ} {o₁ : List �
       → length o₂ ≡ length o₁ → MoreFrom x i m o p e.next (n + 1) o₂ e.to
   more_next {o₂} {b} {s} {e} c f S E keep = record { back = λ M. F.back (record { gives = λ es j h l. go M es j h l }); kept = keep ∙ F.kept }
     where
-      go : {o'' : List ℕ} {r : Arguments} → ParsesMore x e.next (n + 1) o₂ e.to o'' r → (es : List Expr) (j : ℕ) → MoreText x k es j
+      go : {o'' : List ℕ} {r : Listed ℕ} → ParsesMore x e.next (n + 1) o₂ e.to o'' r → (es : List Expr) (j : ℕ) → MoreText x k es j
           → n + length es < 2 ^ 8 → Argued n es j o₁ q o'' r
       go {o''} {r} M es j h l =
           let comma : get_or x k 0 ≡ 44 = rw add-zero at (sym c ∙ f) in
@@ -219,12 +219,18 @@ module _ {x : List ℕ} {i m : ℕ} {o : List ℕ} {p k n : ℕ} {o₁ : List �
           rw none.0 (record { count = omega arith; puts = put_none; ends = sym none.1 })
 
   -- as many as there may be
-  pub more_full : 255 ≤ n → ParsesMore x i m o p o₁ (record { count = n; next = k; to = q })
-  more_full f = F.back (record { gives = go })
+  more_many : 255 ≤ n → ParsesMore x i m o p o₁ (record { count = n; next = k; to = q })
+  more_many f = F.back (record { gives = go })
     where
       go : (es : List Expr) (j : ℕ) → MoreText x k es j → n + length es < 2 ^ 8 → Argued n es j o₁ q o₁ (record { count = n; next = k; to = q })
       go [] j h l = record { count = omega arith; puts = put_none; ends = omega (arith, h.stands.ends) }
       go (e ∷ es) j h l = absurd (omega arith)
+
+-- which is 255
+pub more_full : {x : List ℕ} {i m : ℕ} {o : List ℕ} {p k : ℕ} (n : ℕ) {o₁ : List ℕ} {q : ℕ} → MoreFrom x i m o p k n o₁ q → 255 ≤ n → n ≤ 255
+    → ParsesMore x i m o p o₁ (record { count = 255; next = k; to = q })
+more_full {x} {i} {m} {o} {p} {k} n {o₁} {q} F f g =
+    subst (λ n. ParsesMore x i m o p o₁ (record { count = n; next = k; to = q })) (omega arith) (more_many F f)
 
 -- ---- calls
 
@@ -246,7 +252,7 @@ put_anew {o} {o'} {o''} {p} {b = b} {c} {bs} P C = record {
 }
 
 -- the number of arguments, and the arguments
-pub counted_way : {x : List ℕ} {i : ℕ} {o o₁ o₂ o₃ : List ℕ} {p q z : ℕ} {a : Arguments} → Put o p (0 ∷ []) o₁ q → ParsesArgs x i o₁ q o₂ a
+pub counted_way : {x : List ℕ} {i : ℕ} {o o₁ o₂ o₃ : List ℕ} {p q z : ℕ} {a : Listed ℕ} → Put o p (0 ∷ []) o₁ q → ParsesArgs x i o₁ q o₂ a
     → Put o₂ p (a.count ∷ []) o₃ z → ParsesCounted x i o p o₃ (record { next = a.next; to = a.to })
 counted_way {a = a} Z A C = record {
   gives = λ es j h l.

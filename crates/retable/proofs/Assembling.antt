@@ -27,8 +27,8 @@ use Rattle.retable.specs.Laws.Frames.{ParsesSizes, SkipsAreas, Few, SkipsDeclara
 use Rattle.retable.specs.Laws.Whole.{Defines, ParsesDefinition, DefinesAll, ParsesDefinitions, FoundIn, Finds, PutsMiddle}
 use Rattle.retable.specs.Laws.Whole.{Counts, Lengths, Trails, Reparses}
 use Rattle.retable.specs.declared.exprs.Parsed.{Parsed}
-use Rattle.retable.specs.declared.frames.Sizes.{Sizes}
-use Rattle.retable.specs.declared.frames.Declared.{Declared}
+use Rattle.retable.specs.declared.exprs.Listed.{Listed}
+use Rattle.retable.specs.declared.frames.Counted.{Counted}
 use Rattle.retable.specs.declared.frames.Locals.{Locals}
 use Rattle.retable.specs.declared.whole.Defined.{Defined}
 use Rattle.retable.specs.declared.whole.Coded.{Coded}
@@ -66,15 +66,15 @@ pub record DefinedFrom (x : List ℕ) (i n : ℕ) (o : List ℕ) (q : ℕ) (row 
   pub rows : length row₁ ≡ length row
 
 -- at the start
-pub defined_start : {x : List ℕ} {i n : ℕ} {o : List ℕ} {q : ℕ} {row : List ℕ} {e : ℕ} → DefinedFrom x i n o q row e i n o q row e
-defined_start = record { back = λ D. D; kept = refl; rows = refl }
+pub defined_start : {x : List ℕ} {i n : ℕ} {o : List ℕ} {q : ℕ} {row : List ℕ} {e : ℕ} → DefinedFrom x i n o q row e i (n - 0) o q row e
+defined_start {n = n} = let all : n - 0 ≡ n = omega arith in rw all (record { back = λ D. D; kept = refl; rows = refl })
 
 module _ {x : List ℕ} {i n : ℕ} {o : List ℕ} {q : ℕ} {row : List ℕ} {e j m : ℕ} {o₁ : List ℕ} {q₁ : ℕ} {row₁ : List ℕ} {e₁ : ℕ}
     (F : DefinedFrom x i n o q row e j m o₁ q₁ row₁ e₁) where
   -- one more
-  pub defined_next : {o₂ row₂ : List ℕ} {d : Defined} → 0 < m → ParsesDefinition x j o₁ q₁ row₁ e₁ o₂ row₂ d → length o₂ ≡ length o₁
+  defined_by : {o₂ row₂ : List ℕ} {d : Defined} → 0 < m → ParsesDefinition x j o₁ q₁ row₁ e₁ o₂ row₂ d → length o₂ ≡ length o₁
       → length row₂ ≡ length row₁ → DefinedFrom x i n o q row e d.next (m - 1) o₂ d.to row₂ d.row
-  defined_next {o₂} {row₂} {d} some D keep rows = record {
+  defined_by {o₂} {row₂} {d} some D keep rows = record {
     back = λ S. F.back (record { gives = λ k ps t h few l fits. go S k ps t h few l fits });
     kept = keep ∙ F.kept;
     rows = rows ∙ F.rows;
@@ -101,13 +101,26 @@ module _ {x : List ℕ} {i n : ℕ} {o : List ℕ} {q : ℕ} {row : List ℕ} {e
           }
 
   -- none is left
-  pub defined_end : m ≤ 0 → ParsesDefinitions x i n o q row e o₁ row₁ (record { to = q₁; row = e₁ })
-  defined_end none = F.back (record { gives = go })
+  defined_over : m ≤ 0 → ParsesDefinitions x i n o q row e o₁ row₁ (record { to = q₁; row = e₁ })
+  defined_over none = F.back (record { gives = go })
     where
       go : (k : ℕ) (ps : List (Proc Plain)) (t : ℕ) → DefinitionsText x j k ps t → Each Few ps → length ps ≡ m
           → q₁ + length (each block (bodies_of ps)) ≤ too_long → DefinesAll ps o₁ q₁ row₁ e₁ o₁ row₁ (record { to = q₁; row = e₁ })
       go k [] t h few l fits = record { code = put_none; entries = put_none }
       go k (p ∷ ps) t h few l fits = absurd (omega arith)
+
+-- behind c of them
+pub defined_next : {x : List ℕ} {i n : ℕ} {o : List ℕ} {q : ℕ} {row : List ℕ} {e j : ℕ} {o₁ : List ℕ} {q₁ : ℕ} {row₁ : List ℕ} {e₁ : ℕ} {o₂ row₂ : List ℕ}
+    {d : Defined} (c : ℕ) → DefinedFrom x i n o q row e j (n - c) o₁ q₁ row₁ e₁ → c < n → ParsesDefinition x j o₁ q₁ row₁ e₁ o₂ row₂ d
+    → length o₂ ≡ length o₁ → length row₂ ≡ length row₁ → DefinedFrom x i n o q row e d.next (n - (c + 1)) o₂ d.to row₂ d.row
+defined_next {n = n} c F some D keep rows =
+    let less : n - c - 1 ≡ n - (c + 1) = omega arith in
+    rw less at (defined_by F (omega arith) D keep rows)
+
+-- behind all of them
+pub defined_end : {x : List ℕ} {i n : ℕ} {o : List ℕ} {q : ℕ} {row : List ℕ} {e j : ℕ} {o₁ : List ℕ} {q₁ : ℕ} {row₁ : List ℕ} {e₁ : ℕ} (c : ℕ)
+    → DefinedFrom x i n o q row e j (n - c) o₁ q₁ row₁ e₁ → n ≤ c → ParsesDefinitions x i n o q row e o₁ row₁ (record { to = q₁; row = e₁ })
+defined_end c F none = defined_over F (omega arith)
 
 -- ---- around them
 
@@ -120,7 +133,7 @@ sizes_at_lem : {x : List ℕ} (p : Program Plain) (h : ProgramText x p) → Loca
 sizes_at_lem {x} p h = subst (λ i. LocationsText x i 0 p.sizes h.a) prelude_long h.locations
 
 -- what stands before the definitions
-pub find_way : {x o o' : List ℕ} {p t a u : ℕ} {s : Sizes} {d : Declared} → ParsesSizes x 5071 0 o p o' s → Skips x s.next 27 t → SkipsAreas x t s.count a
+pub find_way : {x o o' : List ℕ} {p t a u : ℕ} {s : Listed ℕ} {d : Counted ℕ} → ParsesSizes x 5071 0 o p o' s → Skips x s.next 27 t → SkipsAreas x t s.count a
     → Skips x a 15 u → SkipsDeclarations x u 0 d
     → Finds x (record { locations = s.count % 65536; procedures = d.count % 65536; next = d.next })
 find_way {x} {t = t} {a} {u} {s} {d} S T A U D = record { gives = gives }
@@ -152,7 +165,7 @@ slice_is : {t bs : List ℕ} {j : ℕ} → Stands t 0 bs j → slice 0 j t ≡ b
 slice_is {t} {bs} {j} s = (in_take t j (omega arith) s).same ∙ rw slice_empty (append-nil bs)
 
 -- records and sizes
-pub middle_way : {x row : List ℕ} {e : ℕ} {o o₁ o₂ : List ℕ} {q q₁ : ℕ} {s : Sizes} → Put o q (slice 0 e row) o₁ q₁ → ParsesSizes x 5071 0 o₁ q₁ o₂ s
+pub middle_way : {x row : List ℕ} {e : ℕ} {o o₁ o₂ : List ℕ} {q q₁ : ℕ} {s : Listed ℕ} → Put o q (slice 0 e row) o₁ q₁ → ParsesSizes x 5071 0 o₁ q₁ o₂ s
     → PutsMiddle x row e o q o₂ s.to
 middle_way P S = record {
   gives = λ p sound e bs a.

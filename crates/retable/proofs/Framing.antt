@@ -23,7 +23,7 @@ use Rattle.retable.specs.Laws.Exprs.{ParsesTwo}
 use Rattle.retable.specs.Laws.Frames.{SkipsTwo, ParsesLocation, Sized, ParsesSizes, SkipsAreas}
 use Rattle.retable.specs.declared.pieces.Numbered.{Numbered}
 use Rattle.retable.specs.declared.exprs.Parsed.{Parsed}
-use Rattle.retable.specs.declared.frames.Sizes.{Sizes}
+use Rattle.retable.specs.declared.exprs.Listed.{Listed}
 use Rattle.retable.proofs.Arguing.{hop, number_from, number_is, two_at_lem}
 
 -- the first byte
@@ -62,7 +62,7 @@ location_way S N T R U = record {
 
 -- what is written from j on, behind location k, is what is written from i on, behind h
 pub record SizesFrom (x : List ℕ) (i h : ℕ) (o : List ℕ) (p j k : ℕ) (o' : List ℕ) (q : ℕ) : Type 0 where
-  pub back : {o'' : List ℕ} {r : Sizes} → ParsesSizes x j k o' q o'' r → ParsesSizes x i h o p o'' r
+  pub back : {o'' : List ℕ} {r : Listed ℕ} → ParsesSizes x j k o' q o'' r → ParsesSizes x i h o p o'' r
   pub kept : length o' ≡ length o
 
 -- at the start
@@ -79,7 +79,7 @@ module _ {x : List ℕ} {i h : ℕ} {o : List ℕ} {p j k : ℕ} {o₁ : List �
       → SizesFrom x i h o p r.next (k + 1) o₂ r.to
   sizes_next {o₂} {b} {r} e f L keep = record { back = λ S. F.back (record { gives = λ ss n a l. go S ss n a l }); kept = keep ∙ F.kept }
     where
-      go : {o'' : List ℕ} {a : Sizes} → ParsesSizes x r.next (k + 1) o₂ r.to o'' a → (ss : List ℕ) (n : ℕ) → LocationsText x j k ss n
+      go : {o'' : List ℕ} {a : Listed ℕ} → ParsesSizes x r.next (k + 1) o₂ r.to o'' a → (ss : List ℕ) (n : ℕ) → LocationsText x j k ss n
           → k + length ss ≤ (limits sequential).places → Sized k ss n o₁ q o'' a
       go S ss n t l =
           let w : LocationIn x j k ss n = locations_next t (sym (at_once x j e) ∙ f) in
@@ -104,13 +104,19 @@ module _ {x : List ℕ} {i h : ℕ} {o : List ℕ} {p j k : ℕ} {o₁ : List �
           rw none.0 (record { count = omega arith; puts = put_none; ends = sym none.1 })
 
   -- as many as there may be
-  pub sizes_full : (limits sequential).places ≤ k → ParsesSizes x i h o p o₁ (record { count = k; next = j; to = q })
-  sizes_full f = F.back (record { gives = go })
+  sizes_many : (limits sequential).places ≤ k → ParsesSizes x i h o p o₁ (record { count = k; next = j; to = q })
+  sizes_many f = F.back (record { gives = go })
     where
       go : (ss : List ℕ) (n : ℕ) → LocationsText x j k ss n → k + length ss ≤ (limits sequential).places
           → Sized k ss n o₁ q o₁ (record { count = k; next = j; to = q })
       go [] n t l = record { count = omega arith; puts = put_none; ends = omega (arith, t.stands.ends) }
       go (s ∷ ss) n t l = absurd (omega arith)
+
+-- which is 512
+pub sizes_full : {x : List ℕ} {i h : ℕ} {o : List ℕ} {p j : ℕ} (k : ℕ) {o₁ : List ℕ} {q : ℕ} → SizesFrom x i h o p j k o₁ q → 512 ≤ k → k ≤ 512
+    → ParsesSizes x i h o p o₁ (record { count = 512; next = j; to = q })
+sizes_full {x} {i} {h} {o} {p} {j} k {o₁} {q} F f g =
+    subst (λ n. ParsesSizes x i h o p o₁ (record { count = n; next = j; to = q })) (omega arith) (sizes_many F f)
 
 -- ---- areas
 
@@ -119,13 +125,13 @@ pub record AreasFrom (x : List ℕ) (i n j m : ℕ) : Type 0 where
   pub back : {r : ℕ} → SkipsAreas x j m r → SkipsAreas x i n r
 
 -- at the start
-pub areas_start : {x : List ℕ} {i n : ℕ} → AreasFrom x i n i n
-areas_start = record { back = λ S. S }
+pub areas_start : {x : List ℕ} {i n : ℕ} → AreasFrom x i n i (n - 0)
+areas_start {n = n} = let all : n - 0 ≡ n = omega arith in rw all (record { back = λ S. S })
 
 -- one more
-pub areas_next : {x : List ℕ} {i n j m t : ℕ} → AreasFrom x i n j m → 0 < m → SkipsTwo x j 5 2 4 t → AreasFrom x i n t (m - 1)
+areas_by : {x : List ℕ} {i n j m t : ℕ} → AreasFrom x i n j m → 0 < m → SkipsTwo x j 5 2 4 t → AreasFrom x i n t (m - 1)
 unfolding say
-areas_next {x} {i} {n} {j} {m} {t} F some T = record { back = λ {r} S. F.back (record { to = go r S }) }
+areas_by {x} {i} {n} {j} {m} {t} F some T = record { back = λ {r} S. F.back (record { to = go r S }) }
   where
     go : (r : ℕ) → SkipsAreas x t (m - 1) r → (k : ℕ) (ss : List ℕ) (e : ℕ) → Stands x j (numbered area k ss) e → Each (λ n. n < 2 ^ 16) ss
         → k + length ss ≤ 2 ^ 16
@@ -140,13 +146,21 @@ areas_next {x} {i} {n} {j} {m} {t} F some T = record { back = λ {r} S. F.back (
         let place = T.to k a _ _ index.0 size.0 (omega (arith, size.1.ends, here.fits)) in
         S.to (suc k) ss e (shift after (size.1.ends ∙ sym place)) f.1 (omega arith) (omega arith)
 
+-- behind c of them
+pub areas_next : {x : List ℕ} {i n j t : ℕ} (c : ℕ) → AreasFrom x i n j (n - c) → c < n → SkipsTwo x j 5 2 4 t → AreasFrom x i n t (n - (c + 1))
+areas_next {n = n} c F some T = let less : n - c - 1 ≡ n - (c + 1) = omega arith in rw less at (areas_by F (omega arith) T)
+
 -- none is left
-pub areas_end : {x : List ℕ} {i n j m : ℕ} → AreasFrom x i n j m → m ≤ 0 → SkipsAreas x i n j
-areas_end {x} {i} {n} {j} {m} F none = F.back (record { to = go })
+areas_over : {x : List ℕ} {i n j m : ℕ} → AreasFrom x i n j m → m ≤ 0 → SkipsAreas x i n j
+areas_over {x} {i} {n} {j} {m} F none = F.back (record { to = go })
   where
     go : (k : ℕ) (ss : List ℕ) (e : ℕ) → Stands x j (numbered area k ss) e → Each (λ n. n < 2 ^ 16) ss → k + length ss ≤ 2 ^ 16 → length ss ≡ m → j ≡ e
     go k [] e s f l g = omega (arith, s.ends)
     go k (a ∷ ss) e s f l g = absurd (omega arith)
+
+-- behind all of them
+pub areas_end : {x : List ℕ} {i n j : ℕ} (c : ℕ) → AreasFrom x i n j (n - c) → n ≤ c → SkipsAreas x i n j
+areas_end c F none = areas_over F (omega arith)
 
 -- one law for each way
 pub ruleset place_laws = (two_numbers, location_way)

@@ -26,10 +26,9 @@ use Rattle.ctext.proofs.Laws.FrameText.{DeclarationsText, declaration_parts, hea
 use Rattle.ctext.proofs.Laws.DefinitionText.{UnsetsText, unsetting, unsets_end, unsets_next, unset_after, DefinitionIn}
 use Rattle.retable.specs.Laws.Pieces.{Skips, ReadsNumber}
 use Rattle.retable.specs.Laws.Frames.{SkipsTwo, Counts, CountsMore, CountsParams, CountsHead}
-use Rattle.retable.specs.Laws.Frames.{Declares, Few, SkipsDeclarations, SkipsArgs, CountsUnsets, Counting, CountsLocals}
+use Rattle.retable.specs.Laws.Frames.{Few, SkipsDeclarations, SkipsArgs, CountsUnsets, Counting, CountsLocals}
 use Rattle.retable.specs.declared.pieces.Numbered.{Numbered}
 use Rattle.retable.specs.declared.frames.Counted.{Counted}
-use Rattle.retable.specs.declared.frames.Declared.{Declared}
 use Rattle.retable.proofs.Arguing.{hop, number_from, number_is}
 
 -- the first byte
@@ -44,7 +43,7 @@ low l d = omega (arith, l, d.least)
 
 -- behind j, behind b parameters, as behind i, behind a
 pub record ParamsFrom (x : List ℕ) (i a j b : ℕ) : Type 0 where
-  pub back : {r : Counted} → CountsMore x j b r → CountsMore x i a r
+  pub back : {r : Counted ℕ} → CountsMore x j b r → CountsMore x i a r
 
 -- at the start
 pub params_start : {x : List ℕ} {i a : ℕ} → ParamsFrom x i a i a
@@ -55,7 +54,7 @@ module _ {x : List ℕ} {i a j b : ℕ} (F : ParamsFrom x i a j b) where
   pub params_next : {c s : ℕ} {n : Numbered} → c ≡ get_or x (j + 0) 0 → c ≡ 44 → Skips x j 11 s → ReadsNumber x s n → ParamsFrom x i a n.next (b + 1)
   params_next {c} {s} {n} e f S N = record { back = λ {r} M. F.back (record { gives = go r M }) }
     where
-      go : (r : Counted) → CountsMore x n.next (b + 1) r → (m k : ℕ) → MoreParams x j b m k → b + m < 2 ^ 8 → Counts (b + m) k r
+      go : (r : Counted ℕ) → CountsMore x n.next (b + 1) r → (m k : ℕ) → MoreParams x j b m k → b + m < 2 ^ 8 → Counts (b + m) k r
       go r M m k h l =
           let some : (l : ℕ) × (m ≡ suc l) = more_params_some h (sym (at_once x j e) ∙ f) in
           let parts = more_next (subst (λ m. MoreParams x j b m k) some.1 h) in
@@ -76,12 +75,16 @@ module _ {x : List ℕ} {i a j b : ℕ} (F : ParamsFrom x i a j b) where
   })
 
   -- as many as there may be
-  pub params_full : 255 ≤ b → CountsMore x i a (record { count = b; next = j })
-  params_full f = F.back (record { gives = go })
+  params_many : 255 ≤ b → CountsMore x i a (record { count = b; next = j })
+  params_many f = F.back (record { gives = go })
     where
       go : (m k : ℕ) → MoreParams x j b m k → b + m < 2 ^ 8 → Counts (b + m) k (record { count = b; next = j })
       go zero k h l = record { count = omega arith; ends = omega (arith, h.stands.ends) }
       go (suc m) k h l = absurd (omega arith)
+
+-- which is 255
+pub params_full : {x : List ℕ} {i a j : ℕ} (b : ℕ) → ParamsFrom x i a j b → 255 ≤ b → b ≤ 255 → CountsMore x i a (record { count = 255; next = j })
+params_full {x} {i} {a} {j} b F f g = subst (λ n. CountsMore x i a (record { count = n; next = j })) (omega arith) (params_many F f)
 
 -- (void)
 pub params_void : {x : List ℕ} {i c t : ℕ} → c ≡ get_or x (i + 0) 0 → c ≡ 118 → Skips x i 4 t → CountsParams x i (record { count = 0; next = t })
@@ -93,7 +96,7 @@ params_void {x} {i} {c} {t} e f T = record { gives = go }
     go (suc n) j h l = absurd (omega (arith, params_none h (sym (at_once x i e) ∙ f)))
 
 -- (z_value
-pub params_all : {x : List ℕ} {i c t : ℕ} {r : Counted} → c ≡ get_or x (i + 0) 0 → (c ≡ 118 → ⊥) → Skips x i 10 t → CountsMore x t 1 r → CountsParams x i r
+pub params_all : {x : List ℕ} {i c t : ℕ} {r : Counted ℕ} → c ≡ get_or x (i + 0) 0 → (c ≡ 118 → ⊥) → Skips x i 10 t → CountsMore x t 1 r → CountsParams x i r
 params_all {x} {i} {c} {t} {r} e f T M = record { gives = go }
   where
     go : (n j : ℕ) → ParamsText x i n j → n < 2 ^ 8 → Counts n j r
@@ -111,7 +114,7 @@ params_from : {x : List ℕ} {i n j : ℕ} → ParamsText x i n j → i ≤ leng
 params_from h = omega (arith, h.stands.ends, h.stands.fits)
 
 -- a head
-pub head_way : {x : List ℕ} {i s t : ℕ} {n : Numbered} {r : Counted} → Skips x i 6 s → ReadsNumber x s n → Skips x n.next 1 t → CountsParams x t r
+pub head_way : {x : List ℕ} {i s t : ℕ} {n : Numbered} {r : Counted ℕ} → Skips x i 6 s → ReadsNumber x s n → Skips x n.next 1 t → CountsParams x t r
     → CountsHead x i r
 head_way {x} S N T P = record {
   gives = λ k n m j A B l.
@@ -122,7 +125,7 @@ head_way {x} S N T P = record {
 
 -- behind j, behind b declarations, as behind i, behind a
 pub record DeclaredFrom (x : List ℕ) (i a j b : ℕ) : Type 0 where
-  pub back : {r : Declared} → SkipsDeclarations x j b r → SkipsDeclarations x i a r
+  pub back : {r : Counted ℕ} → SkipsDeclarations x j b r → SkipsDeclarations x i a r
 
 -- at the start
 pub declared_start : {x : List ℕ} {i a : ℕ} → DeclaredFrom x i a i a
@@ -130,11 +133,11 @@ declared_start = record { back = λ D. D }
 
 module _ {x : List ℕ} {i a j b : ℕ} (F : DeclaredFrom x i a j b) where
   -- one more
-  pub declared_next : {c t : ℕ} {h : Counted} → c ≡ get_or x (j + 0) 0 → c ≡ 118 → CountsHead x j h → Skips x h.next 3 t → DeclaredFrom x i a t (b + 1)
+  pub declared_next : {c t : ℕ} {h : Counted ℕ} → c ≡ get_or x (j + 0) 0 → c ≡ 118 → CountsHead x j h → Skips x h.next 3 t → DeclaredFrom x i a t (b + 1)
   declared_next {c} {t} {h} e f H T = record { back = λ {r} D. F.back (record { gives = go r D }) }
     where
-      go : (r : Declared) → SkipsDeclarations x t (b + 1) r → (ps : List (Proc Plain)) (k : ℕ) → DeclarationsText x j b ps k → Each Few ps
-          → b + length ps ≤ (limits sequential).procs → Declares (b + length ps) k r
+      go : (r : Counted ℕ) → SkipsDeclarations x t (b + 1) r → (ps : List (Proc Plain)) (k : ℕ) → DeclarationsText x j b ps k → Each Few ps
+          → b + length ps ≤ (limits sequential).procs → Counts (b + length ps) k r
       go r D [] k d few l =
           let here : j ≡ k = omega (arith, d.stands.ends) in
           absurd (omega (arith, subst (λ k. get_or x k 0 ≡ 10) (sym here) d.follows, at_once x j e))
@@ -157,18 +160,22 @@ module _ {x : List ℕ} {i a j b : ℕ} (F : DeclaredFrom x i a j b) where
   declared_end {c} e f = F.back (record { gives = go })
     where
       go : (ps : List (Proc Plain)) (k : ℕ) → DeclarationsText x j b ps k → Each Few ps → b + length ps ≤ (limits sequential).procs
-          → Declares (b + length ps) k (record { count = b; next = j })
+          → Counts (b + length ps) k (record { count = b; next = j })
       go [] k d few l = record { count = omega arith; ends = omega (arith, d.stands.ends) }
       go (p ∷ ps) k d few l = absurd (f (at_once x j e ∙ first d.stands))
 
   -- as many as there may be
-  pub declared_full : (limits sequential).procs ≤ b → SkipsDeclarations x i a (record { count = b; next = j })
-  declared_full f = F.back (record { gives = go })
+  declared_many : (limits sequential).procs ≤ b → SkipsDeclarations x i a (record { count = b; next = j })
+  declared_many f = F.back (record { gives = go })
     where
       go : (ps : List (Proc Plain)) (k : ℕ) → DeclarationsText x j b ps k → Each Few ps → b + length ps ≤ (limits sequential).procs
-          → Declares (b + length ps) k (record { count = b; next = j })
+          → Counts (b + length ps) k (record { count = b; next = j })
       go [] k d few l = record { count = omega arith; ends = omega (arith, d.stands.ends) }
       go (p ∷ ps) k d few l = absurd (omega arith)
+
+-- which is 1,024
+pub declared_full : {x : List ℕ} {i a j : ℕ} (b : ℕ) → DeclaredFrom x i a j b → 1024 ≤ b → b ≤ 1024 → SkipsDeclarations x i a (record { count = 1024; next = j })
+declared_full {x} {i} {a} {j} b F f g = subst (λ n. SkipsDeclarations x i a (record { count = n; next = j })) (omega arith) (declared_many F f)
 
 -- ---- lines for locals
 
@@ -177,14 +184,14 @@ pub record ArgsFrom (x : List ℕ) (i n j m : ℕ) : Type 0 where
   pub back : {r : ℕ} → SkipsArgs x j m r → SkipsArgs x i n r
 
 -- at the start
-pub lines_start : {x : List ℕ} {i n : ℕ} → ArgsFrom x i n i n
-lines_start = record { back = λ S. S }
+pub lines_start : {x : List ℕ} {i n : ℕ} → ArgsFrom x i n i (n - 0)
+lines_start {n = n} = let all : n - 0 ≡ n = omega arith in rw all (record { back = λ S. S })
 
 -- one more
-pub lines_next : {x : List ℕ} {i n j m t : ℕ} → ArgsFrom x i n j m → 0 < m → SkipsTwo x j 3 10 3 t → ArgsFrom x i n t (m - 1)
+lines_by : {x : List ℕ} {i n j m t : ℕ} → ArgsFrom x i n j m → 0 < m → SkipsTwo x j 3 10 3 t → ArgsFrom x i n t (m - 1)
 unfolding say
-lines_next {x} {i} {n} {j} {m = zero} {t} F some T = absurd (omega arith)
-lines_next {x} {i} {n} {j} {m = suc m} {t} F some T = record { back = λ {r} S. F.back (record { to = go r S }) }
+lines_by {x} {i} {n} {j} {m = zero} {t} F some T = absurd (omega arith)
+lines_by {x} {i} {n} {j} {m = suc m} {t} F some T = record { back = λ {r} S. F.back (record { to = go r S }) }
   where
     go : (r : ℕ) → SkipsArgs x t (suc m - 1) r → (a e : ℕ) → Stands x j (each argument (upto a (suc m))) e → a + suc m < 2 ^ 8 → r ≡ e
     go r S a e s l =
@@ -199,10 +206,18 @@ lines_next {x} {i} {n} {j} {m = suc m} {t} F some T = record { back = λ {r} S. 
         let after : Stands x t (each argument (upto (suc a) (suc m - 1))) e = rw less (shift (back (argument a) rest s) (two.1.ends ∙ sym place)) in
         S.to (suc a) e after (omega arith)
 
+-- behind c of them
+pub lines_next : {x : List ℕ} {i n j t : ℕ} (c : ℕ) → ArgsFrom x i n j (n - c) → c < n → SkipsTwo x j 3 10 3 t → ArgsFrom x i n t (n - (c + 1))
+lines_next {n = n} c F some T = let less : n - c - 1 ≡ n - (c + 1) = omega arith in rw less at (lines_by F (omega arith) T)
+
 -- none is left
-pub lines_end : {x : List ℕ} {i n j m : ℕ} → ArgsFrom x i n j m → m ≤ 0 → SkipsArgs x i n j
-lines_end {m = zero} F none = F.back (record { to = λ a e s l. omega (arith, s.ends) })
-lines_end {m = suc m} F none = absurd (omega arith)
+lines_over : {x : List ℕ} {i n j m : ℕ} → ArgsFrom x i n j m → m ≤ 0 → SkipsArgs x i n j
+lines_over {m = zero} F none = F.back (record { to = λ a e s l. omega (arith, s.ends) })
+lines_over {m = suc m} F none = absurd (omega arith)
+
+-- behind all of them
+pub lines_end : {x : List ℕ} {i n j : ℕ} (c : ℕ) → ArgsFrom x i n j (n - c) → n ≤ c → SkipsArgs x i n j
+lines_end c F none = lines_over F (omega arith)
 
 -- is there another local
 pub unset_may : (x : List ℕ) (i : ℕ) {k l : ℕ} → k ≡ get_or x (i + 2) 0 → k ≡ 122 → l ≡ get_or x (i + 4) 0 → B.not (eqb l 118) ≡ B.not (unsetting x i)
@@ -225,7 +240,7 @@ unset_some true e = refl
 
 -- behind j, behind b locals, as behind i, behind a
 pub record UnsetsFrom (x : List ℕ) (i a j b : ℕ) : Type 0 where
-  pub back : {r : Counted} → CountsUnsets x j b r → CountsUnsets x i a r
+  pub back : {r : Counted ℕ} → CountsUnsets x j b r → CountsUnsets x i a r
 
 -- at the start
 pub unsets_start : {x : List ℕ} {i a : ℕ} → UnsetsFrom x i a i a
@@ -252,7 +267,7 @@ module _ {x : List ℕ} {i a j b : ℕ} (F : UnsetsFrom x i a j b) where
   pub unsets_more : {u : Bool} {t : ℕ} → u ≡ B.not (unsetting x j) → u ≡ false → SkipsTwo x j 11 21 2 t → UnsetsFrom x i a t (b + 1)
   unsets_more {u} {t} e f T = record { back = λ {r} U. F.back (record { gives = go r U }) }
     where
-      go : (r : Counted) → CountsUnsets x t (b + 1) r → (m k : ℕ) → UnsetsText x j b m k → b + m < 2 ^ 8 → Counts (b + m) k r
+      go : (r : Counted ℕ) → CountsUnsets x t (b + 1) r → (m k : ℕ) → UnsetsText x j b m k → b + m < 2 ^ 8 → Counts (b + m) k r
       go r U m k h l =
           let some : (n : ℕ) × (m ≡ suc n) = unsets_next h (unset_some (unsetting x j) (sym f ∙ e)) in
           let after = unset_line T (subst (λ m. UnsetsText x j b m k) some.1 h) (omega arith) in
@@ -266,19 +281,23 @@ module _ {x : List ℕ} {i a j b : ℕ} (F : UnsetsFrom x i a j b) where
   })
 
   -- as many as there may be
-  pub unsets_full : 255 ≤ b → CountsUnsets x i a (record { count = b; next = j })
-  unsets_full f = F.back (record { gives = go })
+  unsets_many : 255 ≤ b → CountsUnsets x i a (record { count = b; next = j })
+  unsets_many f = F.back (record { gives = go })
     where
       go : (m k : ℕ) → UnsetsText x j b m k → b + m < 2 ^ 8 → Counts (b + m) k (record { count = b; next = j })
       go zero k h l = record { count = omega arith; ends = omega (arith, h.stands.ends) }
       go (suc m) k h l = absurd (omega arith)
+
+-- which is 255
+pub unsets_full : {x : List ℕ} {i a j : ℕ} (b : ℕ) → UnsetsFrom x i a j b → 255 ≤ b → b ≤ 255 → CountsUnsets x i a (record { count = 255; next = j })
+unsets_full {x} {i} {a} {j} b F f g = subst (λ n. CountsUnsets x i a (record { count = n; next = j })) (omega arith) (unsets_many F f)
 
 -- a line's place, from another way to write it
 number_here : {x : List ℕ} {i k n j : ℕ} → NumberText x i n j → i ≡ k → NumberText x k n j
 number_here {x} {n = n} {j} h q = subst (λ i. NumberText x i n j) q h
 
 -- what stands before a body
-pub locals_way : {x : List ℕ} {i s t u v : ℕ} {h a : Counted} {n : Numbered} → Skips x i 1 s → CountsHead x s h → Skips x h.next 20 t → ReadsNumber x t n
+pub locals_way : {x : List ℕ} {i s t u v : ℕ} {h a : Counted ℕ} {n : Numbered} → Skips x i 1 s → CountsHead x s h → Skips x h.next 20 t → ReadsNumber x t n
     → Skips x n.next 4 u → SkipsArgs x u h.count v → CountsUnsets x v h.count a
     → CountsLocals x i (record { params = h.count; locals = a.count; next = a.next })
 locals_way {x} {i} {s} {t} {u} {v} {h} {a} {n} S H T N U A C = record { gives = gives }

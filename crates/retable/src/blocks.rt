@@ -22,17 +22,12 @@ fn parse_test(x: &[u8], at: usize, mark: u8, out: &mut [u8], to: usize) -> Parse
 }
 
 // Whether a block whose lines have so many spaces ends at a place: by a brace two spaces before them, or by "z_return".
+#[tactic(auto, using(crate::proofs::Nesting::test_ways))]
 fn ends(x: &[u8], at: usize, width: usize) -> bool
     requires { (2 ≤ width) × (width ≤ 64) }
     ensures { result ≡ ended x.now at width }
 {
-    if peek(x, at, width - 2) == b'}' {
-        return true;
-    }
-    if peek(x, at, width) == b'z' {
-        return peek(x, at, width + 2) == b'r';
-    }
-    false
+    peek(x, at, width - 2) == b'}' || (peek(x, at, width) == b'z' && peek(x, at, width + 2) == b'r')
 }
 
 // "if (z_test(e)) {", a block, "} else {", a block, and "}".
@@ -98,7 +93,7 @@ pub fn parse_block(
     ensures { ParsesBlock x.now at depth width out.old to out.new result }
 {
     if depth == 0 {
-        return Parsed { next: at, to: to };
+        return Parsed { next: at, to };
     }
     let mut i = at;
     let mut p = to;

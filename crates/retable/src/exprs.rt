@@ -4,23 +4,23 @@ ghost use Rattle.ctext.proofs.Laws.ExprText.{key_at, name_key, name_length};
 ghost use Rattle.retable.specs.Laws.Exprs.{ParsesByte, ParsesTwo, ParsesWhole, ParsesLeaf, ParsesExpr};
 
 use super::pieces::{number, peek, skip};
-use basics::numbers::{AND, EQUAL, FALSE, LOCAL, LOCATION, NOT, TRUE, WHOLE};
+use basics::marks::{
+    ADD, AND, EQUAL, FALSE, LESS, MULTIPLY, NEGATE, NOT, NUMBER, PLACE, SUBTRACT, TRUE, operands,
+};
+use basics::numbers::LOCAL;
 use writer::bytes::{put, put_four, put_two};
-
-// The marks that no other code has a name for: add, subtract, multiply, less, negate.
-const ADD: u8 = 0x10;
-
-const SUB: u8 = 0x11;
-
-const MUL: u8 = 0x12;
-
-const LESS: u8 = 0x13;
-
-const NEG: u8 = 0x17;
 
 // Where a thing ends in the text, and where its bytes end in the table.
 #[derive(Clone, Copy)]
 pub struct Parsed {
+    pub next: usize,
+    pub to: usize,
+}
+
+// How many things, where they end in the text, and where their bytes end in the table.
+#[derive(Clone, Copy)]
+pub struct Listed<N> {
+    pub count: N,
     pub next: usize,
     pub to: usize,
 }
@@ -66,43 +66,30 @@ fn parse_whole(x: &[u8], at: usize, out: &mut [u8], to: usize) -> Parsed
 }
 
 // The mark of what is called so: by the third and the fourth byte.
+#[tactic(auto, using(crate::proofs::Naming::name_ways))]
 fn name_key(third: u8, fourth: u8) -> u8
     ensures { result ≡ name_key third fourth }
 {
-    if third == b'n' {
-        if fourth == b'u' {
-            return WHOLE; // z_num
-        }
-        if fourth == b'o' {
-            return NOT; // z_not
-        }
-        return NEG; // z_neg
+    match third {
+        b'n' => match fourth {
+            b'u' => NUMBER, // z_num
+            b'o' => NOT, // z_not
+            _ => NEGATE, // z_neg
+        },
+        b'l' => match fourth {
+            b'o' => PLACE, // z_loc
+            _ => LESS, // z_less
+        },
+        b'f' => FALSE, // z_false
+        b't' => TRUE, // z_true
+        b'a' => match fourth {
+            b'd' => ADD, // z_add
+            _ => AND, // z_and
+        },
+        b's' => SUBTRACT, // z_sub
+        b'm' => MULTIPLY, // z_mul
+        _ => EQUAL, // z_equal
     }
-    if third == b'l' {
-        if fourth == b'o' {
-            return LOCATION; // z_loc
-        }
-        return LESS; // z_less
-    }
-    if third == b'f' {
-        return FALSE; // z_false
-    }
-    if third == b't' {
-        return TRUE; // z_true
-    }
-    if third == b'a' {
-        if fourth == b'd' {
-            return ADD; // z_add
-        }
-        return AND; // z_and
-    }
-    if third == b's' {
-        return SUB; // z_sub
-    }
-    if third == b'm' {
-        return MUL; // z_mul
-    }
-    EQUAL // z_equal
 }
 
 // The mark of the expression at a place.
@@ -116,49 +103,47 @@ fn key_at(x: &[u8], at: usize) -> u8
 }
 
 // How long an operator's name is, with its parenthesis.
+#[tactic(auto, using(crate::proofs::Naming::name_ways))]
 fn name_length(mark: u8) -> usize
     ensures { result ≡ name_length mark }
 {
-    if mark == LESS {
-        return 7;
+    match mark {
+        LESS => 7,
+        EQUAL => 8,
+        _ => 6,
     }
-    if mark == EQUAL {
-        return 8;
-    }
-    6
 }
 
 // The leaf at a place, which has this mark.
+#[tactic(auto, using(crate::proofs::Leaves::leaf_ways))]
 fn parse_leaf(x: &[u8], at: usize, mark: u8, out: &mut [u8], to: usize) -> Parsed
     ensures { ParsesLeaf x.now at mark out.old to out.new result }
 {
     let p = put(out, to, mark);
-    if mark == LOCAL {
-        return parse_byte(x, skip(x, at, 1), out, p);
-    }
-    if mark == WHOLE {
-        let n = parse_whole(x, skip(x, at, 6), out, p);
-        return Parsed {
-            next: skip(x, n.next, 1),
-            to: n.to,
-        };
-    }
-    if mark == LOCATION {
-        let n = parse_two(x, skip(x, at, 6), out, p);
-        return Parsed {
-            next: skip(x, n.next, 1),
-            to: n.to,
-        };
-    }
-    if mark == FALSE {
-        return Parsed {
+    match mark {
+        LOCAL => parse_byte(x, skip(x, at, 1), out, p),
+        NUMBER => {
+            let n = parse_whole(x, skip(x, at, 6), out, p);
+            Parsed {
+                next: skip(x, n.next, 1),
+                to: n.to,
+            }
+        }
+        PLACE => {
+            let n = parse_two(x, skip(x, at, 6), out, p);
+            Parsed {
+                next: skip(x, n.next, 1),
+                to: n.to,
+            }
+        }
+        FALSE => Parsed {
             next: skip(x, at, 9),
             to: p,
-        };
-    }
-    Parsed {
-        next: skip(x, at, 8),
-        to: p,
+        },
+        _ => Parsed {
+            next: skip(x, at, 8),
+            to: p,
+        },
     }
 }
 
@@ -167,16 +152,16 @@ pub fn parse_expr(x: &[u8], at: usize, depth: u8, out: &mut [u8], to: usize) -> 
     ensures { ParsesExpr x.now at depth out.old to out.new result }
 {
     if depth == 0 {
-        return Parsed { next: at, to: to };
+        return Parsed { next: at, to };
     }
     let mark = key_at(x, at);
-    let operands = basics::marks::operands(mark);
-    if operands == 0 {
+    let count = operands(mark);
+    if count == 0 {
         return parse_leaf(x, at, mark, out, to);
     }
     let p = put(out, to, mark);
     let a = parse_expr(x, skip(x, at, name_length(mark)), depth - 1, out, p);
-    if operands == 1 {
+    if count == 1 {
         return Parsed {
             next: skip(x, a.next, 1),
             to: a.to,

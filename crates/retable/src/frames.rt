@@ -5,29 +5,14 @@ ghost use Rattle.ctext.proofs.Laws.DefinitionText.{unsetting};
 ghost use Rattle.retable.specs.Laws.Frames.{SkipsTwo, ParsesLocation, ParsesSizes, SkipsAreas, CountsMore, CountsParams, CountsHead, SkipsDeclarations};
 ghost use Rattle.retable.specs.Laws.Frames.{SkipsArgs, CountsUnsets, CountsLocals};
 
-use super::exprs::{Parsed, parse_two};
+use super::exprs::{Listed, Parsed, parse_two};
 use super::pieces::{number, peek, skip};
 use basics::numbers::{LOCATIONS, MOST_PROCEDURES};
 
-// The sizes of locations: how many, where their lines end in the text, and where their bytes end in the table.
-#[derive(Clone, Copy)]
-pub struct Sizes {
-    pub count: usize,
-    pub next: usize,
-    pub to: usize,
-}
-
 // How many things, and where they end.
 #[derive(Clone, Copy)]
-pub struct Counted {
-    pub count: u8,
-    pub next: usize,
-}
-
-// How many declarations, and where they end.
-#[derive(Clone, Copy)]
-pub struct Declared {
-    pub count: usize,
+pub struct Counted<N> {
+    pub count: N,
     pub next: usize,
 }
 
@@ -61,29 +46,22 @@ fn parse_location(x: &[u8], at: usize, out: &mut [u8], to: usize) -> Parsed
 }
 
 // The sizes of all locations.
-pub fn parse_sizes(x: &[u8], at: usize, out: &mut [u8], to: usize) -> Sizes
+pub fn parse_sizes(x: &[u8], at: usize, out: &mut [u8], mut to: usize) -> Listed<usize>
     ensures { ParsesSizes x.now at 0 out.old to out.new result }
 {
-    let mut i = at;
-    let mut p = to;
-    let mut count = 0;
-    while count < LOCATIONS {
-        if peek(x, i, 0) != b'z' {
-            return Sizes {
-                count: count,
-                next: i,
-                to: p,
-            };
+    let mut next = at;
+    for count in 0..LOCATIONS {
+        if peek(x, next, 0) != b'z' {
+            return Listed { count, next, to };
         }
-        let one = parse_location(x, i, out, p);
-        i = one.next;
-        p = one.to;
-        count += 1;
+        let one = parse_location(x, next, out, to);
+        next = one.next;
+        to = one.to;
     }
-    Sizes {
-        count: count,
-        next: i,
-        to: p,
+    Listed {
+        count: LOCATIONS,
+        next,
+        to,
     }
 }
 
@@ -91,40 +69,32 @@ pub fn parse_sizes(x: &[u8], at: usize, out: &mut [u8], to: usize) -> Sizes
 pub fn skip_areas(x: &[u8], at: usize, count: usize) -> usize
     ensures { SkipsAreas x.now at count result }
 {
-    let mut i = at;
-    let mut left = count;
-    while 0 < left {
-        i = skip_two(x, i, 5, 2, 4);
-        left -= 1;
+    let mut next = at;
+    for _ in 0..count {
+        next = skip_two(x, next, 5, 2, 4);
     }
-    i
+    next
 }
 
 // ", z_value x<j>" as often as it stands there, behind the first parameter.
-fn more_params(x: &[u8], at: usize) -> Counted
+fn more_params(x: &[u8], at: usize) -> Counted<u8>
     ensures { CountsMore x.now at 1 result }
 {
-    let mut i = at;
-    let mut count = 1u8;
-    while count < 255 {
-        if peek(x, i, 0) != b',' {
-            return Counted {
-                count: count,
-                next: i,
-            };
+    let mut next = at;
+    for count in 1..u8::MAX {
+        if peek(x, next, 0) != b',' {
+            return Counted { count, next };
         }
-        let name = number(x, skip(x, i, 11));
-        i = name.next;
-        count += 1;
+        next = number(x, skip(x, next, 11)).next;
     }
     Counted {
-        count: count,
-        next: i,
+        count: u8::MAX,
+        next,
     }
 }
 
 // "void" or "z_value x0, z_value x1, .."
-fn parse_params(x: &[u8], at: usize) -> Counted
+fn parse_params(x: &[u8], at: usize) -> Counted<u8>
     ensures { CountsParams x.now at result }
 {
     if peek(x, at, 0) == b'v' {
@@ -137,7 +107,7 @@ fn parse_params(x: &[u8], at: usize) -> Counted
 }
 
 // "void p<k>(" and the parameters.
-fn parse_head(x: &[u8], at: usize) -> Counted
+fn parse_head(x: &[u8], at: usize) -> Counted<u8>
     ensures { CountsHead x.now at result }
 {
     let k = number(x, skip(x, at, 6));
@@ -145,25 +115,20 @@ fn parse_head(x: &[u8], at: usize) -> Counted
 }
 
 // The declarations of all procedures.
-pub fn skip_declarations(x: &[u8], at: usize) -> Declared
+pub fn skip_declarations(x: &[u8], at: usize) -> Counted<usize>
     ensures { SkipsDeclarations x.now at 0 result }
 {
-    let mut i = at;
-    let mut count = 0;
-    while count < MOST_PROCEDURES {
-        if peek(x, i, 0) != b'v' {
-            return Declared {
-                count: count,
-                next: i,
-            };
+    let mut next = at;
+    for count in 0..MOST_PROCEDURES {
+        if peek(x, next, 0) != b'v' {
+            return Counted { count, next };
         }
-        let head = parse_head(x, i);
-        i = skip(x, head.next, 3);
-        count += 1;
+        let head = parse_head(x, next);
+        next = skip(x, head.next, 3);
     }
-    Declared {
-        count: count,
-        next: i,
+    Counted {
+        count: MOST_PROCEDURES,
+        next,
     }
 }
 
@@ -171,13 +136,11 @@ pub fn skip_declarations(x: &[u8], at: usize) -> Declared
 fn skip_args(x: &[u8], at: usize, count: u8) -> usize
     ensures { SkipsArgs x.now at count result }
 {
-    let mut i = at;
-    let mut left = count;
-    while 0 < left {
-        i = skip_two(x, i, 3, 10, 3);
-        left -= 1;
+    let mut next = at;
+    for _ in 0..count {
+        next = skip_two(x, next, 3, 10, 3);
     }
-    i
+    next
 }
 
 // Whether no line for another local stands here.
@@ -191,24 +154,19 @@ fn body_begins(x: &[u8], at: usize) -> bool
 }
 
 // "  z_value x<j> = z_unset(); (void)x<j>;" for each other local: how many locals there are with the parameters.
-fn count_unsets(x: &[u8], at: usize, params: u8) -> Counted
+fn count_unsets(x: &[u8], at: usize, params: u8) -> Counted<u8>
     ensures { CountsUnsets x.now at params result }
 {
-    let mut i = at;
-    let mut count = params;
-    while count < 255 {
-        if body_begins(x, i) {
-            return Counted {
-                count: count,
-                next: i,
-            };
+    let mut next = at;
+    for count in params..u8::MAX {
+        if body_begins(x, next) {
+            return Counted { count, next };
         }
-        i = skip_two(x, i, 11, 21, 2);
-        count += 1;
+        next = skip_two(x, next, 11, 21, 2);
     }
     Counted {
-        count: count,
-        next: i,
+        count: u8::MAX,
+        next,
     }
 }
 

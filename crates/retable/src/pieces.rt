@@ -3,6 +3,7 @@ ghost use Rattle.std.specs.Prelude.{◌+◌, ◌≡◌, get_or};
 ghost use Rattle.retable.specs.Laws.Pieces.{Skips, ReadsNumber};
 
 // A number in a text, and where it ends.
+// stays: a number that is read is no count, so that one struct for both would say less.
 #[derive(Clone, Copy)]
 pub struct Numbered {
     pub number: u64,
@@ -10,13 +11,11 @@ pub struct Numbered {
 }
 
 // The byte that stands n bytes behind a place.
+#[tactic(auto, using(crate::proofs::Places::place_ways))]
 pub fn peek(x: &[u8], at: usize, n: usize) -> u8
     ensures { result ≡ get_or x.now (at + n) 0 }
 {
-    if x.len() <= at {
-        return 0;
-    }
-    if x.len() - at <= n {
+    if x.len() <= at || x.len() - at <= n {
         return 0;
     }
     x[at + n]
@@ -26,10 +25,7 @@ pub fn peek(x: &[u8], at: usize, n: usize) -> u8
 pub fn skip(x: &[u8], at: usize, n: usize) -> usize
     ensures { Skips x.now at n result }
 {
-    if x.len() < at {
-        return at;
-    }
-    if x.len() - at < n {
+    if x.len() < at || x.len() - at < n {
         return at;
     }
     at + n
@@ -41,6 +37,7 @@ pub fn number(x: &[u8], at: usize) -> Numbered
 {
     let mut n = 0u64;
     let mut i = at;
+    // stays: where it ends is the answer, also for a place past the end of the text, which a range would forget.
     while i < x.len() {
         let b = x[i];
         if b < 48 {

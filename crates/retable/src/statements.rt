@@ -1,18 +1,10 @@
 // The lines of a text that hold no block, as instructions of a table.
 ghost use Rattle.retable.specs.Laws.Lines.{ParsesPointed, ParsesTarget, ParsesWrite, ParsesSelect, ParsesMore, ParsesArgs, ParsesCounted, ParsesCall};
 
-use super::exprs::{Parsed, parse_byte, parse_expr, parse_two};
+use super::exprs::{Listed, Parsed, parse_byte, parse_expr, parse_two};
 use super::pieces::{number, peek, skip};
 use basics::numbers::{ASSIGN, CALL, DEPTH, READ, SELECT, WRITE};
 use writer::bytes::put;
-
-// Arguments: how many, where they end in the text, and where their bytes end in the table.
-#[derive(Clone, Copy)]
-pub struct Arguments {
-    pub count: u8,
-    pub next: usize,
-    pub to: usize,
-}
 
 // "<y>, o": a local, and an expression.
 fn parse_pointed(x: &[u8], at: usize, out: &mut [u8], to: usize) -> Parsed
@@ -74,41 +66,34 @@ pub fn parse_select(x: &[u8], at: usize, out: &mut [u8], to: usize) -> Parsed
 }
 
 // ", e, e, ..": the arguments behind the first, up to a parenthesis.
-fn parse_more(x: &[u8], at: usize, out: &mut [u8], to: usize) -> Arguments
+fn parse_more(x: &[u8], at: usize, out: &mut [u8], mut to: usize) -> Listed<u8>
     ensures { ParsesMore x.now at 1 out.old to out.new result }
 {
-    let mut i = at;
-    let mut p = to;
-    let mut count = 1u8;
-    while count < 255 {
-        if peek(x, i, 0) != b',' {
-            return Arguments {
-                count: count,
-                next: i,
-                to: p,
-            };
+    let mut next = at;
+    for count in 1..u8::MAX {
+        if peek(x, next, 0) != b',' {
+            return Listed { count, next, to };
         }
-        let e = parse_expr(x, skip(x, i, 2), DEPTH, out, p);
-        i = e.next;
-        p = e.to;
-        count += 1;
+        let e = parse_expr(x, skip(x, next, 2), DEPTH, out, to);
+        next = e.next;
+        to = e.to;
     }
-    Arguments {
-        count: count,
-        next: i,
-        to: p,
+    Listed {
+        count: u8::MAX,
+        next,
+        to,
     }
 }
 
 // All arguments.
-fn parse_args(x: &[u8], at: usize, out: &mut [u8], to: usize) -> Arguments
+fn parse_args(x: &[u8], at: usize, out: &mut [u8], to: usize) -> Listed<u8>
     ensures { ParsesArgs x.now at out.old to out.new result }
 {
     if peek(x, at, 0) == b')' {
-        return Arguments {
+        return Listed {
             count: 0,
             next: at,
-            to: to,
+            to,
         };
     }
     let first = parse_expr(x, at, DEPTH, out, to);

@@ -75,18 +75,16 @@ fn parse_definition(
 fn parse_definitions(x: &[u8], at: usize, count: u16, out: &mut [u8], records: &mut [u8]) -> Coded
     ensures { ParsesDefinitions x.now at count out.old 0 records.old 0 out.new records.new result }
 {
-    let mut i = at;
-    let mut p = 0;
-    let mut q = 0;
-    let mut left = count;
-    while 0 < left {
-        let d = parse_definition(x, i, out, p, records, q);
-        i = d.next;
-        p = d.to;
-        q = d.row;
-        left -= 1;
+    let mut next = at;
+    let mut to = 0;
+    let mut row = 0;
+    for _ in 0..count {
+        let d = parse_definition(x, next, out, to, records, row);
+        next = d.next;
+        to = d.to;
+        row = d.row;
     }
-    Coded { to: p, row: q }
+    Coded { to, row }
 }
 
 // What stands before the definitions.

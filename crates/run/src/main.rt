@@ -13,6 +13,7 @@ const INPUT: usize = LONGEST_INPUT + 1;
 fn main() {
     let mut input = [0u8; INPUT];
     let mut line = [0u8; LINE];
+    // stays: a read that fails ends the input, and what cannot be written is passed over; the readers and writers of `std::io` give errors there.
     let n = io::read_full(0, &mut input);
     let m = figures::input::print(&input[..n], &mut line);
     io::write_all(1, &line[..m]);

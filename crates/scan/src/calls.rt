@@ -2,40 +2,49 @@
 // one's body, and comes back at its end. A call of a procedure on the way to here closes a cycle.
 ghost use Rattle.std.specs.Prelude.{◌≡◌, ◌<◌, ◌≤◌, length};
 ghost use Rattle.format.specs.Rules.{no_cycle};
-ghost use Rattle.scan.specs.Laws.Laid.{Room, Judges, Named};
+ghost use Rattle.scan.specs.Laws.Laid.{Judges, Named};
+ghost use Rattle.scan.specs.Laws.CallSearch.{Begins};
 ghost use Rattle.scan.specs.Laws.CallScans.{calls_on, NextCall};
 
-use super::tokens::{Token, body_end, body_start, token_at, token_end};
+use super::bodies::Bodies;
+use super::tokens::{Token, token_at, token_end};
 use basics::numbers::MOST_PROCEDURES;
 
 // What is known of a procedure: it was not entered yet, it is on the way, or it was left and reaches no cycle.
-const NEW: u8 = 0;
+#[derive(Clone, Copy, PartialEq, Eq)]
+enum State {
+    New,
+    Entered,
+    Left,
+}
 
-const ENTERED: u8 = 1;
-
-const LEFT: u8 = 2;
+// A procedure on the way to here, and the place where its walk goes on.
+#[derive(Clone, Copy)]
+struct Visit {
+    procedure: u16,
+    at: u16,
+}
 
 // Does a token call a procedure that was not left yet?
-fn calls_on(k: Token, marks: &[u8; MOST_PROCEDURES]) -> bool
-    ensures { result ≡ calls_on marks.now k }
+#[tactic(auto, unfolding(crate::specs::Laws::CallScans::calls_on))]
+fn calls_on(k: Token, states: &[State; MOST_PROCEDURES]) -> bool
+    ensures { result ≡ calls_on states.now k }
 {
-    let Token::Call(m, _) = k else {
-        return false;
-    };
-    if m < MOST_PROCEDURES {
-        return marks[m] != LEFT;
+    match k {
+        Token::Call(m, _) => m >= MOST_PROCEDURES || states[m] != State::Left,
+        _ => false,
     }
-    true
 }
 
 // The first token from a place on that does, or the end.
-fn next_call(t: &[u8], at: usize, end: usize, marks: &[u8; MOST_PROCEDURES]) -> usize
+#[tactic(auto, using(crate::specs::Laws::CallScans::pass_ways))]
+fn next_call(t: &[u8], at: usize, end: usize, states: &[State; MOST_PROCEDURES]) -> usize
     requires { end ≤ length t.now }
-    ensures { NextCall t.now end marks.now at result }
+    ensures { NextCall t.now end states.now at result }
 {
     let mut i = at;
     while i < end {
-        if calls_on(token_at(t, i), marks) {
+        if calls_on(token_at(t, i), states) {
             return i;
         }
         i = token_end(t, i);
@@ -43,48 +52,57 @@ fn next_call(t: &[u8], at: usize, end: usize, marks: &[u8; MOST_PROCEDURES]) -> 
     end
 }
 
-// A table that rules 1 to 5 let through. The way to here is a row of procedures, each of which calls the next one, and the place where each goes on.
-pub fn no_cycle(t: &[u8], procedures: usize, records: usize) -> bool
-    requires { Room t.now procedures records }
-    ensures { Judges (Named t.now procedures records) no_cycle result }
+// A visit of a procedure begins where its body does.
+fn visit_of(bodies: &Bodies, m: usize) -> Visit
+    requires { m < bodies.now.procedures }
+    ensures { Begins bodies.now.table.now bodies.now.procedures bodies.now.records m result }
 {
-    let mut marks = [NEW; MOST_PROCEDURES];
-    let mut way = [0u16; MOST_PROCEDURES];
-    let mut places = [0u32; MOST_PROCEDURES];
+    Visit {
+        procedure: m as u16,
+        at: bodies.start(m) as u16,
+    }
+}
+
+// A table that rules 1 to 5 let through. The way to here is a row of procedures, each of which calls the next one, and the place where each goes on.
+pub fn no_cycle(bodies: &Bodies) -> bool
+    ensures { Judges (Named bodies.now.table.now bodies.now.procedures bodies.now.records) no_cycle result }
+{
+    let t = bodies.table;
+    let mut states = [State::New; MOST_PROCEDURES];
+    let mut way = [Visit {
+        procedure: 0,
+        at: 0,
+    }; MOST_PROCEDURES];
     let mut depth = 0;
     let mut first = 0;
-    while first < procedures {
+    // stays: a step enters or leaves a procedure or goes on to the next one, so that no range counts the steps
+    while first < bodies.procedures {
         if depth == 0 {
-            if marks[first] == NEW {
-                marks[first] = ENTERED;
-                way[0] = first as u16;
-                places[0] = body_start(t, records, first) as u32;
+            if states[first] == State::New {
+                states[first] = State::Entered;
+                way[0] = visit_of(bodies, first);
                 depth = 1;
             } else {
                 first += 1;
             }
         } else {
             let top = depth - 1;
-            let m = way[top] as usize;
-            let end = body_end(t, procedures, records, m);
-            let at = next_call(t, places[top] as usize, end, &marks);
+            let m = usize::from(way[top].procedure);
+            let end = bodies.end(m);
+            let at = next_call(t, usize::from(way[top].at), end, &states);
             if at < end {
                 let Token::Call(callee, _) = token_at(t, at) else {
                     return false;
                 };
-                if callee >= procedures {
+                if callee >= bodies.procedures || states[callee] != State::New {
                     return false;
                 }
-                if marks[callee] != NEW {
-                    return false;
-                }
-                places[top] = at as u32;
-                marks[callee] = ENTERED;
-                way[depth] = callee as u16;
-                places[depth] = body_start(t, records, callee) as u32;
+                way[top].at = at as u16;
+                states[callee] = State::Entered;
+                way[depth] = visit_of(bodies, callee);
                 depth += 1;
             } else {
-                marks[m] = LEFT;
+                states[m] = State::Left;
                 depth = top;
             }
         }

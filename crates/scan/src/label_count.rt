@@ -1,35 +1,31 @@
 // Rule 6: the number of labels, "those inside an atomic block having none, then one end label".
-ghost use Rattle.std.specs.Prelude.{◌≡◌, ◌+◌, ◌-◌, ◌<◌, ◌≤◌, length};
-ghost use Rattle.format.specs.Syntax.{sequential};
-ghost use Rattle.format.specs.Rules.{limits};
+ghost use Rattle.std.specs.Prelude.{◌≡◌, ◌+◌, ◌-◌, ◌<◌};
 ghost use Rattle.scan.specs.Laws.LabelScans.{instruction, entered, further, own_labels, blocks_open, CountsLabels};
 
+use super::bodies::Bodies;
 use super::tokens::{Token, token_at, token_end};
 
 // 1, if a token begins an instruction.
+#[tactic(auto, unfolding(crate::specs::Laws::LabelScans::instruction))]
 fn begins(k: Token) -> usize
     ensures { result ≡ instruction k }
 {
     match k {
-        Token::Stop => 0,
-        Token::Plain => 0,
-        Token::Location(_) => 0,
-        Token::Local(_) => 0,
+        Token::Stop | Token::Plain | Token::Location(_) | Token::Local(_) => 0,
         _ => 1,
     }
 }
 
 // The labels of a token. `within` counts the blocks that are still to end before an atomic block does: outside it is 0.
+#[tactic(auto, using(crate::specs::Laws::LabelScans::ways))]
 fn own_labels(k: Token, within: usize) -> usize
     ensures { result ≡ own_labels within k }
 {
-    if 0 < within {
-        return 0;
-    }
-    begins(k)
+    if 0 < within { 0 } else { begins(k) }
 }
 
 // The blocks that are still to end behind a token outside.
+#[tactic(auto, unfolding(crate::specs::Laws::LabelScans::entered))]
 fn enters(k: Token) -> usize
     ensures { result ≡ entered k }
 {
@@ -40,6 +36,7 @@ fn enters(k: Token) -> usize
 }
 
 // And behind one inside.
+#[tactic(auto, unfolding(crate::specs::Laws::LabelScans::further))]
 fn inside(k: Token, within: usize) -> usize
     requires { (0 < within) × (within + 2 < 18446744073709551616) }
     ensures { result ≡ further (within - 1) k }
@@ -54,25 +51,27 @@ fn inside(k: Token, within: usize) -> usize
 }
 
 // Behind any.
+#[tactic(auto, using(crate::specs::Laws::LabelScans::ways))]
 fn blocks_open(k: Token, within: usize) -> usize
     requires { within + 2 < 18446744073709551616 }
     ensures { result ≡ blocks_open within k }
 {
     if 0 < within {
-        return inside(k, within);
+        inside(k, within)
+    } else {
+        enters(k)
     }
-    enters(k)
 }
 
 // The labels of a table that rules 1 to 4 let through. Each procedure has one end label.
-pub fn count_labels(t: &[u8], procedures: usize, records: usize) -> usize
-    requires { (records ≤ length t.now) × (procedures ≤ (limits sequential).procs) }
-    ensures { CountsLabels t.now procedures records result }
+pub fn count_labels(bodies: &Bodies) -> usize
+    ensures { CountsLabels bodies.now.table.now bodies.now.procedures bodies.now.records result }
 {
-    let mut labels = procedures;
+    let t = bodies.table;
+    let mut labels = bodies.procedures;
     let mut within = 0;
     let mut i = 0;
-    while i < records {
+    while i < bodies.records {
         let k = token_at(t, i);
         labels += own_labels(k, within);
         within = blocks_open(k, within);

@@ -2,6 +2,7 @@
 // the table. An inner room: its functions may have a `requires`.
 #![tactic(auto)]
 
+pub mod bodies;
 pub mod calls;
 pub mod label_count;
 pub mod names;

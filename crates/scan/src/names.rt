@@ -1,46 +1,33 @@
 // Rule 5: "a local, location or procedure not below its count; n not the callee's parameters".
-ghost use Rattle.std.specs.Prelude.{◌≡◌, ◌+◌, ◌*◌, ◌<◌, ◌≤◌, length, ltb};
+ghost use Rattle.std.specs.Prelude.{◌≡◌, ◌<◌, ◌≤◌, length, ltb};
 ghost use Rattle.value.specs.Maybe.{both};
 ghost use Rattle.format.specs.Rules.{all_named};
-ghost use Rattle.scan.specs.Laws.Laid.{Room, Judges};
+ghost use Rattle.scan.specs.Laws.Laid.{Judges};
 ghost use Rattle.scan.specs.Laws.Scans.{Scans};
 ghost use Rattle.scan.specs.Laws.NameScans.{takes_here, named_here, all_here, proc_named, Counted};
 
-use super::tokens::{Token, body_end, body_start, byte_at, token_at, token_end};
-use basics::numbers::RECORD;
+use super::bodies::Bodies;
+use super::tokens::{Token, token_at, token_end};
 
 // Two numbers below a count.
 fn below(a: usize, b: usize, count: usize) -> bool
     ensures { result ≡ both (ltb a count) (ltb b count) }
 {
-    if a < count {
-        return b < count;
-    }
-    false
+    a < count && b < count
 }
 
 // A callee, and its parameters.
-fn takes(t: &[u8], callee: usize, arguments: usize, procedures: usize, records: usize) -> bool
-    requires { Room t.now procedures records }
-    ensures { result ≡ takes_here t.now procedures records callee arguments }
+#[tactic(auto, using(crate::specs::Laws::NameScans::ways))]
+fn takes(bodies: &Bodies, callee: usize, arguments: usize) -> bool
+    ensures { result ≡ takes_here bodies.now.table.now bodies.now.procedures bodies.now.records callee arguments }
 {
-    if callee < procedures {
-        return byte_at(t, records + RECORD * callee) == arguments;
-    }
-    false
+    callee < bodies.procedures && bodies.parameters(callee) == arguments
 }
 
 // The names of one token.
-fn token_named(
-    t: &[u8],
-    k: Token,
-    locals: usize,
-    locations: usize,
-    procedures: usize,
-    records: usize,
-) -> bool
-    requires { Room t.now procedures records }
-    ensures { result ≡ named_here t.now procedures locations records locals k }
+#[tactic(auto, unfolding(crate::specs::Laws::NameScans::named_here))]
+fn token_named(bodies: &Bodies, k: Token, locals: usize, locations: usize) -> bool
+    ensures { result ≡ named_here bodies.now.table.now bodies.now.procedures locations bodies.now.records locals k }
 {
     match k {
         Token::Location(l) => l < locations,
@@ -48,32 +35,21 @@ fn token_named(
         Token::Assign(x) => x < locals,
         Token::Write(y) => y < locals,
         Token::Read(x, y) => below(x, y, locals),
-        Token::Call(m, n) => takes(t, m, n, procedures, records),
+        Token::Call(m, n) => takes(bodies, m, n),
         Token::Select(a, b) => below(a, b, locations),
-        Token::Stop => true,
-        Token::Plain => true,
-        Token::While => true,
-        Token::If => true,
-        Token::Atomic => true,
+        Token::Stop | Token::Plain | Token::While | Token::If | Token::Atomic => true,
     }
 }
 
 // The names of the tokens from a place up to another.
-fn tokens_named(
-    t: &[u8],
-    at: usize,
-    end: usize,
-    locals: usize,
-    locations: usize,
-    procedures: usize,
-    records: usize,
-) -> bool
-    requires { Room t.now procedures records × (end ≤ length t.now) }
-    ensures { Scans t.now end (all_here t.now procedures locations records locals) at result }
+fn tokens_named(bodies: &Bodies, at: usize, end: usize, locals: usize, locations: usize) -> bool
+    requires { end ≤ length bodies.now.table.now }
+    ensures { Scans bodies.now.table.now end (all_here bodies.now.table.now bodies.now.procedures locations bodies.now.records locals) at result }
 {
+    let t = bodies.table;
     let mut i = at;
     while i < end {
-        if !token_named(t, token_at(t, i), locals, locations, procedures, records) {
+        if !token_named(bodies, token_at(t, i), locals, locations) {
             return false;
         }
         i = token_end(t, i);
@@ -82,27 +58,27 @@ fn tokens_named(
 }
 
 // The names of procedure m.
-fn body_named(t: &[u8], m: usize, locations: usize, procedures: usize, records: usize) -> bool
-    requires { Room t.now procedures records × (m < procedures) }
-    ensures { Judges (Counted t.now procedures locations records) (proc_named m) result }
+fn body_named(bodies: &Bodies, m: usize, locations: usize) -> bool
+    requires { m < bodies.now.procedures }
+    ensures { Judges (Counted bodies.now.table.now bodies.now.procedures locations bodies.now.records) (proc_named m) result }
 {
-    let locals = byte_at(t, records + RECORD * m + 1);
-    let at = body_start(t, records, m);
-    let end = body_end(t, procedures, records, m);
-    tokens_named(t, at, end, locals, locations, procedures, records)
+    tokens_named(
+        bodies,
+        bodies.start(m),
+        bodies.end(m),
+        bodies.locals(m),
+        locations,
+    )
 }
 
 // The names of all procedures of a table that rules 1 to 4 let through.
-pub fn names_right(t: &[u8], locations: usize, procedures: usize, records: usize) -> bool
-    requires { Room t.now procedures records }
-    ensures { Judges (Counted t.now procedures locations records) all_named result }
+pub fn names_right(bodies: &Bodies, locations: usize) -> bool
+    ensures { Judges (Counted bodies.now.table.now bodies.now.procedures locations bodies.now.records) all_named result }
 {
-    let mut m = 0;
-    while m < procedures {
-        if !body_named(t, m, locations, procedures, records) {
+    for m in 0..bodies.procedures {
+        if !body_named(bodies, m, locations) {
             return false;
         }
-        m += 1;
     }
     true
 }

@@ -30,7 +30,8 @@ use Rattle.semantics.specs.Memory.{Memory}
 use Rattle.semantics.specs.Copy as C
 use Rattle.semantics.specs.Buffers.{cells}
 use Rattle.semantics.specs.declared.RunAnswer.{RunAnswer}
-use Rattle.semantics.specs.Calls.{Outcome, refusal, untouched, max_entries, scheduled, roomy}
+use Rattle.engine.specs.Ends.{end_of}
+use Rattle.semantics.specs.Calls.{end_number, reason_of, Outcome, refusal, untouched, max_entries, scheduled, roomy}
 use Rattle.semantics.specs.Calls.{run_as, sequential_run, sequential_outcome, sequential_call, result}
 use Rattle.engine.specs.Work.{local_words, cell_words, flat, Bases, sizes_at, Starts, Writes}
 use Rattle.jumps.specs.Jumps.{positions, FillsJumps}
@@ -138,7 +139,7 @@ outcome_of : {t : List ℕ} {P M c : ℕ} {records : ℕ} {ts js ss ls bs ks : L
     → cell_size * c ≤ length cs → (q : Starting t records js ss ls bs ks) → q.loaded.program ≡ a.program → RanAs q ts h n es ms es' r
     → Writes ms c cs os
     → ◌≡◌ {A = Outcome} (record {
-      answer = record { number = 0; end = r.end; steps = r.steps; unused = length ts - r.taken; events = r.events; reason = r.reason };
+      answer = record { number = 0; end = end_number (end_of r.end); steps = r.steps; unused = length ts - r.taken; events = r.events; reason = reason_of (end_of r.end) };
       cells = os;
       events = es';
     }) (sequential_outcome n h ts cs es a.program)
@@ -148,18 +149,18 @@ outcome_of {c = c} {ts = ts} {h = h} {n} {cs} {es} {os = os} {es'} {r} a room q 
     let left : length ts - r.taken ≡ length z.config.todo = sym (length-drop r.taken ts) ∙ ap length (sym z.todo) in
     let all : c ≡ length (flat η) = a.cells ∙ ap (λ (p : Program Plain). sum p.sizes) (sym w) ∙ ap sum (sym z.sizes) ∙ sym (length_flat η) in
     let wrote : os ≡ over (cells η) cs = W.written η z.memory all room in
-    rw (z.end, z.reason, left, z.events.count, wrote, z.events.bytes)
+    rw (z.end, left, z.events.count, wrote, z.events.bytes)
     (sym (ap (λ (ran : C.Ran). result ran.how ran.steps (length ran.config.todo) ran.config.memory ran.config.events cs es) same))
 
 -- of the whole call
-pub run_outcome : {t : List ℕ} {P M c : ℕ} {ts js js' ss : List ℕ} {h n k : ℕ} {cs es ms os es' : List ℕ} {r : Ran} → length js ≡ positions
+pub run_outcome : {t : List ℕ} {P M c : ℕ} {ts js js' ss : List ℕ} {h n k : ℕ} {cs es ms os es' : List ℕ} {r : Ran} {u v : ℕ} → length js ≡ positions
     → FillsJumps t P js js' → Starts (sizes_at t (records_from t P M + record_size * P) M) ss k
     → Runs t (records_from t P M) ts js' ss (replicate local_words 0) (replicate stack_frames 0) (replicate cell_words (2 ^ 32))
     h n es ms es' r
-    → Writes ms c cs os
-    → Outcomes t P M c ts n h cs es (record { number = 0; end = r.end; steps = r.steps; unused = length ts - r.taken; events = r.events; reason = r.reason }) os es'
+    → Writes ms c cs os → u ≡ end_number (end_of r.end) → v ≡ reason_of (end_of r.end)
+    → Outcomes t P M c ts n h cs es (record { number = 0; end = u; steps = r.steps; unused = length ts - r.taken; events = r.events; reason = v }) os es'
 unfolding accepted_starting
-run_outcome e F S R W = record { same = λ a room. outcome_of a room (accepted_starting a e F S) refl (R.ran (accepted_starting a e F S)) W }
+run_outcome e F S R W u v = rw (u, v) (record { same = λ a room. outcome_of a room (accepted_starting a e F S) refl (R.ran (accepted_starting a e F S)) W })
 
 -- ---- the reader's answer
 

@@ -7,7 +7,6 @@ use mathlib.Core.Bool.{Bool, true, false}
 use lib.ListN.{length, get_or, length-replicate}
 use lib.Seq.{drop-length}
 use Rattle.value.specs.Maybe.{is, nothing}
-use Rattle.value.specs.Try.{reason_number}
 use Rattle.value.specs.declared.Reason.{Reason}
 use Rattle.value.proofs.Laws.Maybes.{is_inj, missing}
 use Rattle.value.proofs.Laws.Lists.{each_at}
@@ -18,13 +17,15 @@ use Rattle.format.proofs.Laws.Sound.{LocalsRight}
 use Rattle.format.specs.Syntax.{Block, Proc, Program, Plain}
 use Rattle.format.specs.Encode.{record_size}
 use Rattle.semantics.specs.Step.{Frame, Stack, entered}
-use Rattle.semantics.specs.Threads.{End, finished, used, blocked, spent}
+use Rattle.semantics.specs.Threads.{used}
 use Rattle.semantics.specs.Copy as C
 use Rattle.decide.specs.declared.step.Step.{Step}
 use Rattle.decide.specs.declared.step.Step.TheVariants.{Blocked}
 use Rattle.sequential.specs.declared.machine.State.{State}
 use Rattle.sequential.specs.declared.machine.Ran.{Ran}
-use Rattle.semantics.specs.Calls.{end_number, reason_of}
+use Rattle.engine.specs.declared.ends.End as Ends
+use Rattle.engine.specs.declared.ends.End.TheVariants as E
+use Rattle.engine.specs.Ends.{end_of}
 use Rattle.jumps.specs.Jumps.{positions, Settled, last, first}
 use Rattle.sequential.specs.Sequential.{most_frames, Present, Due, CarriesOut, Facing, Faced}
 use Rattle.sequential.specs.Sequential.{Faces, UsedUp, ran_with, Starting, run_of, Runs}
@@ -205,19 +206,18 @@ module _ {t : List ℕ} {records : ℕ} {ts js ss ls₀ bs₀ cs₀ : List ℕ} 
   going_taken = (G.from G.start).present.taken
 
   -- how the run ends, with what the code answers
-  ended : {r : Ran} (how : End) → r ≡ ran_with (end_number how) (reason_of how) k s
+  ended : {r : Ran} (e : Ends.End) → r ≡ ran_with e k s
       → ((q : Starting t records js ss ls₀ bs₀ cs₀)
-      → C.run h q.loaded.program.procs (n - k) k (G.from q).config ≡ record { how = how; steps = k; config = (G.from q).config })
+      → C.run h q.loaded.program.procs (n - k) k (G.from q).config ≡ record { how = end_of e; steps = k; config = (G.from q).config })
       → Runs t records ts js ss ls₀ bs₀ cs₀ h n lent cs es r
-  ended {r} how e f = rw e (record {
+  ended {r} e z f = rw z (record {
     ran = λ q.
         let g = G.from q in
         record {
-          how = how;
+          how = end_of e;
           config = g.config;
           same = g.same ∙ f q;
           end = refl;
-          reason = refl;
           memory = g.present.memory;
           full = g.present.full;
           sizes = g.present.sizes;
@@ -228,9 +228,9 @@ module _ {t : List ℕ} {records : ℕ} {ts js ss ls₀ bs₀ cs₀ : List ℕ} 
   })
 
   -- "judged finished"
-  pub going_finished : {r : Ran} → s.depth ≡ 0 → r ≡ ran_with 0 0 k s → Runs t records ts js ss ls₀ bs₀ cs₀ h n lent cs es r
+  pub going_finished : {r : Ran} → s.depth ≡ 0 → r ≡ ran_with E.Finished k s → Runs t records ts js ss ls₀ bs₀ cs₀ h n lent cs es r
   going_finished e f =
-      ended finished f (λ q. run_none h q.loaded.program.procs (n - k) k (G.from q).config
+      ended E.Finished f (λ q. run_none h q.loaded.program.procs (n - k) k (G.from q).config
       (empty (G.from q).config.stack (sym (G.from q).present.depth ∙ e)))
     where
       empty : (s : Stack Plain) → length s ≡ 0 → s ≡ []
@@ -247,14 +247,14 @@ module _ {t : List ℕ} {records : ℕ} {ts js ss ls₀ bs₀ cs₀ : List ℕ} 
     going_few = few G.start (G.from G.start) deep
 
     -- "at its budget"
-    pub going_spent : {r : Ran} → k ≡ n → r ≡ ran_with 3 0 k s → Runs t records ts js ss ls₀ bs₀ cs₀ h n lent cs es r
+    pub going_spent : {r : Ran} → k ≡ n → r ≡ ran_with E.Spent k s → Runs t records ts js ss ls₀ bs₀ cs₀ h n lent cs es r
     going_spent e f =
-        ended spent f (λ q. run_spent h q.loaded.program.procs (n - k) k (G.from q).config (top q (G.from q) deep).2 (omega arith))
+        ended E.Spent f (λ q. run_spent h q.loaded.program.procs (n - k) k (G.from q).config (top q (G.from q) deep).2 (omega arith))
 
     module _ {u : Bool} (left : k ≡ n → ⊥) (U : UsedUp t ts s u) where
       -- "used up"
-      pub going_used : {r : Ran} → u ≡ true → r ≡ ran_with 1 0 k s → Runs t records ts js ss ls₀ bs₀ cs₀ h n lent cs es r
-      going_used e f = ended used f (λ q. run_ended h q.loaded.program.procs (n - k) k (G.from q).config (next q) (omega (arith, G.low)))
+      pub going_used : {r : Ran} → u ≡ true → r ≡ ran_with E.UsedUp k s → Runs t records ts js ss ls₀ bs₀ cs₀ h n lent cs es r
+      going_used e f = ended E.UsedUp f (λ q. run_ended h q.loaded.program.procs (n - k) k (G.from q).config (next q) (omega (arith, G.low)))
         where
           next : (q : Starting t records js ss ls₀ bs₀ cs₀) → C.next h q.loaded.program.procs (G.from q).config ≡ C.ended used
           next q = go (view q.loaded.same q.loaded.sound (top_frame (tower_of (G.from q).present (top q (G.from q) deep).2)))
@@ -277,10 +277,10 @@ module _ {t : List ℕ} {records : ℕ} {ts js ss ls₀ bs₀ cs₀ : List ℕ} 
         faced q = F.faced (facing_of q (G.from q) deep (U.no e))
 
         -- "blocked"
-        pub going_blocked : {r : Ran} {y : Reason} {m : ℕ} → x ≡ Blocked y → m ≡ reason_number y → r ≡ ran_with 2 m k s → Runs t records ts js ss ls₀ bs₀ cs₀ h n lent cs es r
+        pub going_blocked : {r : Ran} {y : Reason} → x ≡ Blocked y → r ≡ ran_with (E.Blocked y) k s → Runs t records ts js ss ls₀ bs₀ cs₀ h n lent cs es r
         unfolding facing_of
-        going_blocked {y = y} z w f =
-            ended (blocked y) (f ∙ ap (λ m. ran_with 2 m k s) w) (λ q. run_ended h q.loaded.program.procs (n - k) k (G.from q).config
+        going_blocked {y = y} z f =
+            ended (E.Blocked y) f (λ q. run_ended h q.loaded.program.procs (n - k) k (G.from q).config
             (next_blocked h (top q (G.from q) deep).2 (faced q).decision z) (omega (arith, G.low)))
 
         module _ (on : (y : Reason) → x ≡ Blocked y → ⊥) where

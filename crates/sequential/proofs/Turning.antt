@@ -8,13 +8,13 @@ use mathlib.Core.Bool.{Bool, true, false}
 use lib.ListN.{get_or}
 use mir.Val.{Fits}
 use mir.Syntax.{w64}
-use Rattle.value.specs.Try.{reason_number}
 use Rattle.value.specs.declared.Reason.{Reason}
 use Rattle.value.proofs.Laws.Tests.{never}
 use Rattle.decide.specs.declared.step.Step.{Step}
 use Rattle.decide.specs.declared.step.Step.TheVariants as S
 use Rattle.decide.specs.Decided.{Lies, DecidesAll, Tests}
 use Rattle.engine.specs.Work.{frame_words}
+use Rattle.engine.specs.declared.ends.End.TheVariants as E
 use Rattle.quick.specs.declared.turn.Quick.{Quick}
 use Rattle.quick.specs.declared.turn.Quick.TheVariants.{Assign, Read, Write, Holds, Fails, Call, Left}
 use Rattle.quick.specs.Quick.{Turning, Turned, Turns, Row, none, more, steps_of}
@@ -155,9 +155,9 @@ module _ {t : List ℕ} {records : ℕ} {ts js ss ls₀ bs₀ cs₀ : List ℕ} 
       left_facing = going_facing going_above deep under U e
 
       module _ {ls'' : List ℕ} {x : Step} (F : Faces t ts ss ls' cs s ls'' x) where
-        pub left_blocked : {a : Ran} {y : Reason} {m : ℕ} → x ≡ S.Blocked y → m ≡ reason_number y → a ≡ ran_with 2 m k s
+        pub left_blocked : {a : Ran} {y : Reason} → x ≡ S.Blocked y → a ≡ ran_with (E.Blocked y) k s
             → Runs t records ts js ss ls₀ bs₀ cs₀ h n lent cs es a
-        left_blocked z w f = going_blocked going_above deep under U e F z w f
+        left_blocked z f = going_blocked going_above deep under U e F z f
 
         module _ (on : (y : Reason) → x ≡ S.Blocked y → ⊥) where
           pub left_due : Due t records js ls'' bs cs es s x

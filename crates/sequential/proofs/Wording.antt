@@ -2,19 +2,16 @@
 use Prim.Native.Nat.{ℕ, ◌+◌, ◌*◌, ◌-◌, ◌/◌, ◌≤◌, ◌<◌}
 use native.Mathlib.Omega.{arith}
 use mathlib.Core.Path.{◌≡◌, refl, sym, ap, ◌∙◌}
-use mathlib.Core.List.{List, [], ◌∷◌}
+use mathlib.Core.List.{List}
 use mathlib.Core.Bool.{Bool, true, false}
 use lib.ListN.{length, set}
-use types.Run.{OneOf, miss}
-use denote.Enum.Declared.{tag_of}
 use mir.Val.{Fits}
 use mir.Syntax.{w64}
-use Rattle.value.specs.contracts.Answer.{the_type}
-use Rattle.value.specs.Try.{has}
+use Rattle.value.specs.Try.{has, lacks}
 use Rattle.value.specs.Values.{given}
 use Rattle.value.specs.declared.Value.{Value}
-use Rattle.value.specs.declared.Answer.{Answer}
-use Rattle.value.specs.declared.Answer.TheVariants as A
+use Rattle.value.specs.declared.Reason.{Reason}
+use Rattle.std.specs.Prelude.{Result, Ok, Err}
 use Rattle.value.proofs.Laws.Tests.{never}
 use Rattle.value.proofs.Laws.Tries.{has_inj, lacking}
 use Rattle.semantics.specs.Buffers.{event_size}
@@ -40,7 +37,7 @@ module _ {h : ℕ} {bs es : List ℕ} {s : State} {ws : Bool} {l i w : ℕ} wher
   word_passed g = record { recorded = λ v e. event_passed g }
 
   -- of one that is, with room: the word holds one value
-  pub word_kept : {a : Answer} {u : Value} {es' : List ℕ} {n : ℕ} → given a ≡ value_in w → a ≡ A.Is u
+  pub word_kept : {a : Result Value Reason} {u : Value} {es' : List ℕ} {n : ℕ} → given a ≡ value_in w → a ≡ Ok u
       → Recorded h es s.events (event_in bs s ws l i u) es' n → RecordedWord h bs es s ws l i w es' n
   word_kept {a} {u} {es'} {n} g f R = record {
     recorded = λ v e.
@@ -53,13 +50,12 @@ module _ {h : ℕ} {bs es : List ℕ} {s : State} {ws : Bool} {l i w : ℕ} wher
   word_counted g f = record { recorded = λ v e. event_kept g refl (event_past es s.events (event_in bs s ws l i v) f) }
 
   -- a word that holds none is not asked for
-  pub word_none : (a : Answer) {es' : List ℕ} {n : ℕ} → given a ≡ value_in w → OneOf (1 ∷ 2 ∷ []) (tag_of the_type a) → RecordedWord h bs es s ws l i w es' n
-  word_none a {es'} {n} g o = record { recorded = λ v e. go a (g ∙ rw e) o }
-    where
-      go : {v : Value} (a : Answer) → given a ≡ has v → OneOf (1 ∷ 2 ∷ []) (tag_of the_type a) → Recorded h es s.events (event_in bs s ws l i v) es' n
-      go (A.Is u) z o = absurd (miss (1 ∷ 2 ∷ []) 0 tt o)
-      go A.OutOfRange z o = lacking z
-      go A.WrongKind z o = lacking z
+  pub word_none : {a : Result Value Reason} {r : Reason} {es' : List ℕ} {n : ℕ} → given a ≡ value_in w → a ≡ Err r → RecordedWord h bs es s ws l i w es' n
+  word_none {r = r} g o = record {
+    recorded = λ v e.
+        let none : lacks r ≡ has v = sym (ap given o) ∙ g ∙ rw e in
+        lacking none;
+  }
 
 -- one law for each way
 pub ruleset word_ways = (word_passed, word_kept)

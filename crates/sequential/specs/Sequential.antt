@@ -22,7 +22,9 @@ use Rattle.semantics.specs.Memory.{evals, fresh, Event}
 use Rattle.semantics.specs.Step.{Frame, Stack}
 use Rattle.semantics.specs.Threads.{End}
 use Rattle.semantics.specs.Copy as C
-use Rattle.semantics.specs.Calls.{end_number, reason_of, Outcome, sequential_outcome}
+use Rattle.semantics.specs.Calls.{Outcome, sequential_outcome}
+use Rattle.engine.specs.declared.ends.End as E
+use Rattle.engine.specs.Ends.{end_of}
 use Rattle.engine.specs.Work.{Clears, frame_words, local_words, cell_words, Framed, Holds, Bases}
 use Rattle.engine.specs.Events.{Logged, way_of}
 use Rattle.decide.specs.Decided.{Act, act_of, act_end, decided, chosen}
@@ -177,8 +179,8 @@ pub record UsedUp (t ts : List ℕ) (s : State) (r : Bool) : Type 0 where
   pub no : r ≡ false → get_or t s.at 0 ≡ 0x27 → s.taken < length ts
 
 -- what a run came to, in this state
-abbrev pub ran_with : ℕ → ℕ → ℕ → State → Ran
-ran_with how reason steps s = record { end = how; reason = reason; steps = steps; taken = s.taken; events = s.events }
+abbrev pub ran_with : E.End → ℕ → State → Ran
+ran_with how steps s = record { end = how; steps = steps; taken = s.taken; events = s.events }
 
 -- the words of the locals, of the cells and of the frames, before the first step
 pub record Starting (t : List ℕ) (records : ℕ) (js ss ls bs cs : List ℕ) : Type 0 where
@@ -201,8 +203,7 @@ pub record RanAs {t : List ℕ} {records : ℕ} {js ss ls bs cs : List ℕ} (q :
   pub how : End
   pub config : C.Config
   pub same : run_of q ts h n ≡ record { how = how; steps = r.steps; config = config }
-  pub end : r.end ≡ end_number how
-  pub reason : r.reason ≡ reason_of how
+  pub end : end_of r.end ≡ how
   pub memory : Holds config.memory cs'
   pub full : length cs' ≡ cell_words
   pub sizes : shape config.memory ≡ q.loaded.program.sizes

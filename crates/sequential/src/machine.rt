@@ -8,12 +8,12 @@ ghost use Rattle.sequential.specs.Sequential.{Facing, Faces, UsedUp, ran_with, S
 ghost use Rattle.sequential.specs.Words.{RecordedWord, DueWords, CarriesWords};
 
 use basics::numbers::{
-    ASSIGN, BLOCKED, CALL, CELL_WORDS, END, EVENT, FINISHED, FRAME, FRAMES, LOCAL_WORDS, LONGEST,
-    READ, RECORD, SELECT, SIZE, SPENT, STARTS, TRAILER, USED, WRITE,
+    ASSIGN, CALL, CELL_WORDS, END, EVENT, FRAME, FRAMES, LOCAL_WORDS, LONGEST, READ, RECORD,
+    SELECT, SIZE, STARTS, TRAILER, WRITE,
 };
-use basics::reasons;
 use decide::step;
 use decide::step::Step;
+use engine::ends::End;
 use engine::event::Event;
 use engine::word::ZERO;
 use engine::{evaluate, event, locals, memory, table, word};
@@ -21,7 +21,7 @@ use jumps::ways;
 use quick::turn;
 use quick::turn::Quick;
 use semantics::RunAnswer;
-use value::{Answer, Value};
+use value::Value;
 
 // The state of a run beside its arrays: where it goes on, how many frames there are, the thread last selected, the entries taken and
 // the events recorded.
@@ -34,11 +34,10 @@ struct State {
     events: usize,
 }
 
-// What a run came to: its end, the reason (0 unless it blocked), its steps, the entries taken and the events recorded.
+// What a run came to: its end, its steps, the entries taken and the events recorded.
 #[derive(Clone, Copy)]
 struct Ran {
-    end: u8,
-    reason: u8,
+    end: End,
     steps: u64,
     taken: usize,
     events: usize,
@@ -114,7 +113,8 @@ fn record_event(
     count
 }
 
-// The same for the value that a word holds. What is only counted is not taken apart.
+// The same for the value that a word holds. What is only counted is not taken apart. Out of the loop this costs some 25 instructions a step.
+#[inline(always)]
 fn record_word(
     events: &mut [u8],
     h: usize,
@@ -133,7 +133,7 @@ fn record_word(
         return count;
     }
     if count < events.len() / EVENT {
-        if let Answer::Is(value) = word::unpack(w) {
+        if let Ok(value) = word::unpack(w) {
             return record_event(events, h, back, state, writes, location, index, value);
         }
     }
@@ -382,12 +382,11 @@ fn used_up(t: &[u8], schedule: &[u8], state: State) -> bool
 }
 
 // How a run ended.
-fn outcome(end: u8, reason: u8, steps: u64, state: State) -> Ran
-    ensures { result ≡ ran_with end reason steps state }
+fn outcome(end: End, steps: u64, state: State) -> Ran
+    ensures { result ≡ ran_with end steps state }
 {
     Ran {
         end,
-        reason,
         steps,
         taken: state.taken,
         events: state.events,
@@ -423,10 +422,10 @@ fn go(
     let mut steps = 0;
     loop {
         if state.depth == 0 {
-            return outcome(FINISHED, 0, steps, state);
+            return outcome(End::Finished, steps, state);
         }
         if steps == budget {
-            return outcome(SPENT, 0, steps, state);
+            return outcome(End::Spent, steps, state);
         }
         let base = FRAME * (state.depth - 1);
         let fast = turn::decide(
@@ -448,11 +447,11 @@ fn go(
             continue;
         }
         if used_up(t, schedule, state) {
-            return outcome(USED, 0, steps, state);
+            return outcome(End::UsedUp, steps, state);
         }
         let step = due(t, schedule, starts, words, cells, state);
         if let Step::Blocked(reason) = step {
-            return outcome(BLOCKED, reasons::number(reason), steps, state);
+            return outcome(End::Blocked(reason), steps, state);
         }
         state = carry_out(
             t, records, jumps, words, cells, back, events, h, state, step,
@@ -501,10 +500,10 @@ pub fn run(
     memory::write_cells(&memory, count, cells);
     RunAnswer {
         number: 0,
-        end: ran.end,
+        end: ran.end.number(),
         steps: ran.steps,
         unused: schedule.len() - ran.taken,
         events: ran.events as u64,
-        reason: ran.reason,
+        reason: ran.end.reason(),
     }
 }

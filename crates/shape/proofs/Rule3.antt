@@ -2,12 +2,14 @@
 use Prim.Native.Nat.{ℕ, zero, suc, ◌+◌, ◌*◌, ◌-◌, ◌≤◌, ◌<◌}
 use native.Mathlib.Omega.{arith}
 use native.Mathlib.Nat.{add-zero}
-use mathlib.Core.Path.{◌≡◌, refl, sym, ap, ◌∙◌}
+use mathlib.Core.Path.{◌≡◌, refl, sym, ap, ap₂, ◌∙◌}
 use mathlib.Core.List.{List}
 use mathlib.Core.Bool.{Bool, true, false}
-use lib.ListN.{length, get_or, take, drop}
+use lib.ListN.{get_or, take, drop}
 use lib.Seq.{drop-drop, get_or-drop}
-use lib.Dec.{eqb}
+use lib.Dec.{eqb, leb}
+use Rattle.std.specs.Prelude.{◌&&◌}
+use Rattle.std.specs.List.{list_all, range_with_len}
 use borrow.Author.Tests.{le-leb, lt-leb}
 use Rattle.value.specs.Maybe.{both}
 use Rattle.value.specs.Lists.{all, sum}
@@ -17,48 +19,35 @@ use Rattle.basics.specs.Laws.Places as Numbers
 use Rattle.format.specs.Syntax.{Kind, concurrent, sequential}
 use Rattle.format.specs.Encode.{Trailer, record_size}
 use Rattle.format.specs.Rules.{limits, within, begun, max_size}
-use Rattle.shape.specs.Shapes.{limits_of, heads_at, numbers_at, few_locals, LocalsTest, SizesTest, CellsAre, BegunTest}
+use Rattle.shape.specs.Shapes.{heads_at, numbers_at, few_locals, LocalsTest, SizesTest, CellsAre, BegunTest}
 use Rattle.shape.specs.Shapes.{MainsTest, StartsTest, RecordsTest}
 use Rattle.format.proofs.Laws.Places.{rows, head_at}
-use Rattle.parse.specs.Ends.{kind_of}
+use Rattle.parse.specs.Ends.{kind_of, limits_of}
 use Rattle.parse.specs.declared.Kind as K
 use Rattle.parse.specs.declared.Kind.TheVariants.{Concurrent, Sequential}
 use Rattle.basics.specs.declared.numbers.Limits as L
 
 -- ---- a test of things one after the other, k bytes each
 
--- the things that are left are m from p on
-pub record ScanFrom {A : Type 0} (value : List ℕ → A) (k : ℕ) (ok : A → Bool) (t : List ℕ) (i n p m : ℕ) : Type 0 where
-  pub same : all ok (rows value k n (drop i t)) ≡ all ok (rows value k m (drop p t))
-  pub room : p + k * m ≤ length t
+-- the library's "and" is the definitions'
+and_both : (a b : Bool) → (a && b) ≡ both a b
+and_both true b = refl
+and_both false b = refl
 
-module _ {A : Type 0} (value : List ℕ → A) (k : ℕ) (ok : A → Bool) (t : List ℕ) (i n : ℕ) where
-  -- all are left
-  scan_start : i + k * n ≤ length t → ScanFrom value k ok t i n i n
-  scan_start l = record { same = refl; room = l }
+module _ {A : Type 0} (value : List ℕ → A) (k : ℕ) (ok : A → Bool) (t : List ℕ) (i : ℕ) (test : ℕ → Bool)
+    (same : (j : ℕ) → test j ≡ ok (value (drop (i + k * j) t))) where
+  -- the tests from thing a on
+  all_from : (a n : ℕ) → list_all test (range_with_len a n) ≡ all ok (rows value k n (drop (i + k * a) t))
+  all_from a zero = refl
+  all_from a (suc n) =
+      let next : i + k * (a + 1) ≡ i + k * a + k = omega arith in
+      let behind : drop (i + k * (a + 1)) t ≡ drop k (drop (i + k * a) t) = rw next (sym (drop-drop k (i + k * a) t)) in
+      and_both (test a) (list_all test (range_with_len (a + 1) n))
+      ∙ ap₂ both (same a) (all_from (a + 1) n ∙ ap (λ bs. all ok (rows value k n bs)) behind)
 
-  module _ (p m : ℕ) (F : ScanFrom value k ok t i n p m) where
-    -- the first of those that are left, and the others
-    opened : 0 < m → all ok (rows value k n (drop i t)) ≡ both (ok (value (drop p t))) (all ok (rows value k (m - 1) (drop (p + k) t)))
-    opened some =
-        let one : m ≡ suc (m - 1) = omega arith in
-        F.same ∙ ap (λ m. all ok (rows value k m (drop p t))) one ∙ rw (drop-drop k p t)
-
-    -- one passes
-    scan_next : 0 < m → ok (value (drop p t)) ≡ true → ScanFrom value k ok t i n (p + k) (m - 1)
-    scan_next some pass =
-        let one : m ≡ suc (m - 1) = omega arith in
-        let longer : k * suc (m - 1) ≡ k + k * (m - 1) = omega arith in
-        let room : p + k * suc (m - 1) ≤ length t = rw one at F.room in
-        record { same = opened some ∙ rw pass; room = omega arith }
-
-    -- one fails
-    scan_fail : 0 < m → ok (value (drop p t)) ≡ false → false ≡ all ok (rows value k n (drop i t))
-    scan_fail some fail = sym (opened some ∙ rw fail)
-
-    -- none is left
-    scan_end : m ≤ 0 → true ≡ all ok (rows value k n (drop i t))
-    scan_end z = let none : m ≡ 0 = omega arith in sym (F.same ∙ rw none)
+  -- all of them
+  pub all_pass : (n : ℕ) → list_all test (range_with_len 0 n) ≡ all ok (rows value k n (drop i t))
+  all_pass n = let first : i + k * 0 ≡ i = omega arith in all_from 0 n ∙ rw first
 
 -- ---- what stands there
 
@@ -73,46 +62,16 @@ module _ (t : List ℕ) (p : ℕ) where
 
 -- ---- the locals
 
-pub record LocalsFrom (t : List ℕ) (i n most p m : ℕ) : Type 0 where
-  pub scan : ScanFrom head_at record_size (few_locals most) t i n p m
-  pub room : p + record_size * m ≤ length t
+-- "parameters over locals; locals over 16", of record j
+abbrev pub few_at : List ℕ → ℕ → ℕ → ℕ → Bool
+few_at t i most j = both (leb (get_or t (i + record_size * j) 0) (get_or t (i + record_size * j + 1) 0)) (leb (get_or t (i + record_size * j + 1) 0) most)
 
-module _ (t : List ℕ) (i n most : ℕ) where
-  -- all are left
-  pub locals_start : i + record_size * n ≤ length t → LocalsFrom t i n most i n
-  locals_start l = record { scan = scan_start head_at record_size (few_locals most) t i n l; room = l }
-
-  module _ {p m : ℕ} (F : LocalsFrom t i n most p m) where
-    -- "parameters over locals"
-    pub locals_low : 0 < m → get_or t (p + 1) 0 < get_or t p 0 → LocalsTest t i n most false
-    locals_low some h = record {
-      same = scan_fail head_at record_size (few_locals most) t i n p m F.scan some
-          (rw (params_at t p, locals_at_lem t p, lt-leb (get_or t p 0) (get_or t (p + 1) 0) h));
-    }
-
-    module _ (some : 0 < m) (few : get_or t p 0 ≤ get_or t (p + 1) 0) where
-      -- "locals over 16"
-      pub locals_over : most < get_or t (p + 1) 0 → LocalsTest t i n most false
-      locals_over h = record {
-        same =
-            scan_fail head_at record_size (few_locals most) t i n p m F.scan some
-            (rw (params_at t p, locals_at_lem t p, le-leb (get_or t p 0) (get_or t (p + 1) 0) few, lt-leb (get_or t (p + 1) 0) most h));
-      }
-
-      -- one passes
-      pub locals_next : get_or t (p + 1) 0 ≤ most → LocalsFrom t i n most (p + record_size) (m - 1)
-      locals_next h =
-          let next = scan_next head_at record_size (few_locals most) t i n p m F.scan some
-          (rw (params_at t p, locals_at_lem t p, le-leb (get_or t p 0) (get_or t (p + 1) 0) few, le-leb (get_or t (p + 1) 0) most h))
-          in
-          record { scan = next; room = next.room }
-
-    -- none is left
-    pub locals_end : m ≤ 0 → LocalsTest t i n most true
-    locals_end z = record { same = scan_end head_at record_size (few_locals most) t i n p m F.scan z }
-
--- one law for each way
-pub ruleset locals_ways = (locals_start, locals_low, locals_over, locals_next, locals_end)
+pub locals_tested : (t : List ℕ) (i n most : ℕ) {b : Bool} → b ≡ list_all (few_at t i most) (range_with_len 0 n) → LocalsTest t i n most b
+locals_tested t i n most e = record {
+  same = e
+      ∙ all_pass head_at record_size (few_locals most) t i (few_at t i most)
+      (λ j. rw (params_at t (i + record_size * j), locals_at_lem t (i + record_size * j))) n;
+}
 
 -- ---- the sizes
 
@@ -120,68 +79,51 @@ pub ruleset locals_ways = (locals_start, locals_low, locals_over, locals_next, l
 abbrev number : List ℕ → ℕ
 number bs = unbytes (take 2 bs)
 
-pub record SizesFrom (t : List ℕ) (i n p m : ℕ) : Type 0 where
-  pub scan : ScanFrom number 2 (within 1 max_size) t i n p m
-  pub room : p + 2 * m ≤ length t
+-- what stands at a place
+number_there : (t : List ℕ) (p : ℕ) → number_at 2 t p ≡ number (drop p t)
+number_there t p = Numbers.number_at_lem 2 t p
 
-module _ (t : List ℕ) (i n : ℕ) where
-  -- all are left
-  pub sizes_start : i + 2 * n ≤ length t → SizesFrom t i n i n
-  sizes_start l = record { scan = scan_start number 2 (within 1 max_size) t i n l; room = l }
-
-  module _ {p m s : ℕ} (F : SizesFrom t i n p m) (is : s ≡ number_at 2 t p) (some : 0 < m) where
-    -- the size there
-    size_is : number (drop p t) ≡ s
-    size_is = sym (is ∙ Numbers.number_at_lem 2 t p)
-
-    -- size 0
-    pub sizes_none : s < 1 → SizesTest t i n false
-    sizes_none h = record { same = scan_fail number 2 (within 1 max_size) t i n p m F.scan some (rw (size_is, lt-leb 1 s h)) }
-
-    -- over 256
-    pub sizes_over : 1 ≤ s → max_size < s → SizesTest t i n false
-    sizes_over l h = record { same = scan_fail number 2 (within 1 max_size) t i n p m F.scan some (rw (size_is, le-leb 1 s l, lt-leb s max_size h)) }
-
-    -- one passes
-    pub sizes_next : 1 ≤ s → s ≤ max_size → SizesFrom t i n (p + 2) (m - 1)
-    sizes_next l h =
-        let next = scan_next number 2 (within 1 max_size) t i n p m F.scan some (rw (size_is, le-leb 1 s l, le-leb s max_size h)) in
-        record { scan = next; room = next.room }
-
-  -- none is left
-  pub sizes_end : {p m : ℕ} → SizesFrom t i n p m → m ≤ 0 → SizesTest t i n true
-  sizes_end {p} {m} F z = record { same = scan_end number 2 (within 1 max_size) t i n p m F.scan z }
-
--- one law for each way
-pub ruleset sizes_ways = (sizes_start, sizes_none, sizes_over, sizes_next, sizes_end)
+pub sizes_tested : (t : List ℕ) (i n : ℕ) {b : Bool} → b ≡ list_all (λ j. within 1 max_size (number_at 2 t (i + 2 * j))) (range_with_len 0 n)
+    → SizesTest t i n b
+sizes_tested t i n e = record {
+  same = e
+      ∙ all_pass number 2 (within 1 max_size) t i (λ j. within 1 max_size (number_at 2 t (i + 2 * j)))
+      (λ j. ap (within 1 max_size) (number_there t (i + 2 * j))) n;
+}
 
 -- ---- all sizes together
 
--- c so far, and m more from p on
-pub record CellsFrom (t : List ℕ) (i n c p m : ℕ) : Type 0 where
-  pub same : sum (numbers_at t i n) ≡ c + sum (numbers_at t p m)
-  pub room : p + 2 * m ≤ length t
-  pub few : c + 65535 * m ≤ 65535 * n
+-- c so far, of j of them
+pub record CellsFrom (t : List ℕ) (i n c j : ℕ) : Type 0 where
+  pub same : sum (numbers_at t i n) ≡ c + sum (numbers_at t (i + 2 * j) (n - j))
+  pub few : c ≤ 65535 * j
+  pub inside : j ≤ n
 
 module _ (t : List ℕ) (i n : ℕ) where
   -- all are left
-  pub cells_start : i + 2 * n ≤ length t → CellsFrom t i n 0 i n
-  cells_start l = record { same = omega arith; room = l; few = omega arith }
+  pub cells_start : CellsFrom t i n 0 0
+  cells_start =
+      let first : i + 2 * 0 ≡ i = omega arith in
+      let all : n - 0 ≡ n = omega arith in
+      record { same = rw (first, all) (omega arith); few = omega arith; inside = omega arith }
 
-  module _ {c p m : ℕ} (F : CellsFrom t i n c p m) where
+  module _ {c j : ℕ} (F : CellsFrom t i n c j) where
     -- one more
-    pub cells_next : {s : ℕ} → s ≡ number_at 2 t p → s < 65536 → 0 < m → CellsFrom t i n (c + s) (p + 2) (m - 1)
+    pub cells_next : {s : ℕ} → s ≡ number_at 2 t (i + 2 * j) → s < 65536 → j < n → CellsFrom t i n (c + s) (j + 1)
     cells_next {s} e small some =
-        let one : m ≡ suc (m - 1) = omega arith in
-        let size : number (drop p t) ≡ s = sym (e ∙ Numbers.number_at_lem 2 t p) in
-        let more : sum (numbers_at t p m) ≡ s + sum (numbers_at t (p + 2) (m - 1)) = ap (λ m. sum (numbers_at t p m)) one ∙ rw (size, drop-drop 2 p t) in
-        record { same = omega (arith, F.same); room = omega (arith, F.room); few = omega (arith, F.few) }
+        let one : n - j ≡ suc (n - (j + 1)) = omega arith in
+        let size : number (drop (i + 2 * j) t) ≡ s = sym (e ∙ number_there t (i + 2 * j)) in
+        let far : i + 2 * (j + 1) ≡ i + 2 * j + 2 = omega arith in
+        let more : sum (numbers_at t (i + 2 * j) (n - j)) ≡ s + sum (numbers_at t (i + 2 * (j + 1)) (n - (j + 1))) =
+        ap (λ m. sum (numbers_at t (i + 2 * j) m)) one ∙ rw (size, drop-drop 2 (i + 2 * j) t, far)
+        in
+        record { same = omega (arith, F.same); few = omega (arith, F.few); inside = omega arith }
 
     -- none is left
-    pub cells_end : m ≤ 0 → CellsAre t i n c
+    pub cells_end : n ≤ j → CellsAre t i n c
     cells_end z =
-        let none : m ≡ 0 = omega arith in
-        let left : sum (numbers_at t p m) ≡ 0 = rw none in
+        let none : n - j ≡ 0 = omega arith in
+        let left : sum (numbers_at t (i + 2 * j) (n - j)) ≡ 0 = rw none in
         record { same = omega (arith, F.same) }
 
 -- one law for each way
@@ -215,36 +157,13 @@ module _ (t : List ℕ) (at P m : ℕ) where
 -- one law for each way
 pub ruleset begun_ways = (begun_there, begun_past)
 
-pub record MainsFrom (t : List ℕ) (i n at P p m : ℕ) : Type 0 where
-  pub scan : ScanFrom number 2 (begun (heads_at t at P)) t i n p m
-  pub room : p + 2 * m ≤ length t
-
-module _ (t : List ℕ) (i n at P : ℕ) where
-  -- all are left
-  pub mains_start : i + 2 * n ≤ length t → MainsFrom t i n at P i n
-  mains_start l = record { scan = scan_start number 2 (begun (heads_at t at P)) t i n l; room = l }
-
-  module _ {p m s : ℕ} {b : Bool} (F : MainsFrom t i n at P p m) (is : s ≡ number_at 2 t p) (some : 0 < m) (B : BegunTest t at P s b) where
-    -- the main there
-    main_is : begun (heads_at t at P) (number (drop p t)) ≡ b
-    main_is = ap (begun (heads_at t at P)) (sym (is ∙ Numbers.number_at_lem 2 t p)) ∙ sym B.same
-
-    -- one is none
-    pub mains_wrong : b ≡ false → MainsTest t i n at P false
-    mains_wrong e = record { same = scan_fail number 2 (begun (heads_at t at P)) t i n p m F.scan some (main_is ∙ e) }
-
-    -- one passes
-    pub mains_next : b ≡ true → MainsFrom t i n at P (p + 2) (m - 1)
-    mains_next e =
-        let next = scan_next number 2 (begun (heads_at t at P)) t i n p m F.scan some (main_is ∙ e) in
-        record { scan = next; room = next.room }
-
-  -- none is left
-  pub mains_end : {p m : ℕ} → MainsFrom t i n at P p m → m ≤ 0 → MainsTest t i n at P true
-  mains_end {p} {m} F z = record { same = scan_end number 2 (begun (heads_at t at P)) t i n p m F.scan z }
-
--- one law for each way
-pub ruleset mains_ways = (mains_start, mains_wrong, mains_next, mains_end)
+pub mains_tested : (t : List ℕ) (i n at P : ℕ) {b : Bool} → b ≡ list_all (λ j. begun (heads_at t at P) (number_at 2 t (i + 2 * j))) (range_with_len 0 n)
+    → MainsTest t i n at P b
+mains_tested t i n at P e = record {
+  same = e
+      ∙ all_pass number 2 (begun (heads_at t at P)) t i (λ j. begun (heads_at t at P) (number_at 2 t (i + 2 * j)))
+      (λ j. ap (begun (heads_at t at P)) (number_there t (i + 2 * j))) n;
+}
 
 -- ---- all that are begun
 

@@ -20,15 +20,14 @@ use Rattle.format.specs.Encode.{Head, record_size}
 use Rattle.format.specs.Encode as E
 use Rattle.format.specs.Decode.{Read, times, finish, block, max_nesting}
 use Rattle.format.specs.Rules.{allowed, placed}
-use Rattle.parse.specs.Ends.{end_of, check}
-use Rattle.shape.specs.Shapes.{heads_at, placed_right, bodies_right, BodyReads, BodiesTest}
+use Rattle.parse.specs.Ends.{end_of, check, BodyReads}
+use Rattle.shape.specs.Shapes.{heads_at, placed_right, bodies_right, BodiesTest}
 use Rattle.format.proofs.Laws.Places.{rows, head_at}
 use Rattle.format.proofs.Laws.Procs.{body_in}
 use Rattle.format.proofs.Laws.Rests.{block_leaves}
 use Rattle.format.proofs.Laws.Positions.{block_found}
 use Rattle.parse.proofs.Chains.{passed_at, passed_none, end_inside}
-use Rattle.parse.specs.declared.Ends.{Ends}
-use Rattle.parse.specs.declared.Ends.TheVariants.{At, Nothing}
+use Rattle.std.specs.Prelude.{Option, Some, None}
 
 -- ---- bodies one after the other
 
@@ -100,31 +99,39 @@ next_at code p l b h inside found =
     let body = block_found code p max_nesting h found in
     omega (arith, ap length body.2, length-drop l code, length-drop body.0 code, body.1.stands.ends, body.1.stands.fits)
 
--- m bodies are left, from procedure q on; the first begins at p, and its record stands in t from `at` on
-pub record BodiesFrom (k : Kind) (code t : List ℕ) (i n p at q m : ℕ) : Type 0 where
+-- q bodies stand up to p, and m are left; the record of the next stands in t from `at` on
+pub record BodiesLeft (k : Kind) (code t : List ℕ) (i n p at q m : ℕ) : Type 0 where
   pub same : Bytes code → bodies_right k 0 0 (heads_at t i n) code ≡ bodies_right k q p (heads_at t at m) (drop p code)
   pub inside : p ≤ length code
-  pub room : at + record_size * m ≤ length t
+  pub room : i + record_size * n ≤ length t
+  pub place : at ≡ i + record_size * q
   pub count : q + m ≡ n
+
+-- of n
+abbrev pub BodiesFrom : Kind → List ℕ → List ℕ → ℕ → ℕ → ℕ → ℕ → Type 0
+BodiesFrom k code t i n p q = BodiesLeft k code t i n p (i + record_size * q) q (n - q)
 
 module _ (k : Kind) (code t : List ℕ) (i n : ℕ) where
   -- all are left
-  pub bodies_start : i + record_size * n ≤ length t → BodiesFrom k code t i n 0 i 0 n
-  bodies_start l = record { same = λ h. refl; inside = omega arith; room = l; count = omega arith }
+  pub bodies_start : i + record_size * n ≤ length t → BodiesLeft k code t i n 0 (i + record_size * 0) 0 (n - 0)
+  bodies_start l =
+      let first : i + record_size * 0 ≡ i = omega arith in
+      let all : n - 0 ≡ n = omega arith in
+      rw (first, all) (record { same = λ h. refl; inside = omega arith; room = l; place = omega arith; count = omega arith })
 
-  module _ {p at q m : ℕ} (F : BodiesFrom k code t i n p at q m) where
+  module _ {p at q m : ℕ} (F : BodiesLeft k code t i n p at q m) where
     -- none is left
-    pub bodies_end : m ≤ 0 → BodiesTest k code t i n (eqb p (length code))
+    pub bodies_end : n ≤ q → BodiesTest k code t i n (eqb p (length code))
     bodies_end z = record {
       same = λ h.
-          let none : m ≡ 0 = omega arith in
+          let none : m ≡ 0 = omega (arith, F.count) in
           sym (F.same h
           ∙ ap (λ m. bodies_right k q p (heads_at t at m) (drop p code)) none
           ∙ no_more k q p (drop p code)
           ∙ at_end (length code) p (length-drop p code) F.inside);
     }
 
-    module _ (some : 0 < m) {o : ℕ} (off : o ≡ number_at 4 t (at + 2)) where
+    module _ (next : q < n) {o : ℕ} (off : o ≡ number_at 4 t (at + 2)) where
       -- the records behind the next
       abbrev behind : List Head
       behind = heads_at t (at + record_size) (m - 1)
@@ -135,7 +142,7 @@ module _ (k : Kind) (code t : List ℕ) (i n : ℕ) where
 
       -- of which the first is read
       left : Bytes code → bodies_right k 0 0 (heads_at t i n) code ≡ placed_right k q p (head_at (drop at t) ∷ behind) read
-      left h = F.same h ∙ rw (opened t at m some)
+      left h = F.same h ∙ rw (opened t at m (omega (arith, F.count)))
 
       -- the next does not begin there
       pub bodies_moved : (o ≡ p → ⊥) → BodiesTest k code t i n false
@@ -144,7 +151,7 @@ module _ (k : Kind) (code t : List ℕ) (i n : ℕ) where
             sym (left h ∙ not_placed k q p (head_at (drop at t)) behind read (rw (offset_at t at, ← off) (ne_eqb o p n)));
       }
 
-      module _ (here : o ≡ p) {f : Ends} (R : BodyReads k code p q f) where
+      module _ (here : o ≡ p) {f : Option ℕ} (R : BodyReads k code p q f) where
         -- the bytes of the others
         abbrev others : List ℕ → Read (List (Block Plain))
         others r = times (block max_nesting) (length behind) r
@@ -154,7 +161,7 @@ module _ (k : Kind) (code t : List ℕ) (i n : ℕ) where
         more b r found = rw found (finish_more b (others r))
 
         -- it is none
-        pub bodies_cut : f ≡ Nothing → BodiesTest k code t i n false
+        pub bodies_cut : f ≡ None → BodiesTest k code t i n false
         bodies_cut e = record {
           same = λ h.
               sym (left h
@@ -164,12 +171,15 @@ module _ (k : Kind) (code t : List ℕ) (i n : ℕ) where
         }
 
         -- it ends at l
-        pub bodies_next : {l : ℕ} → f ≡ At l → BodiesFrom k code t i n l (at + record_size) (q + 1) (m - 1)
+        pub bodies_next : {l : ℕ} → f ≡ Some l → BodiesLeft k code t i n l (i + record_size * (q + 1)) (q + 1) (n - (q + 1))
         bodies_next {l} e =
-            let ends : At l ≡ end_of code (block max_nesting (drop p code) >>= check (allowed (body_in k q))) = sym e ∙ R.reads.same in
+            let behind_it : i + record_size * (q + 1) ≡ at + record_size = omega (arith, F.place) in
+            let fewer : n - (q + 1) ≡ m - 1 = omega (arith, F.count) in
+            let ends : Some l ≡ end_of code (block max_nesting (drop p code) >>= check (allowed (body_in k q))) = sym e ∙ R.reads.same in
             let first = passed_at (allowed (body_in k q)) code p (block max_nesting (drop p code)) (block_leaves max_nesting (drop p code)) ends in
             let inside : l ≤ length code = end_inside code (block max_nesting (drop p code) >>= check (allowed (body_in k q))) ends in
-            record {
+            rw (behind_it, fewer)
+            (record {
               same = λ h.
                   let begun : eqb (head_at (drop at t)).at p ≡ true = rw (offset_at t at, ← off) (eq-eqb o p here) in
                   let far : p + length (E.block first.0) ≡ l = next_at code p l first.0 h inside first.1 in
@@ -179,9 +189,10 @@ module _ (k : Kind) (code t : List ℕ) (i n : ℕ) where
                   ∙ right_one k q p (head_at (drop at t)) behind first.0 (finish (others (drop l code))) begun first.2
                   ∙ ap₂ (λ q p. placed_right k q p behind (finish (others (drop l code)))) next far;
               inside = inside;
-              room = omega (arith, F.room);
+              room = F.room;
+              place = omega (arith, F.place);
               count = omega (arith, F.count);
-            }
+            })
 
 -- one law for each way
 pub ruleset bodies_ways = (bodies_start, bodies_end, bodies_moved, bodies_cut, bodies_next)

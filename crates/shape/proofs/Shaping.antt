@@ -26,10 +26,9 @@ use Rattle.format.proofs.Laws.Passes.{trailer_read, middle_read, formed_trailer,
 use Rattle.format.proofs.Laws.Refusals.{formed_if}
 use Rattle.format.proofs.Laws.TablePlaces.{trailer_at}
 use Rattle.shape.specs.declared.header.Trailer.{Trailer}
-use Rattle.shape.specs.declared.header.Header.{Header}
-use Rattle.shape.specs.declared.header.Header.TheVariants as H
-use Rattle.shape.specs.declared.header.Header.TheVariants.{Is}
-use Rattle.shape.specs.declared.form.Form.TheVariants.{Refused, Shaped}
+use Rattle.basics.specs.declared.refusals.Refusal.{Refusal}
+use Rattle.basics.specs.declared.refusals.Refusal.TheVariants as F
+use Rattle.std.specs.Prelude.{Result, Ok, Err}
 
 -- ---- rule 4, on what was read
 
@@ -129,13 +128,13 @@ module _ {k : Kind} {t : List ℕ} {r : Trailer} (closed : Closed k t r) where
       }
 
   -- rule 3 does not let it through
-  pub shape_wrong : {b : Bool} → RecordsTest k body at (trailer_of r) b → b ≡ false → FormIs k t (Refused 3)
+  pub shape_wrong : {b : Bool} → RecordsTest k body at (trailer_of r) b → b ≡ false → FormIs k t (Err F.Records)
   shape_wrong R e = record { gives = λ h. after_2 ∙ rw (← R.same, e) }
 
   module _ {b : Bool} (R : RecordsTest k body at (trailer_of r) b) (right : b ≡ true) {c : Bool}
       (B : BodiesTest k (take at t) body at r.procedures c) where
     -- rule 4 does not
-    pub shape_bodies : c ≡ false → FormIs k t (Refused 4)
+    pub shape_bodies : c ≡ false → FormIs k t (Err F.Bodies)
     shape_bodies e = record {
       gives = λ h.
           let wrong = sym (B.same (bytes_take at t h)) ∙ e in
@@ -145,7 +144,7 @@ module _ {k : Kind} {t : List ℕ} {r : Trailer} (closed : Closed k t r) where
 
     -- both do
     pub shape_right : {n : ℕ} → c ≡ true → CellsAre body (at + record_size * r.procedures) r.locations n
-        → FormIs k t (Shaped (record { procedures = r.procedures; locations = r.locations; threads = r.threads; records = at; cells = n }))
+        → FormIs k t (Ok (record { procedures = r.procedures; locations = r.locations; threads = r.threads; records = at; cells = n }))
     shape_right e C = record {
       gives = λ h.
           let some = made_some k m (finish (times (D.block max_nesting) (length m.heads) (take at t))) (sym (B.same (bytes_take at t h)) ∙ e) in
@@ -180,11 +179,11 @@ pub ruleset shape_ways = (shape_wrong, shape_bodies, shape_right, room_records, 
 -- ---- the trailer first
 
 -- refused by rule 1 or 2
-pub form_refused : (k : Kind) (t : List ℕ) {h : Header} {n : ℕ} → HeaderIs k t h → h ≡ H.Refused n → FormIs k t (Refused n)
+pub form_refused : (k : Kind) (t : List ℕ) {h : Result Trailer Refusal} {e : Refusal} → HeaderIs k t h → h ≡ Err e → FormIs k t (Err e)
 form_refused k t H e = record { gives = λ bytes. subst (HeaderFor k t) e H.gives bytes }
 
 -- let through by both
-pub form_closed : (k : Kind) (t : List ℕ) {h : Header} {r : Trailer} → HeaderIs k t h → h ≡ Is r → Closed k t r
+pub form_closed : (k : Kind) (t : List ℕ) {h : Result Trailer Refusal} {r : Trailer} → HeaderIs k t h → h ≡ Ok r → Closed k t r
 form_closed k t H e = subst (HeaderFor k t) e H.gives
 
 pub ruleset form_ways = (form_refused, form_closed)

@@ -1,5 +1,5 @@
 -- What the code finds out about a table's shape by rules 1 to 4, in the words of Rules.
-use Rattle.std.specs.Prelude.{ℕ, ◌+◌, ◌-◌, ◌≤◌, ◌≡◌, List, Bool, true, false, length, get_or, take, drop, leb}
+use Rattle.std.specs.Prelude.{ℕ, ◌+◌, ◌-◌, ◌≤◌, ◌≡◌, List, Bool, true, false, length, get_or, take, drop, leb, Result, Ok, Err}
 use Rattle.value.specs.Maybe.{Maybe, is, nothing, both}
 use Rattle.value.specs.Lists.{all, sum}
 use Rattle.value.specs.Values.{unbytes}
@@ -12,33 +12,14 @@ use Rattle.format.specs.Decode.{finish, last, max_nesting}
 use Rattle.format.specs.Decode as D
 use Rattle.format.specs.Rules.{right_trailer, right_counts, max_size}
 use Rattle.format.specs.Rules as R
-use Rattle.format.specs.Calls.{labels_of, read_call}
+use Rattle.format.specs.Calls.{labels_of}
 use Rattle.format.proofs.Laws.Places.{rows, head_at, middle_at}
 use Rattle.format.proofs.Laws.Formed.{Formed, judged}
 use Rattle.format.proofs.Laws.TablePlaces.{records_at}
-use Rattle.parse.specs.Ends.{ReadsBlock}
-use Rattle.format.specs.declared.ReadAnswer.{ReadAnswer}
-use Rattle.parse.specs.declared.Ends.{Ends}
-use Rattle.basics.specs.declared.numbers.Limits.{Limits}
+use Rattle.basics.specs.declared.refusals.Refusal.{Refusal}
+use Rattle.basics.specs.Refusals.{refusal_number}
 use Rattle.shape.specs.declared.header.Trailer.{Trailer}
-use Rattle.shape.specs.declared.header.Header.{Header}
-use Rattle.shape.specs.declared.header.Header.TheVariants.{Refused, Is}
 use Rattle.shape.specs.declared.form.Shape.{Shape}
-use Rattle.shape.specs.declared.form.Form.{Form}
-use Rattle.shape.specs.declared.form.Form.TheVariants as F
-use Rattle.shape.specs.declared.form.Form.TheVariants.{Shaped}
-
--- the bounds
-abbrev pub limits_of : Limits → R.Limits
-limits_of l = record {
-  bytes = l.bytes;
-  procs = l.procedures;
-  places = l.locations;
-  fewest = l.fewest;
-  threads = l.threads;
-  locals = l.locals;
-  cells = l.cells;
-}
 
 -- a trailer
 abbrev pub trailer_of : Trailer → E.Trailer
@@ -80,11 +61,11 @@ pub record Closed (k : Kind) (t : List ℕ) (r : Trailer) : Type 0 where
   pub counts : right_counts k t (trailer_of r) ≡ true
 
 -- the first number that applies of rules 1 and 2, or the trailer, of which they hold
-abbrev pub HeaderFor : Kind → List ℕ → Header → Type 0
-HeaderFor k t (Refused n) = Bytes t → R.verdict k t ≡ R.refused n
-HeaderFor k t (Is r) = Closed k t r
+abbrev pub HeaderFor : Kind → List ℕ → Result Trailer Refusal → Type 0
+HeaderFor k t (Err e) = Bytes t → R.verdict k t ≡ R.refused (refusal_number e)
+HeaderFor k t (Ok r) = Closed k t r
 
-pub record HeaderIs (k : Kind) (t : List ℕ) (h : Header) : Type 0 where
+pub record HeaderIs (k : Kind) (t : List ℕ) (h : Result Trailer Refusal) : Type 0 where
   pub gives : HeaderFor k t h
 
 -- ---- rule 3
@@ -131,10 +112,6 @@ pub record CellsAre (t : List ℕ) (i n c : ℕ) : Type 0 where
 
 -- ---- rule 4
 
--- the body of procedure m, from i on
-pub record BodyReads (k : Kind) (t : List ℕ) (i m : ℕ) (r : Ends) : Type 0 where
-  pub reads : ReadsBlock t i max_nesting (record { kind = k; proc = m; inside = false }) r
-
 -- the bodies that were read, of procedures from m on, the first of which begins at p
 abbrev pub placed_right : Kind → ℕ → ℕ → List E.Head → Maybe (List (Block Plain)) → Bool
 placed_right k m p hs nothing = false
@@ -165,12 +142,12 @@ abbrev pub HasShape : Kind → List ℕ → Shape → Type 0
 HasShape k t s = (p : Program Plain) × ShapedAs k t s p
 
 -- the number that is answered, or the shape
-abbrev pub FormFor : Kind → List ℕ → Form → Type 0
-FormFor k t (F.Refused n) = R.verdict k t ≡ R.refused n
-FormFor k t (Shaped s) = HasShape k t s
+abbrev pub FormFor : Kind → List ℕ → Result Shape Refusal → Type 0
+FormFor k t (Err e) = R.verdict k t ≡ R.refused (refusal_number e)
+FormFor k t (Ok s) = HasShape k t s
 
 -- of any bytes
-pub record FormIs (k : Kind) (t : List ℕ) (f : Form) : Type 0 where
+pub record FormIs (k : Kind) (t : List ℕ) (f : Result Shape Refusal) : Type 0 where
   pub gives : Bytes t → FormFor k t f
 
 -- ---- rules 5 to 8
@@ -178,22 +155,3 @@ pub record FormIs (k : Kind) (t : List ℕ) (f : Form) : Type 0 where
 -- n is the number of labels
 pub record LabelsAre (k : Kind) (t : List ℕ) (s : Shape) (n : ℕ) : Type 0 where
   pub same : (p : Program Plain) → ShapedAs k t s p → n ≡ labels_of k p
-
--- "A refusal returns its number and zeros"
-abbrev pub refusal : ℕ → ReadAnswer
-refusal n = record { number = n; procedures = 0; locations = 0; threads = 0; labels = 0; cells = 0 }
-
--- "An accepted read answers 0 with P, M, T, the number of labels (sequential: 0) and of cells"
-abbrev pub acceptance : Shape → ℕ → ReadAnswer
-acceptance s n = record {
-  number = 0;
-  procedures = s.procedures;
-  locations = s.locations;
-  threads = s.threads;
-  labels = n;
-  cells = s.cells;
-}
-
--- what the call answers
-pub record Answers (k : Kind) (t : List ℕ) (r : ReadAnswer) : Type 0 where
-  pub same : r ≡ read_call k t

@@ -5,5 +5,4 @@
 pub mod bodies;
 pub mod form;
 mod header;
-mod limits;
 mod records;

@@ -5,7 +5,7 @@ ghost use Rattle.parse.specs.Ends.{kind_of};
 ghost use Rattle.shape.specs.Shapes.{LocalsTest, SizesTest, CellsAre, BegunTest, MainsTest, StartsTest, RecordsTest, trailer_of};
 
 use super::header::Trailer;
-use super::limits;
+use basics::bytes::two_bytes;
 use basics::numbers::{LARGEST, MAIN, RECORD, SIZE};
 use parse::Kind;
 
@@ -14,20 +14,10 @@ fn right_locals(body: &[u8], at: usize, count: u16, most: u8) -> bool
     requires { at + record_size * count ≤ length body.now }
     ensures { LocalsTest body.now at count most result }
 {
-    let mut position = at;
-    let mut left = count;
-    while 0 < left {
-        let locals = body[position + 1];
-        if locals < body[position] {
-            return false;
-        }
-        if most < locals {
-            return false;
-        }
-        position += RECORD;
-        left -= 1;
-    }
-    true
+    (0..count as usize).all(|i| {
+        let record = at + RECORD * i;
+        body[record] <= body[record + 1] && body[record + 1] <= most
+    })
 }
 
 // "size not 1..256".
@@ -35,47 +25,29 @@ fn right_sizes(body: &[u8], at: usize, count: u16) -> bool
     requires { at + 2 * count ≤ length body.now }
     ensures { SizesTest body.now at count result }
 {
-    let mut position = at;
-    let mut left = count;
-    while 0 < left {
-        let size = basics::bytes::two_bytes(body, position);
-        if size < 1 {
-            return false;
-        }
-        if LARGEST < size {
-            return false;
-        }
-        position += SIZE;
-        left -= 1;
-    }
-    true
+    (0..count as usize).all(|i| (1..=LARGEST).contains(&two_bytes(body, at + SIZE * i)))
 }
 
 // "all sizes together".
+#[tactic(auto, using(crate::proofs::Rule3::cells_ways))]
 pub fn cells(body: &[u8], at: usize, count: u16) -> usize
     requires { at + 2 * count ≤ length body.now }
     ensures { CellsAre body.now at count result }
 {
     let mut total = 0;
-    let mut position = at;
-    let mut left = count;
-    while 0 < left {
-        total += basics::bytes::two_bytes(body, position) as usize;
-        position += SIZE;
-        left -= 1;
+    for i in 0..count as usize {
+        total += two_bytes(body, at + SIZE * i) as usize;
     }
     total
 }
 
 // Is there such a procedure, with no parameters?
+#[tactic(auto, using(crate::proofs::Rule3::begun_ways))]
 fn begun(body: &[u8], records: usize, procedures: u16, main: u16) -> bool
     requires { records + record_size * procedures ≤ length body.now }
     ensures { BegunTest body.now records procedures main result }
 {
-    if main < procedures {
-        return body[records + RECORD * (main as usize)] == 0;
-    }
-    false
+    main < procedures && body[records + RECORD * (main as usize)] == 0
 }
 
 // "a main that is not below P or has parameters".
@@ -83,18 +55,7 @@ fn right_mains(body: &[u8], at: usize, count: u16, records: usize, procedures: u
     requires { (at + 2 * count ≤ length body.now) × (records + record_size * procedures ≤ length body.now) }
     ensures { MainsTest body.now at count records procedures result }
 {
-    let mut position = at;
-    let mut left = count;
-    while 0 < left {
-        let main = basics::bytes::two_bytes(body, position);
-        if begun(body, records, procedures, main) {
-            position += MAIN;
-            left -= 1;
-        } else {
-            return false;
-        }
-    }
-    true
+    (0..count as usize).all(|i| begun(body, records, procedures, two_bytes(body, at + MAIN * i)))
 }
 
 // The mains; of a sequential table procedure 0 too.
@@ -109,13 +70,8 @@ fn right_starts(
     requires { (at + 2 * count ≤ length body.now) × (records + record_size * procedures ≤ length body.now) }
     ensures { StartsTest (kind_of kind) body.now at count records procedures result }
 {
-    if let Kind::Sequential = kind {
-        if begun(body, records, procedures, 0) {
-            return right_mains(body, at, count, records, procedures);
-        }
-        return false;
-    }
-    right_mains(body, at, count, records, procedures)
+    (kind == Kind::Concurrent || begun(body, records, procedures, 0))
+        && right_mains(body, at, count, records, procedures)
 }
 
 // Rule 3.
@@ -123,22 +79,18 @@ pub fn right_records(body: &[u8], records: usize, trailer: Trailer, kind: Kind) 
     requires { records + distance trailer.procedures trailer.locations trailer.threads ≤ length body.now }
     ensures { RecordsTest (kind_of kind) body.now records (trailer_of trailer) result }
 {
-    let most = limits::of(kind);
+    let most = kind.limits();
     let sizes = records + RECORD * (trailer.procedures as usize);
     let mains = sizes + SIZE * (trailer.locations as usize);
-    if right_locals(body, records, trailer.procedures, most.locals) {
-        if right_sizes(body, sizes, trailer.locations) {
-            if cells(body, sizes, trailer.locations) <= most.cells {
-                return right_starts(
-                    body,
-                    mains,
-                    trailer.threads,
-                    records,
-                    trailer.procedures,
-                    kind,
-                );
-            }
-        }
-    }
-    false
+    right_locals(body, records, trailer.procedures, most.locals)
+        && right_sizes(body, sizes, trailer.locations)
+        && cells(body, sizes, trailer.locations) <= most.cells
+        && right_starts(
+            body,
+            mains,
+            trailer.threads,
+            records,
+            trailer.procedures,
+            kind,
+        )
 }

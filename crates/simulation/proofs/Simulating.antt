@@ -2,7 +2,6 @@
 use Prim.Native.Nat.{ℕ, zero, suc, ◌+◌, ◌*◌, ◌≤◌, ◌<◌}
 use native.Mathlib.Omega.{arith}
 use native.Mathlib.Decide.{ℕ_discrete}
-use native.Mathlib.Nat.{add-zero}
 use native.Mathlib.Numerals.{add-one}
 use mathlib.Core.Path.{◌≡◌, refl, sym, ap, subst, ◌∙◌}
 use mathlib.Core.List.{List, [], ◌∷◌, ◌++◌, append-nil, append_assoc}
@@ -39,38 +38,31 @@ use Rattle.translation.specs.Layout.{Layout, layout_in, locals_of}
 use Rattle.translation.specs.Code.{calls, code}
 use Rattle.translation.specs.Translate.{ends_of, begins, later_in}
 use Rattle.basics.specs.Sizes.{too_long}
-use Rattle.writer.specs.Laws.Put.{PutBlock}
+use Rattle.writer.specs.declared.page.Page.{Page}
+use Rattle.writer.specs.Laws.Pages.{PutsBlock}
 use Rattle.emit.specs.Laws.Sources.{Low, Sited, ExprsOf, Tests, Calls, Steps, Returns}
 use Rattle.emit.specs.Laws.Shapes.{Shaped, SiteAt}
 use Rattle.simulation.specs.Laws.Bodies.{OfLabel, Leads, Begun, BeginAt, CallsAt, PutsNode, label_code, simulated, PutsLabel}
 use Rattle.simulation.specs.Laws.Bodies.{bodies, KeptAt, Simulating, PutsBodies}
 use Rattle.emit.specs.declared.layout.Shape.{Shape}
 use Rattle.emit.specs.declared.layout.Site.{Site}
-use Rattle.writer.proofs.Puts.{put_none, put_then, put_same}
+use Rattle.writer.proofs.Paging.{puts_then, puts_same}
 use Rattle.simulation.proofs.Nodes.{fits_inherited, named_inherited, of_label, later_at, length_later}
 
 -- ---- calls
 
--- where procedure m begins
-pub begin_in : {bounds : List ℕ} {m : ℕ} → m < (limits concurrent).procs → BeginAt bounds m (get_or bounds (2 * m + 0) 0)
-begin_in {m = m} h = record { gives = λ l. rw (add-zero (2 * m)) }
-
--- there is no such procedure
-pub begin_past : {bounds : List ℕ} {m r : ℕ} → (limits concurrent).procs ≤ m → BeginAt bounds m r
-begin_past h = record { gives = λ l. absurd (omega (arith, h, l)) }
-
 module _ {t : List ℕ} {i : ℕ} {h : Shape} {bounds : List ℕ} {s : Site} where
   -- a call
-  pub call_at : {next f b n r p : ℕ} {c : Site} {o o' : List ℕ} → f ≡ number_at 2 t (i + 1) → BeginAt bounds f b → n ≡ get_or t (i + 3) 0
+  pub call_at : {next a f b n : ℕ} {c : Site} {o o' : Page} → a ≡ number_at 2 t (i + 1) → f ≡ a → BeginAt bounds f b → n ≡ get_or t (i + 3) 0
       → SiteAt t h f c
-      → Calls t (i + 4) n s c b next o p o' r → CallsAt t i h bounds s next o p o' r
-  call_at {next} {f} {b} {n} {r} {p} {c} {o} {o'} callee begin count site C = record {
+      → Calls t (i + 4) n s c b next o o' → CallsAt t i h bounds s next o o'
+  call_at {next} {a} {f} {b} {n} {c} {o} {o'} callee wide begin count site C = record {
     gives = λ q m z g j es w begun here at less low. gives q m z g j es w begun here less low (call_here at (St.first at.stands));
   }
     where
       gives : (q : Program S.Plain) (m z g j : ℕ) (es : List Expr) → Shaped t h q → Begun q bounds → Sited (layout_in h.mode q) m z s
           → g < length q.procs → Each (Low z) es → CallAt {A = ℕ} t i max_nesting (call g es) j
-          → PutBlock o p (calls (layout_in h.mode q) m z g es (begins q g) next) o' r
+          → PutsBlock o (calls (layout_in h.mode q) m z g es (begins q g) next) o'
       gives q m z g j es w begun here less low v =
           let same : ◌≡◌ {A = Instr ℕ} (call g es) (call (unbytes (take 2 (drop (i + 1) t))) v.es) = v.is in
           let args : es ≡ v.es = cc in
@@ -89,61 +81,61 @@ module _ {t : List ℕ} {i : ℕ} {h : Shape} {bounds : List ℕ} {s : Site} whe
   -- ---- what stands at a place
 
   -- the table ends
-  pub node_past : {next other p r : ℕ} {o o' : List ℕ} → length t ≤ i → PutsNode t i h bounds s next other o p o' r
+  pub node_past : {next other : ℕ} {o o' : Page} → length t ≤ i → PutsNode t i h bounds s next other o o'
   node_past l = record {
     ends = λ G m n here inside b. absurd (omega (arith, l, inside));
     gives = λ q m n z k j a w begun here at ok lead. absurd (omega (arith, l, (instr_inside at).0, (instr_inside at).1));
   }
 
   -- an end label
-  pub node_end : {next other p r : ℕ} {o o' : List ℕ} → get_or t i 0 ≡ 0 → Returns s o p o' r → PutsNode t i h bounds s next other o p o' r
+  pub node_end : {next other : ℕ} {o o' : Page} → get_or t i 0 ≡ 0 → Returns s o o' → PutsNode t i h bounds s next other o o'
   node_end b R = record {
     ends = λ G m n here inside z. R.gives G m n here;
     gives = λ q m n z k j a w begun here at ok lead. absurd (no_instr at (ap (λ (x : ℕ). get_or forms x no_form) b));
   }
 
   -- a while
-  pub node_while : {next other p r : ℕ} {o o' : List ℕ} → get_or t i 0 ≡ 0x23 → Tests t (i + 1) s next other o p o' r
-      → PutsNode t i h bounds s next other o p o' r
-  node_while {next} {other} {p} {r} {o} {o'} b T = record {
+  pub node_while : {next other : ℕ} {o o' : Page} → get_or t i 0 ≡ 0x23 → Tests t (i + 1) s next other o o'
+      → PutsNode t i h bounds s next other o o'
+  node_while {next} {other} {o} {o'} b T = record {
     ends = λ G m n here inside z. absurd (omega (arith, b, z));
     gives = λ q m n z k j a w begun here at ok lead. gives q m n z k j a here ok lead (while_here at b);
   }
     where
       gives : (q : Program S.Plain) (m n l k j : ℕ) (a : Instr ℕ) → Sited (layout_in h.mode q) m n s → OfLabel q n a → Leads l a k next other
           → WhileAt t i max_nesting a j
-          → PutBlock o p (code (layout_in h.mode q) m n (begins q) l a k) o' r
+          → PutsBlock o (code (layout_in h.mode q) m n (begins q) l a k) o'
       gives q m n l k j a here ok lead v =
           let low : Low n v.e = rw v.is at ok in
           let to : (next ≡ first l v.b) × (other ≡ k) = rw v.is at lead in
           rw (v.is, ← to.0, ← to.1) (T.gives (layout_in h.mode q) m n v.e v.k here (record { stands = v.test; low = low }))
 
   -- an if
-  pub node_if : {next other p r : ℕ} {o o' : List ℕ} → get_or t i 0 ≡ 0x24 → Tests t (i + 1) s next other o p o' r
-      → PutsNode t i h bounds s next other o p o' r
-  node_if {next} {other} {p} {r} {o} {o'} b T = record {
+  pub node_if : {next other : ℕ} {o o' : Page} → get_or t i 0 ≡ 0x24 → Tests t (i + 1) s next other o o'
+      → PutsNode t i h bounds s next other o o'
+  node_if {next} {other} {o} {o'} b T = record {
     ends = λ G m n here inside z. absurd (omega (arith, b, z));
     gives = λ q m n z k j a w begun here at ok lead. gives q m n z k j a here ok lead (if_here at b);
   }
     where
       gives : (q : Program S.Plain) (m n l k j : ℕ) (a : Instr ℕ) → Sited (layout_in h.mode q) m n s → OfLabel q n a → Leads l a k next other
-          → IfAt t i max_nesting a j → PutBlock o p (code (layout_in h.mode q) m n (begins q) l a k) o' r
+          → IfAt t i max_nesting a j → PutsBlock o (code (layout_in h.mode q) m n (begins q) l a k) o'
       gives q m n l k j a here ok lead v =
           let low : Low n v.e = rw v.is at ok in
           let to : (next ≡ first k v.b) × (other ≡ first k v.c) = rw v.is at lead in
           rw (v.is, ← to.0, ← to.1) (T.gives (layout_in h.mode q) m n v.e v.k here (record { stands = v.test; low = low }))
 
   -- a call
-  pub node_call : {next other p r : ℕ} {o o' : List ℕ} → get_or t i 0 ≡ 0x25 → CallsAt t i h bounds s next o p o' r
-      → PutsNode t i h bounds s next other o p o' r
-  node_call {next} {other} {p} {r} {o} {o'} b C = record {
+  pub node_call : {next other : ℕ} {o o' : Page} → get_or t i 0 ≡ 0x25 → CallsAt t i h bounds s next o o'
+      → PutsNode t i h bounds s next other o o'
+  node_call {next} {other} {o} {o'} b C = record {
     ends = λ G m n here inside z. absurd (omega (arith, b, z));
     gives = λ q m n z k j a w begun here at ok lead. gives q m n z k j a w begun here at ok lead (call_here at b);
   }
     where
       gives : (q : Program S.Plain) (m n l k j : ℕ) (a : Instr ℕ) → Shaped t h q → Begun q bounds → Sited (layout_in h.mode q) m n s
           → InstrAt t i max_nesting a j → OfLabel q n a
-          → Leads l a k next other → CallAt t i max_nesting a j → PutBlock o p (code (layout_in h.mode q) m n (begins q) l a k) o' r
+          → Leads l a k next other → CallAt t i max_nesting a j → PutsBlock o (code (layout_in h.mode q) m n (begins q) l a k) o'
       gives q m n l k j a w begun here at ok lead v =
           let f : ℕ = unbytes (take 2 (drop (i + 1) t)) in
           let ok' : (f < length q.procs) × Each (Low n) v.es = rw v.is at ok in
@@ -151,17 +143,17 @@ module _ {t : List ℕ} {i : ℕ} {h : Shape} {bounds : List ℕ} {s : Site} whe
           rw (v.is, ← to) (C.gives q m n f j v.es w begun here (rw v.is at at) ok'.0 ok'.1)
 
   -- another instruction
-  pub node_step : {next other p r : ℕ} {o o' : List ℕ} → (get_or t i 0 ≡ 0 → ⊥) → (get_or t i 0 ≡ 0x23 → ⊥) → (get_or t i 0 ≡ 0x24 → ⊥)
+  pub node_step : {next other : ℕ} {o o' : Page} → (get_or t i 0 ≡ 0 → ⊥) → (get_or t i 0 ≡ 0x23 → ⊥) → (get_or t i 0 ≡ 0x24 → ⊥)
       → (get_or t i 0 ≡ 0x25 → ⊥)
-      → Steps t i s next o p o' r → PutsNode t i h bounds s next other o p o' r
-  node_step {next} {other} {p} {r} {o} {o'} b₀ b₁ b₂ b₃ C = record {
+      → Steps t i s next o o' → PutsNode t i h bounds s next other o o'
+  node_step {next} {other} {o} {o'} b₀ b₁ b₂ b₃ C = record {
     ends = λ G m n here inside z. absurd (b₀ z);
     gives = λ q m n l k j a w begun here at ok lead. gives q m n l k j a here at ok lead;
   }
     where
       gives : (q : Program S.Plain) (m n l k j : ℕ) (a : Instr ℕ) → Sited (layout_in h.mode q) m n s → InstrAt t i max_nesting a j → OfLabel q n a
           → Leads l a k next other
-          → PutBlock o p (code (layout_in h.mode q) m n (begins q) l a k) o' r
+          → PutsBlock o (code (layout_in h.mode q) m n (begins q) l a k) o'
       gives q m n l k j (assign x e) here at ok to = rw (← to) (C.gives (layout_in h.mode q) m n (begins q) l (assign x e) j here at ok)
       gives q m n l k j (write y a e) here at ok to = rw (← to) (C.gives (layout_in h.mode q) m n (begins q) l (write y a e) j here at ok)
       gives q m n l k j (read x y a) here at ok to = rw (← to) (C.gives (layout_in h.mode q) m n (begins q) l (read x y a) j here at ok)
@@ -203,12 +195,12 @@ length_labels (p ∷ ps) l = ap suc (length_labels ps (l + suc (count p.body)))
 
 module _ {t : List ℕ} {h : Shape} {map bounds : List ℕ} where
   -- the map says what stands where
-  pub label_one : {l p r : ℕ} {s : Site} {o o' : List ℕ} → SiteAt t h (get_or map (4 * l + 1) 0) s
-      → PutsNode t (get_or map (4 * l) 0) h bounds s (get_or map (4 * l + 2) 0) (get_or map (4 * l + 3) 0) o p o' r → PutsLabel t h map bounds l o p o' r
-  label_one {l} {p} {r} {s} {o} {o'} site N = record { gives = λ q d w m e. gives q d w m e (node_of_lem q l e) }
+  pub label_one : {l : ℕ} {s : Site} {o o' : Page} → SiteAt t h (get_or map (4 * l + 1) 0) s
+      → PutsNode t (get_or map (4 * l) 0) h bounds s (get_or map (4 * l + 2) 0) (get_or map (4 * l + 3) 0) o o' → PutsLabel t h map bounds l o o'
+  label_one {l} {s} {o} {o'} site N = record { gives = λ q d w m e. gives q d w m e (node_of_lem q l e) }
     where
       gives : (q : Program S.Plain) (d : Node) → Shaped t h q → Mapped q map bounds → node_of q l ≡ is d → NodeOf q l d
-          → PutBlock o p (simulated h.mode q d).body o' r
+          → PutsBlock o (simulated h.mode q d).body o'
       gives q d w mapped e v = by v.left refl
         where
           found : (f : Proc S.Plain) × (k : ℕ) × (at q.procs d.proc ≡ is f) × (v.spot.proc.body ≡ label k f.body)
@@ -263,13 +255,13 @@ module _ {t : List ℕ} {h : Shape} {map bounds : List ℕ} where
           G = layout_in h.mode q
 
           -- the code of the label, by what remains there
-          coded : {c : Block ℕ} → d.code ≡ c → PutBlock o p (label_code G (begins q) d.proc n (ends_of q d.proc) c) o' r
-              → PutBlock o p (simulated h.mode q d).body o' r
+          coded : {c : Block ℕ} → d.code ≡ c → PutsBlock o (label_code G (begins q) d.proc n (ends_of q d.proc) c) o'
+              → PutsBlock o (simulated h.mode q d).body o'
           coded e P =
-              subst (λ (z : ℕ). PutBlock o p (label_code G (begins q) d.proc z (ends_of q d.proc) d.code) o' r) (sym locals)
-              (subst (λ (c : Block ℕ). PutBlock o p (label_code G (begins q) d.proc n (ends_of q d.proc) c) o' r) (sym e) P)
+              subst (λ (z : ℕ). PutsBlock o (label_code G (begins q) d.proc z (ends_of q d.proc) d.code) o') (sym locals)
+              (subst (λ (c : Block ℕ). PutsBlock o (label_code G (begins q) d.proc n (ends_of q d.proc) c) o') (sym e) P)
 
-          by : (b : Block ℕ) → v.left ≡ b → PutBlock o p (simulated h.mode q d).body o' r
+          by : (b : Block ℕ) → v.left ≡ b → PutsBlock o (simulated h.mode q d).body o'
           by end c =
               let none : d.code ≡ end = v.code ∙ ap (λ (x : Block ℕ). x ⊕ v.after) c ∙ v.ends c in
               let there : Stands t (get_or map (4 * l) 0) (block {A = ℕ} end) (d.place + length (block v.left)) =
@@ -322,63 +314,49 @@ take_more xs i {x} e = rw add-one (go xs i e)
     go (y ∷ xs) (suc i) e = ap (y ∷◌) (go xs i e)
 
 module _ {t : List ℕ} {h : Shape} {map bounds : List ℕ} where
-  -- before the first
-  pub simulating_start : {offsets o : List ℕ} {p : ℕ} → length offsets ≡ max_labels → Simulating t h map bounds offsets 0 o p o p
-  simulating_start l = record {
-    done = λ q w m. put_none;
-    places = λ q w m. record { at = λ i h. absurd (omega (arith, h)) };
-    kept = refl;
-    long = l;
-    most = omega arith;
-  }
-
   -- one more
-  pub simulating_next : {offsets o o₁ o₂ : List ℕ} {k p p₁ p₂ z : ℕ} → Simulating t h map bounds offsets k o p o₁ p₁ → k < h.labels
-      → h.labels ≤ max_labels → KeptAt p₁ z → PutsLabel t h map bounds (k + 1) o₁ p₁ o₂ p₂ → length o₂ ≡ length o₁
-      → Simulating t h map bounds (set offsets k z) (k + 1) o p o₂ p₂
-  simulating_next {offsets} {o} {o₁} {o₂} {k} {p} {p₁} {p₂} {z} D less few K L kept = record {
+  pub simulating_next : {offsets : List ℕ} {o o₁ o₂ : Page} {k labels place z : ℕ} → Simulating t h map bounds offsets k o o₁ → labels ≡ h.labels
+      → k < labels → h.labels ≤ max_labels → place ≡ o₁.at → KeptAt place z → PutsLabel t h map bounds (k + 1) o₁ o₂
+      → Simulating t h map bounds (set offsets k z) (k + 1) o o₂
+  simulating_next {offsets} {o} {o₁} {o₂} {k} {labels} {place} {z} D all less few here K L = record {
     done = λ q w m.
         let d = node_there q (suc k) (omega arith) (omega (arith, w.labels)) in
         let f : Proc S.Plain = simulated h.mode q d.0 in
         let all : List (Proc S.Plain) = later_in h.mode q in
-        let one : PutBlock o₁ p₁ f.body o₂ p₂ = L.gives q d.0 w m (ap (node_of q) (add-one k) ∙ d.1) in
+        let one : PutsBlock o₁ f.body o₂ = L.gives q d.0 w m (ap (node_of q) (add-one k) ∙ d.1) in
         let more : bodies (take (k + 1) all) ≡ bodies (take k all) ++ block f.body =
         ap bodies (take_more all k (later_at h.mode q k d.1)) ∙ bodies_append (take k all) (f ∷ [])
         ∙ ap (bodies (take k all) ++◌) (append-nil (block f.body))
         in
-        put_same (sym more) (put_then (bodies (take k all)) (block f.body) (D.done q w m) one.puts);
+        puts_same (sym more) (puts_then (bodies (take k all)) (block f.body) (D.done q w m) one.puts);
     places = λ q w m. record { at = λ i l room. places q w m i l room };
-    kept = kept ∙ D.kept;
     long = length-set offsets k z ∙ D.long;
-    most = omega arith;
   }
     where
       places : (q : Program S.Plain) → Shaped t h q → Mapped q map bounds → (i : ℕ) → i < k + 1
-          → p + length (bodies (take i (later_in h.mode q))) ≤ too_long
-          → get_or (set offsets k z) i 0 ≡ p + length (bodies (take i (later_in h.mode q)))
+          → o.at + length (bodies (take i (later_in h.mode q))) ≤ too_long
+          → get_or (set offsets k z) i 0 ≡ o.at + length (bodies (take i (later_in h.mode q)))
       places q w m i l room = elim (ℕ_discrete i k) [
         | yes e ↦
-            let room' : p + length (bodies (take k (later_in h.mode q))) ≤ too_long = rw e at room in
-            let here : p₁ ≡ p + length (bodies (take k (later_in h.mode q))) = (D.done q w m).next room' in
-            rw e (get_or-set_same offsets k z 0 (omega (arith, D.long)) ∙ K.gives (omega arith) ∙ here)
+            let room' : o.at + length (bodies (take k (later_in h.mode q))) ≤ too_long = rw e at room in
+            let begins-at : place ≡ o.at + length (bodies (take k (later_in h.mode q))) = here ∙ (D.done q w m).puts.next room' in
+            rw e (get_or-set_same offsets k z 0 (omega (arith, D.long, all, less, few)) ∙ K.gives (omega arith) ∙ begins-at)
         | no n ↦ get_or-set_other offsets k i z 0 n ∙ (D.places q w m).at i (omega arith) room
       ]
 
   -- after the last
-  pub simulating_end : {offsets o o' : List ℕ} {k p r : ℕ} → Simulating t h map bounds offsets k o p o' r → h.labels ≤ k
-      → PutsBodies t h map bounds offsets o p o' r
-  simulating_end {offsets} {o} {o'} {k} {p} {r} D more = record {
+  pub simulating_end : {offsets : List ℕ} {o o' : Page} {k labels : ℕ} → Simulating t h map bounds offsets k o o' → labels ≡ h.labels → labels ≤ k
+      → k ≤ labels → PutsBodies t h map bounds offsets o o'
+  simulating_end {offsets} {o} {o'} {k} D count more most = record {
     gives = λ q w m.
         let all : List (Proc S.Plain) = later_in h.mode q in
-        let same : take k all ≡ all = take_all k all (omega (arith, length_later h.mode q, w.labels)) in
-        put_same (ap bodies same) (D.done q w m);
-    places = λ q w m. let all : k ≡ counts q.procs = omega (arith, w.labels, D.most) in rw (← all) (D.places q w m);
+        let same : take k all ≡ all = take_all k all (omega (arith, length_later h.mode q, count, more, w.labels)) in
+        puts_same (ap bodies same) (D.done q w m);
+    places = λ q w m. let last : k ≡ counts q.procs = omega (arith, count, more, most, w.labels) in rw (← last) (D.places q w m);
   }
 
 -- one law for each way
 pub ruleset simulate_ways = (
-  begin_in,
-  begin_past,
   call_at,
   node_past,
   node_end,
@@ -387,7 +365,6 @@ pub ruleset simulate_ways = (
   node_call,
   node_step,
   label_one,
-  simulating_start,
   simulating_next,
   simulating_end,
 )

@@ -9,6 +9,7 @@ use basics::numbers::{BOUNDS, CALL, END, FAR, IF, LABELS, MAP, NODE, PAIR, PROCE
 use emit::layout::{Shape, Site, site_of};
 use emit::pieces::put_return;
 use labels::label_map::{FIRST, NEXT, OTHER, PROCEDURE};
+use writer::page::Page;
 
 // Where procedure m begins; 0 past the last.
 pub fn begin_of(bounds: &[usize; BOUNDS], m: usize) -> usize
@@ -28,13 +29,12 @@ fn put_call_at(
     bounds: &[usize; BOUNDS],
     s: Site,
     next: usize,
-    out: &mut [u8],
-    to: usize,
-) -> usize
+    out: &mut Page,
+)
     requires { at < length t.now }
-    ensures { CallsAt t.now at shape bounds.now s next out.old to out.new result }
+    ensures { CallsAt t.now at shape bounds.now s next out.old out.new }
 {
-    let callee = two_bytes(t, at + 1) as usize;
+    let callee = usize::from(two_bytes(t, at + 1));
     let begin = begin_of(bounds, callee);
     let count = byte_at(t, at + 3);
     put_call(
@@ -46,8 +46,7 @@ fn put_call_at(
         begin,
         next,
         out,
-        to,
-    )
+    );
 }
 
 // What stands at `at`: an instruction that leads to `next`, and if it is a test that fails to `other`, or the end of a body.
@@ -59,28 +58,21 @@ fn put_node(
     s: Site,
     next: usize,
     other: usize,
-    out: &mut [u8],
-    to: usize,
-) -> usize
-    ensures { PutsNode t.now at shape bounds.now s next other out.old to out.new result }
+    out: &mut Page,
+)
+    ensures { PutsNode t.now at shape bounds.now s next other out.old out.new }
 {
     if t.len() <= at {
-        return to;
+        return;
     }
-    let form = t[at];
-    if form == END {
-        return put_return(s, out, to);
+    match t[at] {
+        END => put_return(s, out),
+        // stays: of an arm `WHILE | IF` the proof knows a range of bytes, and the arms after it do not close.
+        WHILE => put_test(t, at + 1, s, next, other, out),
+        IF => put_test(t, at + 1, s, next, other, out),
+        CALL => put_call_at(t, at, shape, bounds, s, next, out),
+        _ => put_step(t, at, s, next, out),
     }
-    if form == WHILE {
-        return put_test(t, at + 1, s, next, other, out, to);
-    }
-    if form == IF {
-        return put_test(t, at + 1, s, next, other, out, to);
-    }
-    if form == CALL {
-        return put_call_at(t, at, shape, bounds, s, next, out, to);
-    }
-    put_step(t, at, s, next, out, to)
 }
 
 // "Procedure l simulates label l"
@@ -90,28 +82,24 @@ fn put_label(
     map: &[usize; MAP],
     bounds: &[usize; BOUNDS],
     label: usize,
-    out: &mut [u8],
-    to: usize,
-) -> usize
+    out: &mut Page,
+)
     requires { label ≤ max_labels }
-    ensures { PutsLabel t.now shape map.now bounds.now label out.old to out.new result }
+    ensures { PutsLabel t.now shape map.now bounds.now label out.old out.new }
 {
     let row = NODE * label;
     let at = map[row];
     let next = map[row + NEXT];
     let other = map[row + OTHER];
     let s = site_of(t, shape, map[row + PROCEDURE]);
-    put_node(t, at, shape, bounds, s, next, other, out, to)
+    put_node(t, at, shape, bounds, s, next, other, out);
 }
 
 // Where a body begins, as it is kept: where counting has stopped, nothing is read of it.
 fn short(at: usize) -> u32
     ensures { KeptAt at result }
 {
-    if FAR <= at {
-        return FAR as u32;
-    }
-    at as u32
+    at.min(FAR) as u32
 }
 
 // The bodies of all labels, and where each begins.
@@ -121,20 +109,14 @@ pub fn put_bodies(
     map: &[usize; MAP],
     bounds: &[usize; BOUNDS],
     offsets: &mut [u32; LABELS],
-    out: &mut [u8],
-    to: usize,
-) -> usize
+    out: &mut Page,
+)
     requires { (shape.labels ≤ max_labels) × (length offsets.old ≡ max_labels) }
     ensures { PutsBodies t.now shape map.now bounds.now offsets.new
-        out.old to out.new result }
+        out.old out.new }
 {
-    let labels = shape.labels as usize;
-    let mut done = 0;
-    let mut p = to;
-    while done < labels {
-        offsets[done] = short(p);
-        p = put_label(t, shape, map, bounds, done + 1, out, p);
-        done += 1;
+    for done in 0..usize::from(shape.labels) {
+        offsets[done] = short(out.at());
+        put_label(t, shape, map, bounds, done + 1, out);
     }
-    p
 }

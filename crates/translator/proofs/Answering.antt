@@ -8,6 +8,7 @@ use mathlib.Core.List.{List, ◌++◌}
 use lib.ListN.{length, get_or, drop}
 use lib.Seq.{sets-eq}
 use borrow.Author.Tests.{lt-ltb, le-ltb}
+use Rattle.std.specs.Prelude.{Result, Ok, Err}
 use Rattle.value.specs.Lists.{over}
 use Rattle.value.proofs.Laws.Bytes.{bytes_at}
 use Rattle.format.specs.Syntax.{Program, Plain, concurrent, sequential}
@@ -16,7 +17,16 @@ use Rattle.labels.specs.LabelMap.{Mapped}
 use Rattle.format.specs.Rules.{Verdict, refused, accepted, verdict, limits}
 use Rattle.format.specs.Calls.{read_as, read_call}
 use Rattle.labels.specs.Walks.{MapsLabels}
+use Rattle.format.specs.Labels.{counts}
 use Rattle.format.specs.declared.ReadAnswer.{ReadAnswer}
+use Rattle.basics.specs.Refusals.{refusal_number}
+use Rattle.basics.specs.declared.refusals.Refusal.{Refusal}
+use Rattle.basics.specs.declared.refusals.Refusal.TheVariants.{Trailer, Records, Bodies, Names, Labels, Cycle, Unset, TooLong, NoRoom}
+use Rattle.basics.specs.declared.refusals.Refusal.TheVariants.{Schedule, NoCells, Allotments, NoChoice, Choices, NotOurs}
+use Rattle.basics.specs.declared.refusals.Refusal.TheVariants as R
+use Rattle.reader.specs.declared.verdict.Counts.{Counts}
+use Rattle.reader.specs.Answers as reader
+use Rattle.answers.specs.Answers.{answer_of}
 use Rattle.format.proofs.Laws.Sound.{Sound}
 use Rattle.format.proofs.Laws.Formed.{Formed}
 use Rattle.format.proofs.Laws.Accepted.{accepted_exactly, bodies_fit, sound_formed}
@@ -41,56 +51,76 @@ use Rattle.places.specs.Placed.{Of, Source, PlacesOf}
 abbrev left : WriteAnswer → List ℕ → Written
 left r o = record { answer = r; out = o }
 
-module _ (t : List ℕ) {a : ReadAnswer} (same : a ≡ read_call concurrent t) where
-  -- a refusal is passed on
-  pub call_refused : (mode : Mode) (o : List ℕ) {r : WriteAnswer} → (a.number ≡ 0 → ⊥) → r ≡ refusal a.number → left r o ≡ translate_call mode t o
-  call_refused mode o {r} some e = by (verdict concurrent t) refl
-    where
-      by : (v : Verdict) → verdict concurrent t ≡ v → left r o ≡ translate_call mode t o
-      by (refused n) q =
-          let number : a.number ≡ n = ap (λ (x : ReadAnswer). x.number) same ∙ ap (λ (v : Verdict). (read_as concurrent v).number) q in
-          ap (λ (x : WriteAnswer). left x o) (e ∙ ap refusal number) ∙ sym (ap (λ (v : Verdict). translate_as mode v o) q)
-      by (accepted p) q = absurd (some (ap (λ (x : ReadAnswer). x.number) same ∙ ap (λ (v : Verdict). (read_as concurrent v).number) q))
+-- a refusal has a number
+numbered : (why : Refusal) → refusal_number why ≡ 0 → ⊥
+numbered Trailer e = omega arith
+numbered R.Counts e = omega arith
+numbered Records e = omega arith
+numbered Bodies e = omega arith
+numbered Names e = omega arith
+numbered Labels e = omega arith
+numbered Cycle e = omega arith
+numbered Unset e = omega arith
+numbered TooLong e = omega arith
+numbered NoRoom e = omega arith
+numbered Schedule e = omega arith
+numbered NoCells e = omega arith
+numbered Allotments e = omega arith
+numbered NoChoice e = omega arith
+numbered Choices e = omega arith
+numbered NotOurs e = omega arith
 
-  -- 0 is answered of an accepted table
-  pub call_accepts : ((i : ℕ) → i < length t → get_or t i 0 < 256) → a.number ≡ 0 → Accepts t a
-  call_accepts bytes none = by (verdict concurrent t) refl
-    where
-      by : (v : Verdict) → verdict concurrent t ≡ v → Accepts t a
-      by (refused n) q =
-          let number : a.number ≡ n = ap (λ (x : ReadAnswer). x.number) same ∙ ap (λ (v : Verdict). (read_as concurrent v).number) q in
-          absurd (omega (arith, none, number, (refused_within concurrent t n q).low))
-      by (accepted p) q =
-          let both : (t ≡ table concurrent p) × Sound concurrent p = (accepted_exactly concurrent t (bytes_at t bytes) p).0 q in
-          let answer : a ≡ read_as concurrent (accepted p) = same ∙ ap (read_as concurrent) q in
-          let sound : Sound concurrent p = both.1 in
-          let long : length t ≡ length (table concurrent p) = ap length both.0 in
-          record {
-            program = p;
-            verdict = q;
-            same = both.0;
-            sound = sound;
-            answer = answer;
-            procedures = omega (arith, ap (λ (x : ReadAnswer). x.procedures) answer, sound.procs.high);
-            locations = omega (arith, ap (λ (x : ReadAnswer). x.locations) answer, sound.places);
-            threads = omega (arith, ap (λ (x : ReadAnswer). x.threads) answer, sound.threads.high);
-            labels = omega (arith, ap (λ (x : ReadAnswer). x.labels) answer, sound.labels);
-            long = omega (arith, long, sound.size);
-            room = omega (
-              arith,
-              trailer_at concurrent p both.0,
-              length_table concurrent p both.0,
-              ap (λ (x : ReadAnswer). x.procedures) answer,
-              ap (λ (x : ReadAnswer). x.locations) answer,
-              ap (λ (x : ReadAnswer). x.threads) answer,
-            );
-          }
+-- a refusal is passed on
+pub call_refused : (t : List ℕ) (mode : Mode) (o : List ℕ) (why : Refusal) → reader.answer_of (Err why) ≡ read_call concurrent t
+    → left (answer_of (Err why)) o ≡ translate_call mode t o
+call_refused t mode o why same = by (verdict concurrent t) refl
+  where
+    by : (v : Verdict) → verdict concurrent t ≡ v → left (refusal (refusal_number why)) o ≡ translate_call mode t o
+    by (refused n) q =
+        let number : refusal_number why ≡ n =
+        ap (λ (x : ReadAnswer). x.number) same ∙ ap (λ (v : Verdict). (read_as concurrent v).number) q
+        in
+        ap (λ (k : ℕ). left (refusal k) o) number ∙ sym (ap (λ (v : Verdict). translate_as mode v o) q)
+    by (accepted p) q =
+        absurd (numbered why (ap (λ (x : ReadAnswer). x.number) same ∙ ap (λ (v : Verdict). (read_as concurrent v).number) q))
+
+-- counts are found of an accepted table
+pub call_accepts : (t : List ℕ) {a : Counts} → ((i : ℕ) → i < length t → get_or t i 0 < 256) → reader.answer_of (Ok a) ≡ read_call concurrent t
+    → Accepts t a
+call_accepts t {a} bytes same = by (verdict concurrent t) refl
+  where
+    by : (v : Verdict) → verdict concurrent t ≡ v → Accepts t a
+    by (refused n) q =
+        let number : 0 ≡ n = ap (λ (x : ReadAnswer). x.number) same ∙ ap (λ (v : Verdict). (read_as concurrent v).number) q in
+        absurd (omega (arith, number, (refused_within concurrent t n q).low))
+    by (accepted p) q =
+        let both : (t ≡ table concurrent p) × Sound concurrent p = (accepted_exactly concurrent t (bytes_at t bytes) p).0 q in
+        let answer : reader.answer_of (Ok a) ≡ read_as concurrent (accepted p) = same ∙ ap (read_as concurrent) q in
+        let sound : Sound concurrent p = both.1 in
+        let long : length t ≡ length (table concurrent p) = ap length both.0 in
+        let procs : a.procedures ≡ length p.procs = ap (λ (x : ReadAnswer). x.procedures) answer in
+        let places : a.locations ≡ length p.sizes = ap (λ (x : ReadAnswer). x.locations) answer in
+        let threads : a.threads ≡ length p.mains = ap (λ (x : ReadAnswer). x.threads) answer in
+        let labels : a.labels ≡ counts p.procs = ap (λ (x : ReadAnswer). x.labels) answer in
+        record {
+          program = p;
+          verdict = q;
+          same = both.0;
+          sound = sound;
+          answer = answer;
+          procedures = omega (arith, procs, sound.procs.high);
+          locations = omega (arith, places, sound.places);
+          threads = omega (arith, threads, sound.threads.high);
+          labels = omega (arith, labels, sound.labels);
+          long = omega (arith, long, sound.size);
+          room = omega (arith, trailer_at concurrent p both.0, length_table concurrent p both.0, procs, places, threads);
+        }
 
 -- where its records begin
-abbrev records_in : List ℕ → ReadAnswer → ℕ
+abbrev records_in : List ℕ → Counts → ℕ
 records_in t a = length t - trailer_size - distance a.procedures a.locations a.threads
 
-module _ {t : List ℕ} {a : ReadAnswer} (A : Accepts t a) where
+module _ {t : List ℕ} {a : Counts} (A : Accepts t a) where
   -- the counts
   procs : a.procedures ≡ length A.program.procs
   procs = ap (λ (x : ReadAnswer). x.procedures) A.answer
@@ -160,12 +190,12 @@ module _ {t : List ℕ} {a : ReadAnswer} (A : Accepts t a) where
 
 -- ---- the copy
 
-module _ {t : List ℕ} {h : Shape} {map bounds : List ℕ} {n : ℕ} (M : MapsLabels t h.procedures map bounds n) where
+module _ {t : List ℕ} {h : Shape} {map bounds : List ℕ} {n k : ℕ} (count : k ≡ h.procedures) (M : MapsLabels t k map bounds n) where
   -- the map is that of the program
   mapped : (q : Program Plain) → Shaped t h q → Mapped q map bounds
   mapped q w =
       let formed : Formed concurrent t q = rw w.is (sound_formed concurrent q w.sound) in
-      (M.gives q formed (sym w.procedures) w.sound.labels).0
+      (M.gives q formed (sym w.procedures ∙ sym count) w.sound.labels).0
 
   module _ {o₁ o₂ : List ℕ} {l : ℕ} (T : TableOf t h map bounds o₁ o₂ l) where
     -- counted right, as far as counting goes
@@ -178,10 +208,10 @@ module _ {t : List ℕ} {h : Shape} {map bounds : List ℕ} {n : ℕ} (M : MapsL
         ]
 
     -- 9
-    pub over_limit : {o : List ℕ} {r : WriteAnswer} → (limits sequential).bytes < l → r ≡ refusal 9 → WritesCopy t h o o r
-    over_limit {o} {r} more e = record { gives = λ q w. gives q w }
+    pub over_limit : {o : List ℕ} → (limits sequential).bytes < l → WritesCopy t h o o (Err TooLong)
+    over_limit {o} more = record { gives = λ q w. gives q w }
       where
-        gives : (q : Program Plain) → Shaped t h q → left r o ≡ writes_table (table sequential (translate_in h.mode q)) o
+        gives : (q : Program Plain) → Shaped t h q → left (refusal 9) o ≡ writes_table (table sequential (translate_in h.mode q)) o
         gives q w =
             let P : Put o₁ 0 (table sequential (translate_in h.mode q)) o₂ l = T.gives q w (mapped q w) in
             let passes : (limits sequential).bytes < length (table sequential (translate_in h.mode q)) =
@@ -189,23 +219,21 @@ module _ {t : List ℕ} {h : Shape} {map bounds : List ℕ} {n : ℕ} (M : MapsL
               | yes near ↦ omega (arith, P.next near)
               | no far ↦ omega arith
             ] in
-            ap (λ (x : WriteAnswer). left x o) e
-            ∙ rw (lt-ltb (limits sequential).bytes (length (table sequential (translate_in h.mode q))) passes, writes_table)
+            rw (lt-ltb (limits sequential).bytes (length (table sequential (translate_in h.mode q))) passes, writes_table)
 
     -- 10
-    pub no_room : {o : List ℕ} {r : WriteAnswer} → l ≤ (limits sequential).bytes → length o < l → r ≡ refusal 10 → WritesCopy t h o o r
-    no_room {o} {r} less short e = record { gives = λ q w. gives q w }
+    pub no_room : {o : List ℕ} → l ≤ (limits sequential).bytes → length o < l → WritesCopy t h o o (Err NoRoom)
+    no_room {o} less short = record { gives = λ q w. gives q w }
       where
-        gives : (q : Program Plain) → Shaped t h q → left r o ≡ writes_table (table sequential (translate_in h.mode q)) o
+        gives : (q : Program Plain) → Shaped t h q → left (refusal 10) o ≡ writes_table (table sequential (translate_in h.mode q)) o
         gives q w =
             let new : List ℕ = table sequential (translate_in h.mode q) in
             let is : l ≡ length new = long q w less in
-            ap (λ (x : WriteAnswer). left x o) e
-            ∙ rw (le-ltb (limits sequential).bytes (length new) (omega arith), writes_table, lt-ltb (length o) (length new) (omega arith), writes)
+            rw (le-ltb (limits sequential).bytes (length new) (omega arith), writes_table, lt-ltb (length o) (length new) (omega arith), writes)
 
     -- written
     pub copied : {o o' : List ℕ} {k : ℕ} → l ≤ (limits sequential).bytes → l ≤ length o → TableOf t h map bounds o o' k
-        → WritesCopy t h o o' (written l)
+        → WritesCopy t h o o' (Ok l)
     copied {o} {o'} {k} less room W = record { gives = λ q w. gives q w }
       where
         gives : (q : Program Plain) → Shaped t h q → left (written l) o' ≡ writes_table (table sequential (translate_in h.mode q)) o
@@ -220,8 +248,8 @@ module _ {t : List ℕ} {h : Shape} {map bounds : List ℕ} {n : ℕ} (M : MapsL
             ∙ rw (le-ltb (limits sequential).bytes (length new) (omega arith), writes_table, le-ltb (length o) (length new) (omega arith), writes)
 
 -- the call
-pub call_copies : (t : List ℕ) {mode : Mode} {h : Shape} (o : List ℕ) {o' : List ℕ} {r : WriteAnswer} → AcceptedIn t mode h → WritesCopy t h o o' r
-    → left r o' ≡ translate_call mode t o
+pub call_copies : (t : List ℕ) {mode : Mode} {h : Shape} (o : List ℕ) {o' : List ℕ} {r : Result ℕ Refusal} → AcceptedIn t mode h
+    → WritesCopy t h o o' r → left (answer_of r) o' ≡ translate_call mode t o
 call_copies t {mode} o A W =
     let p : Program Plain = A.shape.program in
     W.gives p A.shape.shaped ∙ ap (λ (x : Mode). writes_table (table sequential (translate_in x p)) o) A.same

@@ -3,8 +3,8 @@ ghost use Rattle.std.specs.Prelude.{◌≡◌, ◌∷◌, ◌^◌, ◌≤◌, �
 ghost use Rattle.value.specs.Values.{bytes};
 ghost use Rattle.format.specs.Encode.{each};
 ghost use Rattle.format.specs.Rules.{max_labels};
-ghost use Rattle.writer.specs.Laws.Put.{Put};
-ghost use Rattle.translator.specs.Laws.Tables.{HeadOf, HeadsOf, SizesOf, MiddleOf, CodeOf, Lengths, Counts, Trails, TableOf};
+ghost use Rattle.writer.specs.Laws.Pages.{Puts};
+ghost use Rattle.translator.specs.Laws.Tables.{HeadOf, HeadsOf, SizesOf, MiddleOf, CodeOf, Trails, WholeOf, TableOf};
 
 use basics::numbers::{
     BOUNDS, FAR, FORM_MARK, LABELS, MAP, NODE, RECORD, SEQUENTIAL_MARK, SIZE, TRAILER,
@@ -13,23 +13,15 @@ use emit::exprs::moved;
 use emit::layout::{Shape, locals_of, rows_of};
 use labels::label_map::PROCEDURE;
 use simulation::simulate::put_bodies;
-use writer::bytes::{put, put_four, put_part, put_two};
+use writer::page::Page;
 use zeroth::procedure::put_zeroth;
 
 // "parameters, locals, body offset (4)"
-fn put_head(out: &mut [u8], at: usize, params: u8, locals: u8, offset: usize) -> usize
-    ensures { Put out.old at (params ∷ locals ∷ bytes 4 offset) out.new result }
+fn put_head(out: &mut Page, params: u8, locals: u8, offset: usize)
+    ensures { Puts out.old (params ∷ locals ∷ bytes 4 offset) out.new }
 {
-    let p = put(out, at, params);
-    let q = put(out, p, locals);
-    put_four(out, q, offset)
-}
-
-// Where a body begins, as it was kept.
-fn wide(offset: u32) -> usize
-    ensures { result ≡ offset }
-{
-    offset as usize
+    out.put_all(&[params, locals]);
+    out.put_four(offset);
 }
 
 // The record of the procedure of label k + 1: "it has parameter tid = 0, then tmp = 1, aux = 2, and local i as 3+i".
@@ -39,81 +31,57 @@ fn put_label_head(
     map: &[usize; MAP],
     offsets: &[u32; LABELS],
     k: usize,
-    out: &mut [u8],
-    at: usize,
-) -> usize
+    out: &mut Page,
+)
     requires { k < max_labels }
-    ensures { HeadOf t.now shape map.now offsets.now k out.old at out.new result }
+    ensures { HeadOf t.now shape map.now offsets.now k out.old out.new }
 {
     let label = k + 1;
     let locals = locals_of(t, shape, map[NODE * label + PROCEDURE]);
-    put_head(out, at, 1, moved(locals), wide(offsets[k]))
+    put_head(out, 1, moved(locals), offsets[k] as usize);
 }
 
 // The records of all labels' procedures.
-fn put_heads(
-    t: &[u8],
-    shape: Shape,
-    map: &[usize; MAP],
-    offsets: &[u32; LABELS],
-    out: &mut [u8],
-    at: usize,
-) -> usize
+fn put_heads(t: &[u8], shape: Shape, map: &[usize; MAP], offsets: &[u32; LABELS], out: &mut Page)
     requires { shape.labels ≤ max_labels }
-    ensures { HeadsOf t.now shape map.now offsets.now out.old at out.new result }
+    ensures { HeadsOf t.now shape map.now offsets.now out.old out.new }
 {
-    let labels = shape.labels as usize;
-    let mut k = 0;
-    let mut p = at;
-    while k < labels {
-        p = put_label_head(t, shape, map, offsets, k, out, p);
-        k += 1;
+    for k in 0..usize::from(shape.labels) {
+        put_label_head(t, shape, map, offsets, k, out);
     }
-    p
 }
 
 // One size, n times.
-fn put_rows(n: usize, size: usize, out: &mut [u8], at: usize) -> usize
-    ensures { Put out.old at (each (bytes 2) (replicate n size)) out.new result }
+fn put_rows(n: usize, size: usize, out: &mut Page)
+    ensures { Puts out.old (each (bytes 2) (replicate n size)) out.new }
 {
-    let mut k = n;
-    let mut p = at;
-    while 0 < k {
-        p = put_two(out, p, size);
-        k -= 1;
+    for _ in 0..n {
+        out.put_two(size);
     }
-    p
 }
 
 // The source's sizes, "ptid (size 1)", and the others, "size T each".
-fn put_sizes(t: &[u8], shape: Shape, out: &mut [u8], at: usize) -> usize
-    ensures { SizesOf t.now shape out.old at out.new result }
+fn put_sizes(t: &[u8], shape: Shape, out: &mut Page)
+    ensures { SizesOf t.now shape out.old out.new }
 {
-    let from = shape.records as usize + RECORD * (shape.procedures as usize);
-    let until = from + SIZE * (shape.locations as usize);
+    let from = usize::from(shape.records) + RECORD * usize::from(shape.procedures);
+    let until = from + SIZE * usize::from(shape.locations);
     if t.len() < until {
-        return at;
+        return;
     }
-    let p = put_part(t, from, until, out, at);
-    let q = put_two(out, p, 1);
-    put_rows(rows_of(shape), shape.threads as usize, out, q)
+    out.put_all(&t[from..until]);
+    out.put_two(1);
+    put_rows(rows_of(shape), usize::from(shape.threads), out);
 }
 
 // Records and sizes.
-fn put_middle(
-    t: &[u8],
-    shape: Shape,
-    map: &[usize; MAP],
-    offsets: &[u32; LABELS],
-    out: &mut [u8],
-    at: usize,
-) -> usize
+fn put_middle(t: &[u8], shape: Shape, map: &[usize; MAP], offsets: &[u32; LABELS], out: &mut Page)
     requires { shape.labels ≤ max_labels }
-    ensures { MiddleOf t.now shape map.now offsets.now out.old at out.new result }
+    ensures { MiddleOf t.now shape map.now offsets.now out.old out.new }
 {
-    let p = put_head(out, at, 0, 4, 0);
-    let q = put_heads(t, shape, map, offsets, out, p);
-    put_sizes(t, shape, out, q)
+    put_head(out, 0, 4, 0);
+    put_heads(t, shape, map, offsets, out);
+    put_sizes(t, shape, out);
 }
 
 // The bodies of all procedures, and where each of them but the first begins.
@@ -123,51 +91,55 @@ fn put_code(
     map: &[usize; MAP],
     bounds: &[usize; BOUNDS],
     offsets: &mut [u32; LABELS],
-    out: &mut [u8],
-) -> usize
+    out: &mut Page,
+)
     requires { (shape.labels ≤ max_labels) × (length offsets.old ≡ max_labels) }
     ensures { CodeOf t.now shape map.now bounds.now offsets.new
-        out.old out.new result }
+        out.old out.new }
 {
-    let p = put_zeroth(t, shape, bounds, out, 0);
-    put_bodies(t, shape, map, bounds, offsets, out, p)
+    put_zeroth(t, shape, bounds, out);
+    put_bodies(t, shape, map, bounds, offsets, out);
 }
 
-// "the distance from the trailer back to the procedure records (4); the whole length (4)"
-fn put_lengths(out: &mut [u8], at: usize, back: usize, whole: usize) -> usize
-    ensures { Lengths back whole out.old at out.new result }
-{
-    let p = put_four(out, at, back);
-    put_four(out, p, whole)
-}
-
-// "procedures P, locations M, threads T (2 each)"
-fn put_counts(out: &mut [u8], at: usize, procedures: usize, locations: usize) -> usize
-    ensures { Counts procedures locations out.old at out.new result }
-{
-    let p = put_two(out, at, procedures);
-    let q = put_two(out, p, locations);
-    put_two(out, q, 0)
-}
-
-// "Last a 16-byte trailer"; "Sequential tables have T = 0"
-fn put_trailer(
-    out: &mut [u8],
-    at: usize,
-    procedures: usize,
-    locations: usize,
-    whole: usize,
-) -> usize
+// "Last a 16-byte trailer": "procedures P, locations M, threads T (2 each)", "the distance from the trailer back to the procedure records (4);
+// the whole length (4)"; "Sequential tables have T = 0"
+fn put_trailer(procedures: usize, locations: usize, whole: usize, out: &mut Page)
     requires { (procedures ≤ 2 ^ 16) × (locations ≤ 2 ^ 25) }
-    ensures { Trails procedures locations whole out.old at out.new result }
+    ensures { Trails procedures locations whole out.old out.new }
 {
-    let p = put(out, at, SEQUENTIAL_MARK);
-    let q = put(out, p, FORM_MARK);
-    let u = put_counts(out, q, procedures, locations);
-    put_lengths(out, u, RECORD * procedures + SIZE * locations, whole)
+    out.put_all(&[SEQUENTIAL_MARK, FORM_MARK]);
+    out.put_two(procedures);
+    out.put_two(locations);
+    out.put_two(0);
+    out.put_four(RECORD * procedures + SIZE * locations);
+    out.put_four(whole);
 }
 
-// The table of the copy, from byte 0 on. Where it is too long, the rest is not even counted.
+// All of it. Where it is too long, the rest is not even counted.
+fn put_whole(t: &[u8], shape: Shape, map: &[usize; MAP], bounds: &[usize; BOUNDS], out: &mut Page)
+    requires { shape.labels ≤ max_labels }
+    ensures { WholeOf t.now shape map.now bounds.now out.old out.new }
+{
+    let mut offsets = [0u32; LABELS];
+    put_code(t, shape, map, bounds, &mut offsets, out);
+    if FAR <= out.at() {
+        return;
+    }
+    put_middle(t, shape, map, &offsets, out);
+    let length = out.at();
+    if FAR <= length {
+        return;
+    }
+    let locations = usize::from(shape.locations) + 1 + rows_of(shape);
+    put_trailer(
+        usize::from(shape.labels) + 1,
+        locations,
+        length + TRAILER,
+        out,
+    );
+}
+
+// The table of the copy, from byte 0 on: its length.
 pub fn put_table(
     t: &[u8],
     shape: Shape,
@@ -178,15 +150,7 @@ pub fn put_table(
     requires { shape.labels ≤ max_labels }
     ensures { TableOf t.now shape map.now bounds.now out.old out.new result }
 {
-    let mut offsets = [0u32; LABELS];
-    let p = put_code(t, shape, map, bounds, &mut offsets, out);
-    if FAR <= p {
-        return p;
-    }
-    let q = put_middle(t, shape, map, &offsets, out, p);
-    if FAR <= q {
-        return q;
-    }
-    let locations = shape.locations as usize + 1 + rows_of(shape);
-    put_trailer(out, q, shape.labels as usize + 1, locations, q + TRAILER)
+    let mut page = Page::new(out);
+    put_whole(t, shape, map, bounds, &mut page);
+    page.at()
 }

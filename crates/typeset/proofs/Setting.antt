@@ -2,16 +2,20 @@
 use Prim.Native.Nat.{ℕ, zero, suc, ◌+◌, ◌-◌, ◌/◌, ◌%◌, ◌^◌, ◌≤◌, ◌<◌}
 use native.Mathlib.Omega.{arith}
 use native.Mathlib.Numerals.{add-one}
-use mathlib.Core.Path.{◌≡◌, refl, sym, ap, ◌∙◌}
+use mathlib.Core.Path.{◌≡◌, refl, sym, ap, ap₂, ◌∙◌}
 use mathlib.Core.List.{List, [], ◌∷◌, ◌++◌}
 use mathlib.Core.Bool.{Bool, true, false, not}
-use lib.ListN.{length, get_or, set, drop, replicate, length-set, drop_of_length-le}
+use lib.ListN.{length, get_or, set, drop, replicate, drop_of_length-le}
 use lib.Seq.{drop-cons, set_out}
-use lib.Dec.{eqb}
-use borrow.Author.Tests.{lt-ltb, le-ltb, le-leb, lt-leb}
+use lib.Dec.{eqb, ltb}
+use borrow.Author.Tests.{lt-ltb, le-ltb, ltb-true, ltb-false}
+use Rattle.std.specs.Prelude.{Option, Some, None, SomeIff}
+use Rattle.std.specs.Borrow.{Bor, MutBor}
 use Rattle.value.specs.Values.{unword}
+use Rattle.value.proofs.Laws.Tests.{by_test}
 use Rattle.ctext.specs.Pieces.{digits, decimal, whole}
-use Rattle.typeset.specs.Page.{Page, nowhere, otherwise, set_one, set_all, Put, Onto}
+use Rattle.typeset.specs.declared.pieces.Page.{Page}
+use Rattle.typeset.specs.Page.{Place, onward, otherwise, set_one, set_all, place, lent, IsPast, Put, Onto}
 
 -- ---- one byte
 
@@ -25,110 +29,144 @@ pub differs_past : (x : List ℕ) (p b : ℕ) → length x ≤ p → false ≡ o
 unfolding otherwise
 differs_past x p b l = rw (le-ltb _ _ l)
 
--- nothing is stored past the end
-pub store_past : (o : List ℕ) (p b : ℕ) → length o ≤ p → o ≡ set o p b
-store_past o p b l = sym (set_out o p b l)
+-- as the code says it
+pub differs_not : (x : List ℕ) (p b : ℕ) → length x ≤ p → ltb p (length x) ≡ otherwise x p b
+unfolding otherwise
+differs_not x p b l = rw (le-ltb _ _ l)
 
-module _ {x o : List ℕ} {p b : ℕ} where
-  -- nowhere
-  pub put_stay : nowhere ≤ p → Put x o p (b ∷ []) o p
+-- the place n further, as it is counted
+pub onward_counted : (p n : ℕ) {r : Option ℕ} → SomeIff r (p + n < 2 ^ 64) (p + n) → r ≡ onward p n
+unfolding onward
+onward_counted p n {r = None} h = by_test (ltb (p + n) (2 ^ 64)) (λ e. absurd (h (ltb-true _ _ e))) (λ e. rw (e, onward))
+onward_counted p n {r = Some r} h = rw (lt-ltb _ _ h.0, onward) (ap (λ r. Some r) h.1)
+
+module _ {p : Page} {b : ℕ} where
+  -- no place
+  pub put_stay : p.at ≡ None → Put p (b ∷ []) p
   unfolding set_one
-  put_stay l = record { puts = rw (le-leb nowhere p l, set_one); kept = refl }
+  put_stay e = record { puts = rw e; kept = refl }
 
   -- another byte
-  pub put_differ : {d : Bool} → p < nowhere → d ≡ otherwise x p b → d ≡ true → Put x o p (b ∷ []) o nowhere
+  pub put_differ : {k : ℕ} {d : Bool} → p.at ≡ Some k → d ≡ otherwise p.text.now k b → d ≡ true
+      → Put p (b ∷ []) (record { text = p.text; out = p.out; at = None })
   unfolding set_one
-  put_differ l e t = record { puts = rw (lt-leb nowhere p l, set_one, sym e ∙ t); kept = refl }
+  put_differ l e t = record { puts = rw (l, set_one, sym e ∙ t); kept = refl }
 
   -- the byte
-  pub put_set : {o' : List ℕ} {d : Bool} → p < nowhere → d ≡ otherwise x p b → d ≡ false → o' ≡ set o p b → Put x o p (b ∷ []) o' (p + 1)
+  pub put_set : {k : ℕ} {d : Bool} {x : Bor (List ℕ)} {o : MutBor (List ℕ)} {r : Option ℕ} → p.at ≡ Some k → d ≡ otherwise p.text.now k b → d ≡ false
+      → o.now ≡ set p.out.now k b → (o.ghost_name, x.now, length o.now) ≡ lent p → SomeIff r (k + 1 < 2 ^ 64) (k + 1)
+      → Put p (b ∷ []) (record { text = x; out = o; at = r })
   unfolding set_one
-  put_set l e t s = record { puts = rw (s, lt-leb nowhere p l, set_one, sym e ∙ t); kept = ap length s ∙ simp length-set }
+  put_set {k} l e t s same n = record { puts = rw (l, set_one, sym e ∙ t) (ap₂ (λ o r. record { out = o; at = r }) s (onward_counted k 1 n)); kept = same }
 
 -- ---- bytes one after the other
 
 -- parts one after the other
-all_append : (x : List ℕ) (s : Page) (a b : List ℕ) → set_all x s (a ++ b) ≡ set_all x (set_all x s a) b
+all_append : (x : List ℕ) (s : Place) (a b : List ℕ) → set_all x s (a ++ b) ≡ set_all x (set_all x s a) b
 all_append x s [] b = refl
 all_append x s (c ∷ a) b = all_append x (set_one x s c) a b
 
 -- nothing
-pub put_none : {x o : List ℕ} {p : ℕ} → Put x o p [] o p
+pub put_none : {p : Page} → Put p [] p
 put_none = record { puts = refl; kept = refl }
 
 -- one part, then another
-pub put_then : {x o o' o'' : List ℕ} {p q r : ℕ} (a b : List ℕ) → Put x o p a o' q → Put x o' q b o'' r → Put x o p (a ++ b) o'' r
-put_then {x} {o} {p = p} a b A B = record {
-  puts = B.puts ∙ ap (λ s. set_all x s b) A.puts ∙ sym (all_append x (record { out = o; at = p }) a b);
+pub put_then : {p q r : Page} (a b : List ℕ) → Put p a q → Put q b r → Put p (a ++ b) r
+put_then {p} a b A B = record {
+  puts = B.puts ∙ ap₂ (λ x s. set_all x s b) (ap (λ f. f.1) A.kept) A.puts ∙ sym (all_append p.text.now (place p) a b);
   kept = B.kept ∙ A.kept;
 }
 
 -- a byte, then others
-pub put_cons : {x o o' o'' : List ℕ} {p q r b : ℕ} {bs : List ℕ} → Put x o p (b ∷ []) o' q → Put x o' q bs o'' r → Put x o p (b ∷ bs) o'' r
+pub put_cons : {p q r : Page} {b : ℕ} {bs : List ℕ} → Put p (b ∷ []) q → Put q bs r → Put p (b ∷ bs) r
 put_cons {b = b} {bs = bs} A B = put_then (b ∷ []) bs A B
 
 -- the same bytes
-pub put_same : {x o o' : List ℕ} {p r : ℕ} {a b : List ℕ} → a ≡ b → Put x o p a o' r → Put x o p b o' r
+pub put_same : {p q : Page} {a b : List ℕ} → a ≡ b → Put p a q → Put p b q
 put_same e P = rw (← e) P
 
 -- ---- past both ends
 
--- one byte is counted
-counted_one : (x o : List ℕ) (p b : ℕ) → length x ≤ p → length o ≤ p → p < nowhere
-    → set_one x (record { out = o; at = p }) b ≡ record { out = o; at = p + 1 }
+-- from no place nothing is set
+pub set_nowhere : (x o bs : List ℕ) → set_all x (record { out = o; at = None }) bs ≡ record { out = o; at = None }
 unfolding set_one
-counted_one x o p b l m h =
-    rw (lt-leb nowhere p h, set_one, sym (differs_past x p b l)) (ap (λ o. record { out = o; at = p + 1 }) (set_out o p b m))
+set_nowhere x o [] = refl
+set_nowhere x o (b ∷ bs) = set_nowhere x o bs
 
--- and so are all
-counted_all : {x o : List ℕ} {p : ℕ} (bs : List ℕ) → length x ≤ p → length o ≤ p → p + length bs ≤ nowhere → Put x o p bs o (p + length bs)
-counted_all {x} {o} {p} [] l m h = record { puts = ap (λ n. record { out = o; at = n }) (omega arith); kept = refl }
-counted_all {x} {o} {p} (b ∷ bs) l m h =
-    let rest : Put x o (p + 1) bs o (p + 1 + length bs) = counted_all {p = p + 1} bs (omega arith) (omega arith) (omega arith) in
-    let place : p + 1 + length bs ≡ p + suc (length bs) = omega arith in
-    record {
-      puts = rw place at rest.puts ∙ ap (λ s. set_all x s bs) (sym (counted_one x o p b l m (omega arith)));
-      kept = refl;
-    }
+-- no way
+pub onward_none : (p : ℕ) → p < 2 ^ 64 → onward p 0 ≡ Some p
+unfolding onward
+onward_none p l = let same : p + 0 ≡ p = omega arith in rw (lt-ltb (p + 0) (2 ^ 64) (omega arith), onward) (ap (λ r. Some r) same)
 
--- where they end before nowhere
-pub put_counted : {x o : List ℕ} {p : ℕ} (bs : List ℕ) → length x ≤ p → length o ≤ p → p < nowhere - length bs → Put x o p bs o (p + length bs)
-put_counted bs l m h = counted_all bs l m (omega arith)
+-- the same way in two parts
+pub onward_same : (p q m n : ℕ) → p + m ≡ q + n → onward p m ≡ onward q n
+unfolding onward
+onward_same p q m n e = ap (λ k. elim (ltb k (2 ^ 64)) [ true ↦ Some k | false ↦ None ]) e
+
+-- bytes are counted
+counted_all : (x o : List ℕ) (p : ℕ) (bs : List ℕ) → length x ≤ p → length o ≤ p → p < 2 ^ 64
+    → set_all x (record { out = o; at = Some p }) bs ≡ record { out = o; at = onward p (length bs) }
+unfolding onward set_one
+counted_all x o p [] l m h = ap (λ r. record { out = o; at = r }) (sym (onward_none p h))
+counted_all x o p (b ∷ bs) l m h = by_test (ltb (p + 1) (2 ^ 64))
+    (λ e.
+    let near : p + 1 < 2 ^ 64 = ltb-true _ _ e in
+    let further : p + 1 + length bs ≡ p + suc (length bs) = omega arith in
+    ap (λ s. set_all x s bs) (one (Some (p + 1)) (rw (e, onward) refl)) ∙ counted_all x o (p + 1) bs (omega arith) (omega arith) near
+    ∙ ap (λ r. record { out = o; at = r }) (onward_same _ _ _ _ further))
+    (λ e.
+    let far : 2 ^ 64 ≤ p + 1 = ltb-false _ _ e in
+    let farther : ltb (p + suc (length bs)) (2 ^ 64) ≡ false = le-ltb _ _ (omega arith) in
+    ap (λ s. set_all x s bs) (one None (rw (e, onward))) ∙ set_nowhere x o bs ∙ ap (λ r. record { out = o; at = r }) (rw (farther, onward)))
+  where
+    one : (r : Option ℕ) → onward p 1 ≡ r → set_one x (record { out = o; at = Some p }) b ≡ record { out = o; at = r }
+    one r e = rw (sym (differs_past x p b l), set_one) (ap₂ (λ o r. record { out = o; at = r }) (set_out o p b m) e)
+
+-- a piece
+pub put_counted : {p : Page} {k : ℕ} {r : Option ℕ} (bs : List ℕ) → p.at ≡ Some k → IsPast p k → SomeIff r (k + length bs < 2 ^ 64) (k + length bs)
+    → Put p bs (record { text = p.text; out = p.out; at = r })
+put_counted {p} {k} bs e h n = record {
+  puts = rw e (ap (λ r. record { out = p.out.now; at = r }) (onward_counted k (length bs) n) ∙ sym (counted_all p.text.now p.out.now k bs h.0 h.1 h.2));
+  kept = refl;
+}
 
 -- ---- what remains
 
 -- at the start, all of it
-pub onto_start : {x o : List ℕ} {p : ℕ} {all : List ℕ} → Onto x o p all o p all
+pub onto_start : {p : Page} {all : List ℕ} → Onto p all p all
 onto_start = record { then = λ P. P; kept = refl }
 
 -- a part more
-pub onto_next : {x o o' o'' : List ℕ} {p q r : ℕ} {all : List ℕ} (a rest : List ℕ) → Onto x o p all o' q (a ++ rest) → Put x o' q a o'' r
-    → Onto x o p all o'' r rest
+pub onto_next : {p q r : Page} {all : List ℕ} (a rest : List ℕ) → Onto p all q (a ++ rest) → Put q a r → Onto p all r rest
 onto_next a rest O P = record { then = λ Q. O.then (put_then a rest P Q); kept = P.kept ∙ O.kept }
 
 -- at the end, nothing
-pub onto_end : {x o o' : List ℕ} {p q : ℕ} {all : List ℕ} → Onto x o p all o' q [] → Put x o p all o' q
+pub onto_end : {p q : Page} {all : List ℕ} → Onto p all q [] → Put p all q
 onto_end O = O.then put_none
 
 -- a byte of a piece
-pub piece_next : {x o o' o'' : List ℕ} {p q r : ℕ} {all : List ℕ} (t : List ℕ) (i : ℕ) → Onto x o p all o' q (drop i t) → i < length t
-    → Put x o' q (get_or t i 0 ∷ []) o'' r → Onto x o p all o'' r (drop (i + 1) t)
+pub piece_next : {p q r : Page} {all : List ℕ} (t : List ℕ) (i : ℕ) → Onto p all q (drop i t) → i < length t → Put q (get_or t i 0 ∷ []) r
+    → Onto p all r (drop (i + 1) t)
 piece_next t i O l P = rw add-one (onto_next (get_or t i 0 ∷ []) (drop (suc i) t) (rw (drop-cons t i 0 l) at O) P)
 
 -- its end
-pub piece_end : {x o o' : List ℕ} {p q : ℕ} {all : List ℕ} (t : List ℕ) (i : ℕ) → Onto x o p all o' q (drop i t) → length t ≤ i → Put x o p all o' q
+pub piece_end : {p q : Page} {all : List ℕ} (t : List ℕ) (i : ℕ) → Onto p all q (drop i t) → length t ≤ i → Put p all q
 piece_end t i O l = onto_end (rw (drop_of_length-le t {i = i} l) at O)
 
 -- one of n spaces
-pub spaces_next : {x o o' o'' : List ℕ} {p q r : ℕ} {all : List ℕ} (n : ℕ) → Onto x o p all o' q (replicate n 32) → 0 < n → Put x o' q (32 ∷ []) o'' r
-    → Onto x o p all o'' r (replicate (n - 1) 32)
-spaces_next zero O l P = absurd (omega arith)
-spaces_next (suc n) O l P = let less : suc n - 1 ≡ n = omega arith in rw less (onto_next (32 ∷ []) (replicate n 32) O P)
+pub spaces_next : {p q r : Page} {all : List ℕ} (n i : ℕ) → Onto p all q (replicate (n - i) 32) → i < n → Put q (32 ∷ []) r
+    → Onto p all r (replicate (n - (i + 1)) 32)
+spaces_next n i O l P =
+    let more : n - i ≡ suc (n - (i + 1)) = omega arith in
+    onto_next (32 ∷ []) (replicate (n - (i + 1)) 32) (rw more at O) P
+
+-- at the start
+pub spaces_start : {p : Page} (n : ℕ) → Onto p (replicate n 32) p (replicate (n - 0) 32)
+spaces_start n = let all : n - 0 ≡ n = omega arith in rw all onto_start
 
 -- none is left
-pub spaces_end : {x o o' : List ℕ} {p q : ℕ} {all : List ℕ} (n : ℕ) → Onto x o p all o' q (replicate n 32) → n ≤ 0 → Put x o p all o' q
-spaces_end zero O l = onto_end O
-spaces_end (suc n) O l = absurd (omega arith)
+pub spaces_end : {p q : Page} {all : List ℕ} (n i : ℕ) → Onto p all q (replicate (n - i) 32) → n ≤ i → Put p all q
+spaces_end n i O l = let none : n - i ≡ 0 = omega arith in onto_end (rw none at O)
 
 -- ---- numbers
 
@@ -144,43 +182,36 @@ unfolding digits
 more_digits zero n z l = absurd (z refl)
 more_digits (suc k) n z l = let before : suc k - 1 ≡ k = omega arith in rw (before, le-ltb n 10 l, digits)
 
-module _ {x o : List ℕ} {p : ℕ} (m n : ℕ) where
+module _ {p : Page} (m n : ℕ) where
   -- no digit is left to set
-  pub digits_none : m ≡ 0 → Put x o p (digits m n) o p
+  pub digits_none : m ≡ 0 → Put p (digits m n) p
   unfolding digits
   digits_none e = rw e put_none
 
   -- the first digit
-  pub digits_first : {o' : List ℕ} {r : ℕ} → (m ≡ 0 → ⊥) → n < 10 → Put x o p ((48 + n) ∷ []) o' r → Put x o p (digits m n) o' r
-  digits_first z l P = put_same (one_digit m n z l) P
+  pub digits_first : {q r : Page} → (m ≡ 0 → ⊥) → n < 10 → q ≡ p → Put q ((48 + n % 10) ∷ []) r → Put p (digits m n) r
+  digits_first z l e P = let same : n % 10 ≡ n = omega arith in put_same (one_digit m n z l) (rw (same, e) at P)
 
   -- those before the last, and the last
-  pub digits_last : {o' o'' : List ℕ} {q r : ℕ} → (m ≡ 0 → ⊥) → 10 ≤ n → Put x o p (digits (m - 1) (n / 10)) o' q
-      → Put x o' q ((48 + n % 10) ∷ []) o'' r
-      → Put x o p (digits m n) o'' r
-  digits_last z l P Q = put_same (more_digits m n z l) (put_then (digits (m - 1) (n / 10)) ((48 + n % 10) ∷ []) P Q)
-
--- a number of one digit
-pub number_small : {x o o' : List ℕ} {p r : ℕ} (n : ℕ) → n < 10 → Put x o p ((48 + n) ∷ []) o' r → Put x o p (decimal n) o' r
-number_small n l P = digits_first 10 n (λ e. omega (arith, e)) l P
+  pub digits_last : {q u r : Page} → (m ≡ 0 → ⊥) → 10 ≤ n → Put p (digits (m - 1) (n / 10)) q → u ≡ q → Put u ((48 + n % 10) ∷ []) r
+      → Put p (digits m n) r
+  digits_last z l P e Q = put_same (more_digits m n z l) (put_then (digits (m - 1) (n / 10)) ((48 + n % 10) ∷ []) P (rw e at Q))
 
 -- a whole number that is not below 0
-pub whole_up : {x o o' : List ℕ} {p r : ℕ} (n : ℕ) → n < 2147483648 → Put x o p (decimal n) o' r → Put x o p (whole (unword n)) o' r
+pub whole_up : {p q : Page} (n : ℕ) → n < 2 ^ 31 → Put p (decimal n) q → Put p (whole (unword n)) q
 whole_up n l P = rw (lt-ltb n (2 ^ 31) l) P
 
 -- one that is
-pub whole_down : {x o o' o'' : List ℕ} {p q r : ℕ} (n : ℕ) → 2147483648 ≤ n → n < 2 ^ 32 → Put x o p (45 ∷ []) o' q
-    → Put x o' q (decimal (4294967296 - n)) o'' r
-    → Put x o p (whole (unword n)) o'' r
-whole_down n l h A B =
-    let up : suc (2 ^ 32 - suc n) ≡ 4294967296 - n = omega arith in
+pub whole_down : {p q r : Page} (n m : ℕ) → 2 ^ 31 ≤ n → n < 2 ^ 32 → m < 2 ^ 32 → (m + n) % 2 ^ 32 ≡ 0 → Put p (45 ∷ []) q → Put q (decimal m) r
+    → Put p (whole (unword n)) r
+whole_down n m l h k e A B =
+    let up : suc (2 ^ 32 - suc n) ≡ m = omega arith in
     rw (le-ltb n (2 ^ 31) l) (put_cons A (rw (sym up) at B))
 
 -- one law for each way
 pub ruleset set_ways = (
   differs_there,
-  differs_past,
-  store_past,
+  differs_not,
   put_stay,
   put_differ,
   put_set,
@@ -190,12 +221,12 @@ pub ruleset set_ways = (
   onto_start,
   piece_next,
   piece_end,
+  spaces_start,
   spaces_next,
   spaces_end,
   digits_none,
   digits_first,
   digits_last,
-  number_small,
   whole_up,
   whole_down,
 )

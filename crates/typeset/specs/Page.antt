@@ -1,41 +1,63 @@
 -- What setting bytes does: into the lent buffer o from place p on, and against the text x.
-use Rattle.std.specs.Prelude.{ℕ, ◌+◌, ◌^◌, ◌≡◌, List, [], ◌∷◌, Bool, true, false, not, length, get_or, set, ltb, leb, eqb}
+use Rattle.std.specs.Prelude.{ℕ, ◌+◌, ◌^◌, ◌≤◌, ◌<◌, ◌≡◌, List, [], ◌∷◌, Bool, true, false, not, length, get_or, set, ltb, eqb, Option, Some, None}
+use Rattle.std.specs.Borrow.{GName}
 use Rattle.value.specs.Maybe.{both}
+use Rattle.typeset.specs.declared.pieces.Page.{Page}
 
--- a lent buffer, and the place where the text goes on
-pub record Page : Type 0 where
+-- a buffer, and the place where the text goes on, if it does
+pub record Place : Type 0 where
   pub out : List ℕ
-  pub at : ℕ
+  pub at : Option ℕ
 
--- past every buffer, and no place
-abbrev pub nowhere : ℕ
-nowhere = 2 ^ 63
+-- the place n further, which is none past all numbers of 64 bits
+unfoldable pub onward : ℕ → ℕ → Option ℕ
+onward p n = elim (ltb (p + n) (2 ^ 64)) [ true ↦ Some (p + n) | false ↦ None ]
 
 -- has the text x another byte than b at p
 unfoldable pub otherwise : List ℕ → ℕ → ℕ → Bool
 otherwise x p b = both (ltb p (length x)) (not (eqb (get_or x p 0) b))
 
--- one byte: nothing is set from nowhere on, nor where the text has another byte
-unfoldable pub set_one : List ℕ → Page → ℕ → Page
-set_one x s b = elim (leb nowhere s.at) [
-  | true ↦ s
-  | false ↦ elim (otherwise x s.at b) [
-    | true ↦ record { out = s.out; at = nowhere }
-    | false ↦ record { out = set s.out s.at b; at = s.at + 1 }
+-- one byte: nothing is set where there is no place, nor where the text has another byte, and then there is no going on
+unfoldable pub set_one : List ℕ → Place → ℕ → Place
+set_one x s b = elim s.at [
+  | None ↦ s
+  | Some p ↦ elim (otherwise x p b) [
+    | true ↦ record { out = s.out; at = None }
+    | false ↦ record { out = set s.out p b; at = onward p 1 }
   ]
 ]
 
 -- bytes, one after the other
-abbrev pub set_all : List ℕ → Page → List ℕ → Page
+abbrev pub set_all : List ℕ → Place → List ℕ → Place
 set_all x s [] = s
 set_all x s (b ∷ bs) = set_all x (set_one x s b) bs
 
--- the bytes bs were set: the buffer o became o', and the text goes on at r
-pub record Put (x o : List ℕ) (p : ℕ) (bs o' : List ℕ) (r : ℕ) : Type 0 where
-  pub puts : record { out = o'; at = r } ≡ set_all x (record { out = o; at = p }) bs
-  pub kept : length o' ≡ length o
+-- ---- pages
 
--- Of the bytes `all` from p on in o, only `rest` remains to be set, from q on in o'.
-pub record Onto (x o : List ℕ) (p : ℕ) (all o' : List ℕ) (q : ℕ) (rest : List ℕ) : Type 0 where
-  pub then : {o'' : List ℕ} {r : ℕ} → Put x o' q rest o'' r → Put x o p all o'' r
-  pub kept : length o' ≡ length o
+-- where a page is
+abbrev pub place : Page → Place
+place p = record { out = p.out.now; at = p.at }
+
+-- what stays as it is while a page is set: which buffer is lent, how long it is, and the text
+abbrev pub lent : Page → GName × List ℕ × ℕ
+lent p = (p.out.ghost_name, p.text.now, length p.out.now)
+
+-- k is past the ends of text and buffer
+abbrev pub IsPast : Page → ℕ → Type 0
+IsPast p k = (length p.text.now ≤ k) × (length p.out.now ≤ k) × (k < 2 ^ 64)
+
+-- a page at the start, with the text x and the buffer o
+pub record Begins (x o : List ℕ) (p : Page) : Type 0 where
+  pub text : p.text.now ≡ x
+  pub out : p.out.now ≡ o
+  pub at : p.at ≡ Some 0
+
+-- the bytes bs were set: page p became page q
+pub record Put (p : Page) (bs : List ℕ) (q : Page) : Type 0 where
+  pub puts : place q ≡ set_all p.text.now (place p) bs
+  pub kept : lent q ≡ lent p
+
+-- Of the bytes `all` from page p on, only `rest` remains to be set, from page q on.
+pub record Onto (p : Page) (all : List ℕ) (q : Page) (rest : List ℕ) : Type 0 where
+  pub then : {r : Page} → Put q rest r → Put p all r
+  pub kept : lent q ≡ lent p

@@ -1,115 +1,133 @@
 // One piece of code sets bytes: what does not fit the lent buffer is not stored, and is counted all the same; and where the text that it is held
 // against has another byte, there is no going on.
-ghost use Rattle.std.specs.Prelude.{◌≡◌, [], ◌∷◌, set, replicate};
+ghost use Rattle.std.specs.Prelude.{◌≡◌, ◌↔◌, IsTrue, [], ◌∷◌, set, replicate};
 ghost use Rattle.value.specs.Values.{unword};
 ghost use Rattle.ctext.specs.Pieces.{digits, decimal, whole};
-ghost use Rattle.typeset.specs.Page.{otherwise, Put};
-
-// Past every buffer, and no place: all that follows stays there.
-pub const NOWHERE: usize = 9223372036854775808;
+ghost use Rattle.typeset.specs.Page.{otherwise, lent, IsPast, Begins, Put};
 
 // 10 digits are enough for 32 bits.
 const DIGITS: u8 = 10;
 
-// Whether a text has another byte at a place.
-fn differs(text: &[u8], at: usize, byte: u8) -> bool
-    ensures { result ≡ otherwise text.now at byte }
-{
-    if at < text.len() {
-        return text[at] != byte;
-    }
-    false
+// A lent buffer, the text that it is held against, and the place where the text goes on: none, once it had another byte.
+#[derive(Drop)]
+pub struct Page<'a> {
+    text: &'a [u8],
+    out: &'a mut [u8],
+    at: Option<usize>,
 }
 
-// Stores a byte where the buffer has a place for it.
-fn store(out: &mut [u8], at: usize, byte: u8)
-    ensures { out.new ≡ set out.old at byte }
-{
-    if at < out.len() {
-        out[at] = byte;
-    }
-}
-
-// One byte.
-pub fn put(text: &[u8], out: &mut [u8], at: usize, byte: u8) -> usize
-    ensures { Put text.now out.old at (byte ∷ []) out.new result }
-{
-    if NOWHERE <= at {
-        return at;
-    }
-    if differs(text, at, byte) {
-        return NOWHERE;
-    }
-    store(out, at, byte);
-    at + 1
-}
-
-// A piece.
-pub fn put_all(piece: &[u8], text: &[u8], out: &mut [u8], at: usize) -> usize
-    ensures { Put text.now out.old at piece.now out.new result }
-{
-    let n = piece.len();
-    // Past both ends there is only counting.
-    if text.len() <= at {
-        if out.len() <= at {
-            if at < NOWHERE - n {
-                return at + n;
-            }
+impl<'a> Page<'a> {
+    // At the start.
+    pub fn new(text: &'a [u8], out: &'a mut [u8]) -> Page<'a>
+        ensures same_reference { result.out.ghost_name ≡ out.entry.ghost_name }
+        ensures begins { Begins text.now out.old result }
+    {
+        Page {
+            text,
+            out,
+            at: Some(0),
         }
     }
-    let mut i = 0;
-    let mut p = at;
-    while i < n {
-        p = put(text, out, p, piece[i]);
-        i += 1;
-    }
-    p
-}
 
-// So many spaces.
-pub fn put_spaces(n: usize, text: &[u8], out: &mut [u8], at: usize) -> usize
-    ensures { Put text.now out.old at (replicate n 32) out.new result }
-{
-    let mut left = n;
-    let mut p = at;
-    while 0 < left {
-        p = put(text, out, p, b' ');
-        left -= 1;
+    // Where the text goes on.
+    pub fn end(&self) -> Option<usize>
+        ensures { result ≡ self.now.at }
+    {
+        self.at // none, once the text had another byte
     }
-    p
-}
 
-// The digits of n, at most so many of them.
-fn put_digits(most: u8, n: u64, text: &[u8], out: &mut [u8], at: usize) -> usize
-    ensures { Put text.now out.old at (digits most n) out.new result }
-{
-    if most == 0 {
-        return at;
+    // Whether the text has another byte at a place.
+    fn differs(&self, at: usize, byte: u8) -> bool
+        ensures { result ≡ otherwise self.now.text.now at byte }
+    {
+        at < self.text.len() && self.text[at] != byte
     }
-    if n < 10 {
-        return put(text, out, at, 48 + n as u8);
-    }
-    let p = put_digits(most - 1, n / 10, text, out, at);
-    put(text, out, p, 48 + (n % 10) as u8)
-}
 
-// A number in decimal.
-pub fn put_number(n: usize, text: &[u8], out: &mut [u8], at: usize) -> usize
-    ensures { Put text.now out.old at (decimal n) out.new result }
-{
-    if n < 10 {
-        return put(text, out, at, 48 + n as u8);
+    // Whether a place is past the ends of both.
+    fn is_past(&self, at: usize) -> bool
+        ensures { IsTrue result ↔ IsPast self.now at }
+    {
+        self.text.len() <= at && self.out.len() <= at
     }
-    put_digits(DIGITS, n as u64, text, out, at)
-}
 
-// The whole number of 32 bits.
-pub fn put_whole(n: u32, text: &[u8], out: &mut [u8], at: usize) -> usize
-    ensures { Put text.now out.old at (whole (unword n)) out.new result }
-{
-    if n < 2147483648 {
-        return put_number(n as usize, text, out, at);
+    // Stores a byte where the buffer has a place for it.
+    fn store(&mut self, at: usize, byte: u8)
+        ensures stored { self.new.out.now ≡ set self.old.out.now at byte }
+        ensures kept { lent self.new ≡ lent self.old }
+    {
+        if at < self.out.len() {
+            self.out[at] = byte;
+        }
     }
-    let p = put(text, out, at, b'-');
-    put_number((4294967296 - n as u64) as usize, text, out, p)
+
+    // One byte.
+    pub fn put(&mut self, byte: u8)
+        ensures { Put self.old (byte ∷ []) self.new }
+    {
+        let Some(at) = self.at else {
+            return;
+        };
+        if self.differs(at, byte) {
+            self.at = None;
+            return;
+        }
+        self.store(at, byte);
+        self.at = at.checked_add(1);
+    }
+
+    // A piece.
+    pub fn put_all(&mut self, piece: &[u8])
+        ensures { Put self.old piece.now self.new }
+    {
+        // Past both ends there is only counting.
+        if let Some(at) = self.at
+            && self.is_past(at)
+        {
+            self.at = at.checked_add(piece.len());
+            return;
+        }
+        for &byte in piece {
+            self.put(byte);
+        }
+    }
+
+    // So many spaces.
+    pub fn put_spaces(&mut self, n: usize)
+        ensures { Put self.old (replicate n 32) self.new }
+    {
+        for _ in 0..n {
+            self.put(b' ');
+        }
+    }
+
+    // The digits of n, at most so many of them.
+    fn put_digits(&mut self, most: u8, n: u64)
+        ensures { Put self.old (digits most n) self.new }
+    {
+        if most == 0 {
+            return;
+        }
+        if 10 <= n {
+            self.put_digits(most - 1, n / 10);
+        }
+        self.put(b'0' + (n % 10) as u8);
+    }
+
+    // A number in decimal.
+    pub fn put_number(&mut self, n: usize)
+        ensures { Put self.old (decimal n) self.new }
+    {
+        self.put_digits(DIGITS, n as u64);
+    }
+
+    // The whole number of 32 bits.
+    pub fn put_whole(&mut self, n: u32)
+        ensures { Put self.old (whole (unword n)) self.new }
+    {
+        if n < 1 << 31 {
+            return self.put_number(n as usize);
+        }
+        self.put(b'-');
+        self.put_number(n.wrapping_neg() as usize);
+    }
 }

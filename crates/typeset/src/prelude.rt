@@ -2,13 +2,13 @@
 ghost use Rattle.ctext.specs.Prelude.{prelude};
 ghost use Rattle.typeset.specs.Page.{Put};
 
-use super::pieces::put_all;
+use super::pieces::Page;
 
 // What the helpers and hooks of a text are.
-pub fn put_prelude(text: &[u8], out: &mut [u8], at: usize) -> usize
-    ensures { Put text.now out.old at prelude out.new result }
+pub fn put_prelude(page: &mut Page)
+    ensures { Put page.old prelude page.new }
 {
-    put_all(
+    page.put_all(
         b"/* A sequential program as C11 text, printed by Zarukohen.
    m0, m1, .. are its locations, p0, p1, .. its procedures (p0 is the start),
    x0, x1, .. the locals of each. Nothing wraps and nothing is clamped: an
@@ -158,8 +158,5 @@ void z_select(int32_t a, int32_t b) {
 }
 
 ",
-        text,
-        out,
-        at,
-    )
+    );
 }

@@ -2,3 +2,5 @@
 
 -- one law for each way through the writer
 pub mod Puts
+-- and one for each way over a page
+pub mod Paging

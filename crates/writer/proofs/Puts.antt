@@ -1,31 +1,17 @@
 -- One law for each way through the writer.
-use Prim.Native.Nat.{ℕ, zero, suc, ◌+◌, ◌/◌, ◌%◌, ◌≤◌, ◌<◌}
+use Prim.Native.Nat.{ℕ, zero, suc, ◌+◌, ◌≤◌, ◌<◌}
 use native.Mathlib.Omega.{arith}
 use native.Mathlib.Decide.{dec_le}
 use native.Mathlib.Numerals.{add-one}
 use mathlib.Core.Path.{◌≡◌, refl, sym, ap, ◌∙◌}
 use mathlib.Core.List.{List, [], ◌∷◌, ◌++◌}
-use lib.ListN.{length, get_or, set, take, drop, length-append, length-set, length-take}
+use lib.ListN.{length, get_or, take, drop, length-append, length-take}
 use lib.Seq.{sets, slice, slice-cons, drop-nil}
-use Rattle.value.specs.Values.{bytes}
 use Rattle.basics.specs.Sizes.{too_long}
 use Rattle.basics.specs.Laws.Places.{sets_append}
 use Rattle.writer.specs.Laws.Put.{Put, Onto}
 
 -- ---- one byte
-
--- in the buffer or past its end
-pub put_in : {o o' : List ℕ} {p b r : ℕ} → o' ≡ set o p b → r ≡ p + 1 → Put o p (b ∷ []) o' r
-put_in e q = record { wrote = λ l. e; next = λ l. q; far = λ l. omega (arith, q, l); kept = ap length e ∙ simp length-set }
-
--- counted no further
-pub put_far : {o o' : List ℕ} {p b : ℕ} → o' ≡ set o p b → too_long ≤ p → Put o p (b ∷ []) o' p
-put_far e h = record {
-  wrote = λ l. absurd (omega (arith, h, l));
-  next = λ l. absurd (omega (arith, h, l));
-  far = λ l. h;
-  kept = ap length e ∙ simp length-set;
-}
 
 -- ---- parts one after the other
 
@@ -74,16 +60,6 @@ onto_end O = O.then put_none
 
 -- ---- numbers
 
--- two bytes
-pub put_word : {o o' o'' : List ℕ} {p q r : ℕ} (n : ℕ) → Put o p (n % 256 ∷ []) o' q → Put o' q (n / 256 % 256 ∷ []) o'' r → Put o p (bytes 2 n) o'' r
-put_word n A B = put_cons A B
-
--- four bytes
-pub put_long : {o o' o'' : List ℕ} {p q r : ℕ} (n : ℕ) → Put o p (bytes 2 n) o' q → Put o' q (bytes 2 (n / 65536)) o'' r → Put o p (bytes 4 n) o'' r
-put_long n A B =
-    let e : n / 65536 ≡ n / 256 / 256 = omega arith in
-    put_then (bytes 2 n) (bytes 2 (n / 256 / 256)) A (rw e at B)
-
 -- ---- a part of a list
 
 -- a byte more
@@ -107,4 +83,4 @@ part_end t i until O h =
     onto_end (rw (drop_all i (take until t) few) at O)
 
 -- one law for each way
-pub ruleset put_ways = (put_in, put_far, put_none, put_cons, put_word, put_long, onto_start, part_next, part_end)
+pub ruleset put_ways = (put_none, put_cons, onto_start, part_next, part_end)

@@ -2,3 +2,5 @@
 
 -- what the writer promises
 pub mod Put
+-- and what a page does
+pub mod Pages

@@ -14,27 +14,16 @@ pub fn put(out: &mut [u8], at: usize, byte: u8) -> usize
         out[at] = byte;
     }
     // Counting stops at the first length that is refused.
-    if at < FAR {
-        return at + 1;
-    }
-    at
-}
-
-// Three bytes.
-pub fn put_three(out: &mut [u8], at: usize, a: u8, b: u8, c: u8) -> usize
-    ensures { Put out.old at (a ∷ b ∷ c ∷ []) out.new result }
-{
-    let p = put(out, at, a);
-    let q = put(out, p, b);
-    put(out, q, c)
+    if at < FAR { at + 1 } else { at }
 }
 
 // The two lowest bytes of a number, low byte first.
 pub fn put_two(out: &mut [u8], at: usize, n: usize) -> usize
     ensures { Put out.old at (bytes 2 n) out.new result }
 {
-    let p = put(out, at, (n % 256) as u8);
-    put(out, p, (n / 256 % 256) as u8)
+    let [low, high, ..] = n.to_le_bytes();
+    let p = put(out, at, low);
+    put(out, p, high)
 }
 
 // The four lowest.
@@ -50,11 +39,9 @@ pub fn put_part(t: &[u8], from: usize, until: usize, out: &mut [u8], at: usize) 
     requires { until ≤ length t.now }
     ensures { Put out.old at (slice from until t.now) out.new result }
 {
-    let mut i = from;
     let mut p = at;
-    while i < until {
+    for i in from..until {
         p = put(out, p, t[i]);
-        i += 1;
     }
     p
 }

@@ -8,7 +8,7 @@ pub slice_bounds-line-end : goal.slice_bounds-line-end
 slice_bounds-line-end c = lies _ _ c.print-n.ensures
 
 -- it is that long
-pub slice_bounds-line-end-2 : goal.slice_bounds-line-end-2
-slice_bounds-line-end-2 c =
+pub slice_bounds-text-end : goal.slice_bounds-text-end
+slice_bounds-text-end c =
     let fits : c.print-n.result ≤ length c.print-n.new.out = lies _ _ c.print-n.ensures in
     simp length-take (omega arith)

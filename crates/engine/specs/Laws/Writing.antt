@@ -1,21 +1,17 @@
 -- Bytes written over a lent buffer one after the other: final cells and events.
-use Rattle.std.specs.Prelude.{ℕ, suc, ◌+◌, ◌*◌, ◌≤◌, ◌<◌, ◌≡◌, refl, List, [], ◌∷◌, ◌++◌, length, get_or, take, drop, pos}
+use Rattle.std.specs.Prelude.{ℕ, suc, ◌+◌, ◌*◌, ◌≤◌, ◌<◌, ◌≡◌, refl, List, [], ◌∷◌, ◌++◌, length, get_or, take, drop, pos, Result, Ok, Err}
 use Rattle.std.proofs.Common.{arith, sym, ap, ap₂, ◌∙◌, append_assoc, append-nil, length-append, drop-drop, take-suc, take_all, length-take-le, le-leb}
 use Rattle.std.proofs.lemmas.List.Edits.{sets, sets-eq}
 use Rattle.std.proofs.Math.Seq.{take-append_seam, drop-append-add}
 use Rattle.value.specs.Maybe.{is}
-use Rattle.value.specs.Try.{has, or_lacks}
+use Rattle.value.specs.Try.{or_lacks}
 use Rattle.value.specs.Lists.{over}
 use Rattle.value.specs.Values.{given, cell_bytes, cell_size}
 use Rattle.basics.specs.Places.{with_value}
 use Rattle.value.specs.declared.Value.{Value}
 use Rattle.value.specs.declared.Value.TheVariants.{Whole}
-use Rattle.value.specs.declared.Answer.{Answer}
-use Rattle.value.specs.declared.Answer.TheVariants as A
+use Rattle.value.specs.declared.Reason.{Reason}
 use Rattle.value.specs.declared.Reason.TheVariants.{WrongKind}
-use types.Run.{OneOf, miss}
-use denote.Enum.Declared.{tag_of}
-use Rattle.value.specs.contracts.Answer.{the_type}
 use Rattle.value.proofs.Laws.Tries.{has_inj, lacking}
 use Rattle.value.proofs.Laws.Lists.{at_get_d, length_over}
 use Rattle.value.proofs.Laws.Bytes.{length_cell}
@@ -49,9 +45,9 @@ pub cells_flat : (η : Memory) → cells η ≡ each cell_bytes (flat η)
 cells_flat [] = refl
 cells_flat (row ∷ η) = rw (each_append cell_bytes row (flat η), cells_flat η)
 
-module _ {w : ℕ} {o : List ℕ} {i : ℕ} (a : Answer) where
+module _ {w : ℕ} {o : List ℕ} {i : ℕ} (a : Result Value Reason) where
   -- the value of a word
-  pub wrote_one : {v : Value} {o' : List ℕ} → a ≡ A.Is v → given a ≡ value_in w → o' ≡ with_value o i v → WritesOne w o i o'
+  pub wrote_one : {v : Value} {o' : List ℕ} → a ≡ Ok v → given a ≡ value_in w → o' ≡ with_value o i v → WritesOne w o i o'
   wrote_one {v} e g q = record {
     written = λ u h.
         let same : v ≡ u = has_inj (sym (ap given e) ∙ g ∙ ap (or_lacks WrongKind) h) in
@@ -59,13 +55,8 @@ module _ {w : ℕ} {o : List ℕ} {i : ℕ} (a : Answer) where
   }
 
   -- there is none
-  pub wrote_none : OneOf (1 ∷ 2 ∷ []) (tag_of the_type a) → given a ≡ value_in w → WritesOne w o i o
-  wrote_none n g = record { written = λ u h. go a n (g ∙ ap (or_lacks WrongKind) h) }
-    where
-      go : {G : Type 0} (a : Answer) {u : Value} → OneOf (1 ∷ 2 ∷ []) (tag_of the_type a) → given a ≡ has u → G
-      go (A.Is v) n e = absurd (miss (1 ∷ 2 ∷ []) 0 tt n)
-      go A.OutOfRange n e = lacking e
-      go A.WrongKind n e = lacking e
+  pub wrote_none : {r : Reason} → a ≡ Err r → given a ≡ value_in w → WritesOne w o i o
+  wrote_none e g = record { written = λ u h. lacking (sym (ap given e) ∙ g ∙ ap (or_lacks WrongKind) h) }
 
 -- the first i of n cells are written
 pub record Writing (cs : List ℕ) (n : ℕ) (o o' : List ℕ) (i : ℕ) : Type 0 where

@@ -1,25 +1,28 @@
 -- `fromtext::compare` meets its contract.
-use Rattle.std.proofs.Common.{◌^◌, ◌<◌, length, arith}
+use Rattle.std.proofs.Common.{◌≡◌, ◌^◌, ◌<◌, length, arith, Some}
 use Rattle.value.proofs.Laws.Bytes.{bytes_at}
-use Rattle.fromtext.proofs.Judging.{judge_other, judge_room, judge_writes}
+use Rattle.fromtext.proofs.Judging.{end_same, end_differs, judge_other, judge_room, judge_writes}
 use Rattle.fromtext.proofs.compare.Goals as goal
 
 -- another text
-pub returns-then-end-text : goal.returns-then-end-text
-returns-then-end-text c =
+pub returns-then-ne : goal.returns-then-ne
+returns-then-ne c =
     let fits : length c.args.text.now < 2 ^ 63 = omega arith in
-    judge_other c.requires c.put_text-end.ensures fits c.if-end-text.true c.refuse.ensures
+    judge_other c.requires c.new-page.ensures.begins c.put_text.ensures fits c.end.ensures
+    (end_differs _ _ c.ne.ensures c.if-ne.true)
 
 -- 10
-pub returns-then-out-n : goal.returns-then-out-n
-returns-then-out-n c =
+pub returns-then-out-table : goal.returns-then-out-table
+returns-then-out-table c =
     let fits : length c.args.text.now < 2 ^ 63 = omega arith in
-    judge_room c.requires c.put_text-end.ensures fits (bytes_at c.args.table.now (λ i l. (c.type_inv.table i).fits)) c.if-end-text.false
-    c.if-out-n.true c.refuse-then-out-n.ensures
+    let same : c.end.result ≡ Some (length c.args.text.now) = end_same _ _ c.ne.ensures c.if-ne.false in
+    judge_room c.requires c.new-page.ensures.begins c.put_text.ensures fits (bytes_at c.args.table.now (λ i l. (c.type_inv.table i).fits)) c.end.ensures same
+    c.if-out-table.true
 
 -- written
 pub returns : goal.returns
 returns c =
     let fits : length c.args.text.now < 2 ^ 63 = omega arith in
-    judge_writes c.requires c.put_text-end.ensures fits (bytes_at c.args.table.now (λ i l. (c.type_inv.table i).fits)) c.if-end-text.false
-    c.if-out-n.false c.put_part.ensures
+    let same : c.end.result ≡ Some (length c.args.text.now) = end_same _ _ c.ne.ensures c.if-ne.false in
+    judge_writes c.requires c.new-page.ensures.begins c.put_text.ensures fits (bytes_at c.args.table.now (λ i l. (c.type_inv.table i).fits)) c.end.ensures same
+    c.if-out-table.false c.put_part.ensures

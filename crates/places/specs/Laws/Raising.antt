@@ -1,12 +1,12 @@
 -- Starts that are raised round by round: a call raises the callee's start to where the caller's locals end.
-use Rattle.std.specs.Prelude.{ℕ, zero, suc, ◌+◌, ◌*◌, max, ◌≤◌, ◌<◌, ◌≡◌, refl, ◌≢◌, List, [], ◌∷◌, set, replicate, eqb}
-use Rattle.std.proofs.Common.{arith, add-one, sym, ap, ◌∙◌, get_or-set_same, get_or-set_other, eqb-true, ne_eqb, Fits}
+use Rattle.std.specs.Prelude.{ℕ, zero, suc, ◌+◌, ◌*◌, max, ◌≤◌, ◌<◌, ◌≡◌, refl, ◌≢◌, List, [], ◌∷◌, Bool, true, false, set, replicate, eqb}
+use Rattle.std.proofs.Common.{arith, add-one, sym, ap, ◌∙◌, get_or-set_same, get_or-set_other, eqb-true, Fits}
 use Rattle.std.proofs.Math.ListN.{length, get_or, length-set}
 use Rattle.std.proofs.lemmas.Bool.{eqb-false}
 use Rattle.std.specs.Int.{w16}
 use Rattle.value.specs.Maybe.{pick}
 use Rattle.value.specs.Lists.{at, upto}
-use Rattle.value.proofs.Laws.Tests.{by_test}
+use Rattle.value.proofs.Laws.Tests.{by_test, never}
 use Rattle.format.specs.Syntax.{Proc, Program, Plain, concurrent}
 use Rattle.format.specs.Encode.{record_size}
 use Rattle.format.specs.Rules.{limits, max_locals}
@@ -21,7 +21,13 @@ use Rattle.translation.proofs.Laws.Placing.Shortest.{in_row, shared_shorter}
 use Rattle.scan.specs.Laws.Laid.{proc_at_lem, locals_at_lem}
 use Rattle.scan.specs.Laws.CallEnds.{calls_there_lem}
 use Rattle.places.specs.Placed.{Of, Source, PlacesOf}
-use Rattle.places.specs.Laws.Marking.{spot, Marked, named_of, zeros, clear}
+use Rattle.places.specs.Laws.Marking.{Marked, named_of, room_of}
+
+-- nothing but zeros
+pub zeros : (n i : ℕ) → get_or {A = ℕ} (replicate n 0) i 0 ≡ 0
+zeros zero i = refl
+zeros (suc n) zero = refl
+zeros (suc n) (suc i) = zeros n i
 
 -- ---- what the code finds
 
@@ -29,9 +35,20 @@ use Rattle.places.specs.Laws.Marking.{spot, Marked, named_of, zeros, clear}
 unfoldable pub end_at : List ℕ → ℕ → List ℕ → ℕ → ℕ
 end_at t R s m = get_or s m 0 + get_or t (R + record_size * m + 1) 0
 
--- where a procedure begins behind a caller's end, if there is a mark
-unfoldable pub raised_to : ℕ → ℕ → ℕ → ℕ
-raised_to mark start end = pick (eqb mark 0) start (max start end)
+-- where a procedure begins behind a caller's end, if it is called
+unfoldable pub raised_to : Bool → ℕ → ℕ → ℕ
+raised_to called start end = pick called (max start end) start
+
+module _ (called : Bool) (start end : ℕ) where
+  -- not called
+  pub raised_none : called ≡ false → start ≡ raised_to called start end
+  unfolding raised_to
+  raised_none e = rw e
+
+  -- called
+  pub raised_max : {v : ℕ} → called ≡ true → v ≡ max start end → v ≡ raised_to called start end
+  unfolding raised_to
+  raised_max n e = rw n e
 
 -- ---- what it keeps
 
@@ -41,17 +58,17 @@ pub record Low (t : List ℕ) (P R : ℕ) (s : List ℕ) : Type 0 where
   pub small : (m : ℕ) → m < P → get_or s m 0 ≤ (limits concurrent).procs * max_locals
   pub upper : (p : Program Plain) → Of t P R p → (m : ℕ) → get_or s m 0 ≤ shared p.procs m
 
--- the starts of the procedures before k that q calls are raised to e, and no others
-pub record Raising (marks : List ℕ) (P q e : ℕ) (s : List ℕ) (k : ℕ) (new : List ℕ) : Type 0 where
+-- the starts of the procedures before k that are called are raised to e, and no others
+pub record Raising (calls : List Bool) (P e : ℕ) (s : List ℕ) (k : ℕ) (new : List ℕ) : Type 0 where
   pub long : length new ≡ (limits concurrent).procs
   pub kept : (m : ℕ) → get_or s m 0 ≤ get_or new m 0
-  pub called : (m : ℕ) → m < k → get_or marks (spot q m) 0 ≢ 0 → e ≤ get_or new m 0
-  pub bound : (most : ℕ → ℕ) → ((m : ℕ) → get_or s m 0 ≤ most m) → ((m : ℕ) → m < P → get_or marks (spot q m) 0 ≢ 0 → e ≤ most m)
+  pub called : (m : ℕ) → m < k → get_or calls m false ≡ true → e ≤ get_or new m 0
+  pub bound : (most : ℕ → ℕ) → ((m : ℕ) → get_or s m 0 ≤ most m) → ((m : ℕ) → m < P → get_or calls m false ≡ true → e ≤ most m)
       → (m : ℕ) → get_or new m 0 ≤ most m
 
 -- of all procedures
-pub record Raises (marks : List ℕ) (P q e : ℕ) (s new : List ℕ) : Type 0 where
-  pub all : Raising marks P q e s P new
+pub record Raises (calls : List Bool) (P e : ℕ) (s new : List ℕ) : Type 0 where
+  pub all : Raising calls P e s P new
 
 -- a round over the callers before k: what they call begins after their ends
 pub record Rounding (t : List ℕ) (P R : ℕ) (s : List ℕ) (k : ℕ) (new : List ℕ) : Type 0 where
@@ -121,26 +138,15 @@ end_fits {m = m} low l b = record { fits = omega (arith, low.small m l) }
 
 -- ---- one caller
 
-module _ (mark start end : ℕ) where
-  -- without a mark
-  pub raised_none : mark ≡ 0 → start ≡ raised_to mark start end
-  unfolding raised_to
-  raised_none e = rw e
-
-  -- with one
-  pub raised_max : {v : ℕ} → mark ≢ 0 → v ≡ max start end → v ≡ raised_to mark start end
-  unfolding raised_to
-  raised_max n e = rw (ne_eqb mark 0 n) e
-
-module _ {marks : List ℕ} {P q e : ℕ} {s : List ℕ} where
+module _ {calls : List Bool} {P e : ℕ} {s : List ℕ} where
   -- nothing yet
-  pub raise_start : length s ≡ (limits concurrent).procs → Raising marks P q e s 0 s
+  pub raise_start : length s ≡ (limits concurrent).procs → Raising calls P e s 0 s
   raise_start long = record { long = long; kept = λ m. omega arith; called = λ m l. absurd (omega arith); bound = λ most h g. h }
 
-  module _ {k : ℕ} {new : List ℕ} (r : Raising marks P q e s k new) where
+  module _ {k : ℕ} {new : List ℕ} (r : Raising calls P e s k new) where
     -- one procedure more
-    pub raise_next : {v : ℕ} → P ≤ (limits concurrent).procs → k < P → v ≡ raised_to (get_or marks (spot q k) 0) (get_or new k 0) e
-        → Raising marks P q e s (k + 1) (set new k v)
+    pub raise_next : {v : ℕ} → P ≤ (limits concurrent).procs → k < P → v ≡ raised_to (get_or calls k false) (get_or new k 0) e
+        → Raising calls P e s (k + 1) (set new k v)
     unfolding raised_to
     raise_next {v} few below is = record {
       long = length-set new k v ∙ r.long;
@@ -152,16 +158,15 @@ module _ {marks : List ℕ} {P q e : ℕ} {s : List ℕ} where
         room : k < length new
         room = omega (arith, r.long)
 
-        up : (get_or new k 0 ≤ v) × (get_or marks (spot q k) 0 ≢ 0 → e ≤ v)
-        up = by_test (eqb (get_or marks (spot q k) 0) 0)
-            (λ b. let same : v ≡ get_or new k 0 = rw b at is in (omega arith, λ h. absurd (h (eqb-true _ _ b))))
+        up : (get_or new k 0 ≤ v) × (get_or calls k false ≡ true → e ≤ v)
+        up = by_test (get_or calls k false)
             (λ b. let same : v ≡ max (get_or new k 0) e = rw b at is in (omega arith, λ h. omega arith))
+            (λ b. let same : v ≡ get_or new k 0 = rw b at is in (omega arith, λ h. absurd (never (sym b ∙ h))))
 
-        under : (most : ℕ → ℕ) → ((m : ℕ) → get_or s m 0 ≤ most m) → ((m : ℕ) → m < P → get_or marks (spot q m) 0 ≢ 0 → e ≤ most m) → v ≤ most k
-        under most h g = by_test (eqb (get_or marks (spot q k) 0) 0)
+        under : (most : ℕ → ℕ) → ((m : ℕ) → get_or s m 0 ≤ most m) → ((m : ℕ) → m < P → get_or calls m false ≡ true → e ≤ most m) → v ≤ most k
+        under most h g = by_test (get_or calls k false)
+            (λ b. let same : v ≡ max (get_or new k 0) e = rw b at is in omega (arith, r.bound most h g k, g k below b))
             (λ b. let same : v ≡ get_or new k 0 = rw b at is in omega (arith, r.bound most h g k))
-            (λ b. let same : v ≡ max (get_or new k 0) e = rw b at is in
-            omega (arith, r.bound most h g k, g k below (eqb-false _ _ b)))
 
         at_each : (Q : ℕ → Type 0) (m : ℕ) → (m ≡ k → Q v) → (m ≢ k → Q (get_or new m 0)) → Q (get_or (set new k v) m 0)
         at_each Q m this that =
@@ -170,7 +175,7 @@ module _ {marks : List ℕ} {P q e : ℕ} {s : List ℕ} where
             (λ b. let other : m ≢ k = eqb-false m k b in rw (get_or-set_other new k m v 0 other) (that other))
 
     -- all of them
-    pub raise_done : P ≤ k → Raises marks P q e s new
+    pub raise_done : P ≤ k → Raises calls P e s new
     raise_done l = record {
       all = record { long = r.long; kept = r.kept; called = λ m b. r.called m (omega arith); bound = r.bound };
     }
@@ -183,8 +188,8 @@ module _ {t : List ℕ} {P R : ℕ} {s : List ℕ} where
   round_start low = record { low = low; kept = λ m. omega arith; after = λ p o q m l. absurd (omega arith) }
 
   -- one more
-  pub round_next : {marks : List ℕ} {k e : ℕ} {now new : List ℕ} → Source t P R → Marked t P R marks → Rounding t P R s k now → k < P
-      → e ≡ end_at t R now k → Raises marks P k e now new → Rounding t P R s (k + 1) new
+  pub round_next : {marks : List (List Bool)} {k e : ℕ} {now new : List ℕ} → Source t P R → Marked t P R marks → Rounding t P R s k now → k < P
+      → e ≡ end_at t R now k → Raises (get_or marks k []) P e now new → Rounding t P R s (k + 1) new
   round_next {marks} {k} {e} {now} {new} S M r l ends raises = record {
     low = record {
       long = raises.all.long;
@@ -339,8 +344,6 @@ module _ {t : List ℕ} {P R : ℕ} where
 pub ruleset raise_ways = (
   ends_here,
   end_fits,
-  raised_none,
-  raised_max,
   raise_start,
   raise_next,
   raise_done,
@@ -356,5 +359,5 @@ pub ruleset raise_ways = (
   order_start,
   order_next,
   order_done,
-  clear,
+  room_of,
 )

@@ -16,8 +16,7 @@ use Rattle.value.proofs.Laws.Lists.{Each}
 use Rattle.value.proofs.Laws.Tests.{either_passed}
 use Rattle.value.proofs.Laws.Tables.{looked_up}
 use Rattle.value.specs.declared.Value.TheVariants.{Whole, Location, Truth}
-use Rattle.parse.specs.declared.Ends.{Ends}
-use Rattle.parse.specs.declared.Ends.TheVariants.{At, Nothing}
+use Rattle.std.specs.Prelude.{Option, Some, None}
 use Rattle.format.specs.Syntax.{Expr, constant, local, one, two}
 use Rattle.format.specs.Encode.{each}
 use Rattle.format.specs.Encode as E
@@ -39,9 +38,9 @@ unfoldable pub leaf_known : List ℕ → ℕ → Known → Bool
 leaf_known t i s = pick (eqb (get_or t i 0) 0x05) (s (get_or t (i + 1) 0)) true
 
 -- where n expressions end, if each of their variables is set
-pub record Knows (t : List ℕ) (i n s : ℕ) (r : Ends) : Type 0 where
-  pub ahead : (j : ℕ) → r ≡ At j → i ≤ j
-  pub gives : (es : List Expr) (j : ℕ) → ExprsAt t i n es j → r ≡ pick (all (known (bits s)) es) (At j) Nothing
+pub record Knows (t : List ℕ) (i n s : ℕ) (r : Option ℕ) : Type 0 where
+  pub ahead : (j : ℕ) → r ≡ Some j → i ≤ j
+  pub gives : (es : List Expr) (j : ℕ) → ExprsAt t i n es j → r ≡ pick (all (known (bits s)) es) (Some j) None
 
 -- behind the first mark of n expressions other expressions stand
 record NextExprs (t : List ℕ) (i n : ℕ) (s : Known) (es : List Expr) (j : ℕ) : Type 0 where
@@ -119,12 +118,12 @@ module _ {t : List ℕ} {i j : ℕ} (n : ℕ) (s : Known) where
 
 -- ---- the loop over the marks of expressions
 
--- Nothing is not somewhere
-nowhere : {G : Type 0} {j : ℕ} → Nothing ≡ At j → G
+-- nowhere is not somewhere
+nowhere : {G : Type 0} {j : ℕ} → None ≡ Some j → G
 nowhere e = let z : ◌≡◌ {A = ℕ} 0 1 = cc in absurd (omega arith)
 
 -- one place
-at_inj : {j k : ℕ} → At j ≡ At k → j ≡ k
+at_inj : {j k : ℕ} → Some j ≡ Some k → j ≡ k
 at_inj e = cc
 
 -- a mark has at most 2 operands
@@ -143,10 +142,10 @@ exprs_inside i n es some h = let more = exprs_more h some in omega (arith, expr_
 pub record KnowsFrom (t : List ℕ) (i n s k l : ℕ) : Type 0 where
   pub ahead : i ≤ k
   pub few : i + l ≤ n + k
-  pub back : (r : Ends) → Knows t k l s r → Knows t i n s r
+  pub back : (r : Option ℕ) → Knows t k l s r → Knows t i n s r
 
 -- a row of which nothing stands there
-no_exprs : {t : List ℕ} {i n s : ℕ} → ((es : List Expr) (j : ℕ) → ExprsAt t i n es j → ⊥) → Knows t i n s Nothing
+no_exprs : {t : List ℕ} {i n s : ℕ} → ((es : List Expr) (j : ℕ) → ExprsAt t i n es j → ⊥) → Knows t i n s None
 no_exprs none = record { ahead = λ j e. nowhere e; gives = λ es j h. absurd (none es j h) }
 
 module _ (t : List ℕ) (i n s : ℕ) where
@@ -156,18 +155,18 @@ module _ (t : List ℕ) (i n s : ℕ) where
 
   module _ {k l : ℕ} (from : KnowsFrom t i n s k l) where
     -- no bytes are left
-    pub knows_past : 0 < l → length t ≤ k → Knows t i n s Nothing
-    knows_past some p = from.back Nothing (no_exprs λ es j h. omega (arith, exprs_inside k l es some h))
+    pub knows_past : 0 < l → length t ≤ k → Knows t i n s None
+    knows_past some p = from.back None (no_exprs λ es j h. omega (arith, exprs_inside k l es some h))
 
     -- no mark
-    pub knows_none : {o : ℕ} → 0 < l → o ≡ operands_of (get_or t k 0) → o ≡ 9 → Knows t i n s Nothing
-    knows_none some e nine = from.back Nothing (no_exprs λ es j h. omega (arith, (next_exprs l (bits s) es some h).few))
+    pub knows_none : {o : ℕ} → 0 < l → o ≡ operands_of (get_or t k 0) → o ≡ 9 → Knows t i n s None
+    knows_none some e nine = from.back None (no_exprs λ es j h. omega (arith, (next_exprs l (bits s) es some h).few))
 
     -- a variable that is not set
-    pub knows_unset : {b : Bool} → 0 < l → b ≡ leaf_known t k (bits s) → B.not b ≡ true → Knows t i n s Nothing
-    knows_unset {b} some e unset = from.back Nothing (record { ahead = λ j e. nowhere e; gives = gives })
+    pub knows_unset : {b : Bool} → 0 < l → b ≡ leaf_known t k (bits s) → B.not b ≡ true → Knows t i n s None
+    knows_unset {b} some e unset = from.back None (record { ahead = λ j e. nowhere e; gives = gives })
       where
-        gives : (es : List Expr) (j : ℕ) → ExprsAt t k l es j → Nothing ≡ pick (all (known (bits s)) es) (At j) Nothing
+        gives : (es : List Expr) (j : ℕ) → ExprsAt t k l es j → None ≡ pick (all (known (bits s)) es) (Some j) None
         gives es j h = rw ((next_exprs l (bits s) es some h).same, ← e, not-true b unset)
 
     -- any other mark
@@ -179,18 +178,18 @@ module _ (t : List ℕ) (i n s : ℕ) where
       back = λ r h. from.back r (record { ahead = λ j w. omega (arith, h.ahead j w); gives = gives r h });
     }
       where
-        gives : (r : Ends) → Knows t (k + 1 + q) (l - 1 + o) s r → (es : List Expr) (j : ℕ) → ExprsAt t k l es j
-            → r ≡ pick (all (known (bits s)) es) (At j) Nothing
+        gives : (r : Option ℕ) → Knows t (k + 1 + q) (l - 1 + o) s r → (es : List Expr) (j : ℕ) → ExprsAt t k l es j
+            → r ≡ pick (all (known (bits s)) es) (Some j) None
         gives r h es j x =
             let next : NextExprs t k l (bits s) es j = next_exprs l (bits s) es some x in
             let after : ExprsAt t (k + 1 + q) (l - 1 + o) next.rest j = rw (p, e) next.after in
             h.gives next.rest j after ∙ rw (next.same, ← leaf, not-false b set)
 
     -- no expression is left
-    pub knows_end : l ≤ 0 → Knows t i n s (At k)
-    knows_end none = from.back (At k) (record { ahead = λ j e. omega (arith, at_inj e); gives = gives })
+    pub knows_end : l ≤ 0 → Knows t i n s (Some k)
+    knows_end none = from.back (Some k) (record { ahead = λ j e. omega (arith, at_inj e); gives = gives })
       where
-        gives : (es : List Expr) (j : ℕ) → ExprsAt t k l es j → At k ≡ pick (all (known (bits s)) es) (At j) Nothing
+        gives : (es : List Expr) (j : ℕ) → ExprsAt t k l es j → Some k ≡ pick (all (known (bits s)) es) (Some j) None
         gives es j h =
             let empty : (es ≡ []) × (j ≡ k) = exprs_none_lem h (omega arith) in
             rw (empty.0, empty.1)
@@ -219,26 +218,26 @@ pub pair : {t : List ℕ} {i : ℕ} {a b : Expr} {k j : ℕ} → ExprAt t i max_
 pair h g = record { stands = join h.stands (rw append-nil g.stands); count = refl; fits = (h.fits, (g.fits, tt)) }
 
 -- the end of expressions, if their variables are set
-pick_at : (b : Bool) {k : ℕ} (j : ℕ) → At k ≡ pick b (At j) Nothing → (b ≡ true) × (k ≡ j)
+pick_at : (b : Bool) {k : ℕ} (j : ℕ) → Some k ≡ pick b (Some j) None → (b ≡ true) × (k ≡ j)
 pick_at true j e = (refl, at_inj e)
 pick_at false j e = nowhere (sym e)
 
 -- or not
-pick_not : (b : Bool) (j : ℕ) → Nothing ≡ pick b (At j) Nothing → b ≡ false
+pick_not : (b : Bool) (j : ℕ) → None ≡ pick b (Some j) None → b ≡ false
 pick_not true j e = nowhere e
 pick_not false j e = refl
 
-module _ {t : List ℕ} {i s : ℕ} {f : Ends} (F : Knows t i 1 s f) where
+module _ {t : List ℕ} {i s : ℕ} {f : Option ℕ} (F : Knows t i 1 s f) where
   -- the variables of a test are set, and it ends at k
-  pub test_set : {k : ℕ} → f ≡ At k → (e : Expr) {j : ℕ} → ExprAt t i max_depth e j → (known (bits s) e ≡ true) × (k ≡ j)
+  pub test_set : {k : ℕ} → f ≡ Some k → (e : Expr) {j : ℕ} → ExprAt t i max_depth e j → (known (bits s) e ≡ true) × (k ≡ j)
   test_set {k} q e {j} h =
-      let same : At k ≡ pick (both (known (bits s) e) true) (At j) Nothing = sym q ∙ F.gives (e ∷ []) j (alone h) in
+      let same : Some k ≡ pick (both (known (bits s) e) true) (Some j) None = sym q ∙ F.gives (e ∷ []) j (alone h) in
       pick_at (known (bits s) e) j (rw both_true at same)
 
   -- or not
-  pub test_unset : f ≡ Nothing → (e : Expr) {j : ℕ} → ExprAt t i max_depth e j → known (bits s) e ≡ false
+  pub test_unset : f ≡ None → (e : Expr) {j : ℕ} → ExprAt t i max_depth e j → known (bits s) e ≡ false
   test_unset q e {j} h =
-      let same : Nothing ≡ pick (both (known (bits s) e) true) (At j) Nothing = sym q ∙ F.gives (e ∷ []) j (alone h) in
+      let same : None ≡ pick (both (known (bits s) e) true) (Some j) None = sym q ∙ F.gives (e ∷ []) j (alone h) in
       pick_not (known (bits s) e) j (rw both_true at same)
 
 -- one law for each way through the walk over expressions

@@ -9,7 +9,7 @@ use Rattle.ctext.proofs.Laws.LineText.{InstrText, TargetIn, WriteIn, CallIn, Sel
 use Rattle.writer.specs.Laws.Put.{Put}
 use Rattle.retable.specs.Laws.Exprs.{Parses}
 use Rattle.retable.specs.declared.exprs.Parsed.{Parsed}
-use Rattle.retable.specs.declared.statements.Arguments.{Arguments}
+use Rattle.retable.specs.declared.exprs.Listed.{Listed}
 
 module _ (x : List ℕ) (i : ℕ) (o : List ℕ) (p : ℕ) (o' : List ℕ) (r : Parsed) where
   -- a local, and an expression
@@ -33,17 +33,17 @@ module _ (x : List ℕ) (i : ℕ) (o : List ℕ) (p : ℕ) (o' : List ℕ) (r : 
     pub gives : (c d : ℕ) (s : Instr Plain) (j : ℕ) → InstrText x i c d s j → CallIn x i c d s j → Parses (instr s) j o p o' r
 
 -- arguments es behind n others, which end at j, were written
-pub record Argued (n : ℕ) (es : List Expr) (j : ℕ) (o : List ℕ) (p : ℕ) (o' : List ℕ) (r : Arguments) : Type 0 where
+pub record Argued (n : ℕ) (es : List Expr) (j : ℕ) (o : List ℕ) (p : ℕ) (o' : List ℕ) (r : Listed ℕ) : Type 0 where
   pub count : r.count ≡ n + length es
   pub puts : Put o p (each expr es) o' r.to
   pub ends : r.next ≡ j
 
 -- whatever arguments stand there behind n others are written
-pub record ParsesMore (x : List ℕ) (i n : ℕ) (o : List ℕ) (p : ℕ) (o' : List ℕ) (r : Arguments) : Type 0 where
+pub record ParsesMore (x : List ℕ) (i n : ℕ) (o : List ℕ) (p : ℕ) (o' : List ℕ) (r : Listed ℕ) : Type 0 where
   pub gives : (es : List Expr) (j : ℕ) → MoreText x i es j → n + length es < 2 ^ 8 → Argued n es j o p o' r
 
 -- whatever arguments stand there are written
-pub record ParsesArgs (x : List ℕ) (i : ℕ) (o : List ℕ) (p : ℕ) (o' : List ℕ) (r : Arguments) : Type 0 where
+pub record ParsesArgs (x : List ℕ) (i : ℕ) (o : List ℕ) (p : ℕ) (o' : List ℕ) (r : Listed ℕ) : Type 0 where
   pub gives : (es : List Expr) (j : ℕ) → ArgsText x i es j → length es < 2 ^ 8 → Argued 0 es j o p o' r
 
 -- with their number before them

@@ -2,6 +2,8 @@
 use Rattle.std.specs.Prelude.{ℕ, zero, suc, ◌+◌, ◌<◌, ◌≡◌, refl, List, [], ◌∷◌, ◌++◌, length, get_or}
 use Rattle.std.proofs.Common.{arith, sym, ap, subst, ◌∙◌, append_assoc}
 use Rattle.value.proofs.Laws.Lists.{In, here, there, in_front, in_back, in_either, each_in, Each, each_append, at_below}
+use Rattle.scan.specs.declared.calls.State.{State}
+use Rattle.scan.specs.declared.calls.State.TheVariants as V
 use Rattle.scan.specs.declared.tokens.Token.{Token}
 use Rattle.scan.specs.declared.tokens.Token.TheVariants as T
 use Rattle.format.specs.Syntax.{Instr, assign, write, read, while, if, call, atomic, select}
@@ -93,12 +95,12 @@ in_each Q [] h = tt
 in_each Q (x ∷ xs) h = (h x here, in_each Q xs (λ y i. h y (there i)))
 
 -- the next call brings a part further
-pub further : {t : List ℕ} {P R : ℕ} (p : Program Plain) → Named t P R p → {marks : List ℕ} {m k e at : ℕ}
-    → ((c : ℕ) → c < P → get_or marks c 0 ≡ 2 → Ends p.procs c) → m < P → e ≡ body_at p.procs (m + 1) → Part t p m k
-    → NextCall t e marks k at → Part t p m at
-further {t} {P} p named {marks} {m} {k} {e} {at} ended below ends_at old N = joining (N.passed old.after (rw ends_at old.row))
+pub further : {t : List ℕ} {P R : ℕ} (p : Program Plain) → Named t P R p → {states : List State} {m k e at : ℕ}
+    → ((c : ℕ) → c < P → get_or states c V.New ≡ V.Left → Ends p.procs c) → m < P → e ≡ body_at p.procs (m + 1) → Part t p m k
+    → NextCall t e states k at → Part t p m at
+further {t} {P} p named {states} {m} {k} {e} {at} ended below ends_at old N = joining (N.passed old.after (rw ends_at old.row))
   where
-    joining : (xs : List Token) × (ys : List Token) × (old.after ≡ xs ++ ys) × Each (Left marks) (calls_in xs) × Row t at ys e → Part t p m at
+    joining : (xs : List Token) × (ys : List Token) × (old.after ≡ xs ++ ys) × Each (Left states) (calls_in xs) × Row t at ys e → Part t p m at
     joining (xs, ys, split, lefts, row) = record {
       before = old.before ++ calls_in xs;
       after = ys;

@@ -1,12 +1,14 @@
 -- Rule 7, token by token: the calls of a body, and the next one of a procedure that was not left yet.
-use Rattle.std.specs.Prelude.{ℕ, ◌+◌, ◌≤◌, ◌<◌, ◌≡◌, ◌≢◌, List, [], ◌∷◌, ◌++◌, Bool, true, false, get_or, eqb, ltb}
-use Rattle.std.proofs.Common.{arith, sym, ap, subst, ◌∙◌, append_assoc}
+use Rattle.std.specs.Prelude.{ℕ, ◌+◌, ◌≤◌, ◌<◌, ◌≡◌, ◌≢◌, List, [], ◌∷◌, ◌++◌, Bool, true, false, get_or, ltb}
+use Rattle.std.proofs.Common.{le-ltb, lt-ltb, arith, sym, ap, subst, ◌∙◌, append_assoc}
 use Rattle.std.proofs.Math.Path.{refl}
 use Rattle.std.proofs.Math.Bool as B
-use borrow.Author.Tests.{not-false, eqb-true, ltb-true, lt-ltb, le-ltb}
+use borrow.Author.Tests.{not-false, ltb-true, lt-ltb}
 use Rattle.value.specs.Maybe.{pick}
 use Rattle.value.proofs.Laws.Tests.{by_test, never}
 use Rattle.value.proofs.Laws.Lists.{Each, each_append}
+use Rattle.scan.specs.declared.calls.State.{State}
+use Rattle.scan.specs.declared.calls.State.TheVariants as S
 use Rattle.scan.specs.declared.tokens.Token.{Token}
 use Rattle.scan.specs.declared.tokens.Token.TheVariants as T
 use Rattle.format.specs.Syntax.{Expr, constant, local, one, two, Instr, assign, write, read, while, if, call, atomic, select, sequential}
@@ -77,11 +79,23 @@ mutual
 
 -- ---- what the code answers
 
-module _ (marks : List ℕ) where
+-- was a procedure left
+abbrev pub is_left : State → Bool
+is_left S.New = false
+is_left S.Entered = false
+is_left S.Left = true
+
+-- if so, it is in that state
+left_is : (s : State) → is_left s ≡ true → s ≡ S.Left
+left_is S.New e = absurd (never e)
+left_is S.Entered e = absurd (never e)
+left_is S.Left e = refl
+
+module _ (states : List State) where
   -- was a procedure left
   pub record Left (c : ℕ) : Type 0 where
     pub low : c < (limits sequential).procs
-    pub mark : get_or marks c 0 ≡ 2
+    pub mark : get_or states c S.New ≡ S.Left
 
   -- does a token call one that was not left
   unfoldable pub calls_on : Token → Bool
@@ -94,39 +108,40 @@ module _ (marks : List ℕ) where
   calls_on (T.Read x y) = false
   calls_on T.While = false
   calls_on T.If = false
-  calls_on (T.Call m n) = pick (ltb m (limits sequential).procs) (B.not (eqb (get_or marks m 0) 2)) true
+  calls_on (T.Call m n) = pick (ltb m (limits sequential).procs) (B.not (is_left (get_or states m S.New))) true
   calls_on T.Atomic = false
   calls_on (T.Select a b) = false
 
 -- r is the first place from i up to e where a token does, or e
-pub record NextCall (t : List ℕ) (e : ℕ) (marks : List ℕ) (i r : ℕ) : Type 0 where
+pub record NextCall (t : List ℕ) (e : ℕ) (states : List State) (i r : ℕ) : Type 0 where
   pub within : r ≤ e
-  pub here : r < e → calls_on marks (token_at t r) ≡ true
+  pub here : r < e → calls_on states (token_at t r) ≡ true
   pub passed : (ks : List Token) → Row t i ks e
-      → (xs : List Token) × (ys : List Token) × (ks ≡ xs ++ ys) × Each (Left marks) (calls_in xs) × Row t r ys e
+      → (xs : List Token) × (ys : List Token) × (ks ≡ xs ++ ys) × Each (Left states) (calls_in xs) × Row t r ys e
 
 -- ---- one token
 
-module _ (marks : List ℕ) where
+module _ (states : List State) where
   -- a call of a procedure
-  pub on_call : {k : Token} {m n : ℕ} → k ≡ T.Call m n → m < (limits sequential).procs → B.not (eqb (get_or marks m 0) 2) ≡ calls_on marks k
+  pub on_call : {k : Token} {m n : ℕ} → k ≡ T.Call m n → m < (limits sequential).procs
+      → B.not (is_left (get_or states m S.New)) ≡ calls_on states k
   unfolding calls_on
   on_call {m = m} e l = rw (e, lt-ltb m (limits sequential).procs l)
 
   -- of none that there can be
-  pub on_far : {k : Token} {m n : ℕ} → k ≡ T.Call m n → (limits sequential).procs ≤ m → true ≡ calls_on marks k
+  pub on_far : {k : Token} {m n : ℕ} → k ≡ T.Call m n → (limits sequential).procs ≤ m → true ≡ calls_on states k
   unfolding calls_on
   on_far {m = m} e l = rw (e, le-ltb m (limits sequential).procs l)
 
   -- a procedure that was left, by the test
-  left : (m : ℕ) → pick (ltb m (limits sequential).procs) (B.not (eqb (get_or marks m 0) 2)) true ≡ false → Left marks m
+  left : (m : ℕ) → pick (ltb m (limits sequential).procs) (B.not (is_left (get_or states m S.New))) true ≡ false → Left states m
   left m e =
       by_test (ltb m (limits sequential).procs)
-      (λ l. record { low = ltb-true _ _ l; mark = eqb-true _ _ (not-false _ (rw l at e)) })
+      (λ l. record { low = ltb-true _ _ l; mark = left_is (get_or states m S.New) (not-false _ (rw l at e)) })
       (λ l. absurd (never (sym (rw l at e))))
 
   -- a token that does not call on calls what was left
-  pub on_left : (k : Token) → calls_on marks k ≡ false → Each (Left marks) (call_in k)
+  pub on_left : (k : Token) → calls_on states k ≡ false → Each (Left states) (call_in k)
   unfolding calls_on
   on_left T.Stop e = tt
   on_left T.Plain e = tt
@@ -142,7 +157,7 @@ module _ (marks : List ℕ) where
   on_left (T.Select a b) e = tt
 
   -- a token that calls on is a call
-  pub on_is_call : (k : Token) → calls_on marks k ≡ true → ((c n : ℕ) → k ≢ T.Call c n) → ⊥
+  pub on_is_call : (k : Token) → calls_on states k ≡ true → ((c n : ℕ) → k ≢ T.Call c n) → ⊥
   unfolding calls_on
   on_is_call T.Stop e other = never e
   on_is_call T.Plain e other = never e
@@ -158,56 +173,56 @@ module _ (marks : List ℕ) where
   on_is_call (T.Select a b) e other = never e
 
   -- of a procedure that was not left
-  pub on_not_left : (c n : ℕ) → calls_on marks (T.Call c n) ≡ true → c < (limits sequential).procs → get_or marks c 0 ≢ 2
+  pub on_not_left : (c n : ℕ) → calls_on states (T.Call c n) ≡ true → c < (limits sequential).procs → get_or states c S.New ≢ S.Left
   unfolding calls_on
   on_not_left c n e l q = never (rw (lt-ltb c (limits sequential).procs l, q) at e)
 
 -- ---- the loop over tokens
 
 -- those from i up to k call none that was not left
-pub record Passing (t : List ℕ) (e : ℕ) (marks : List ℕ) (i k : ℕ) : Type 0 where
+pub record Passing (t : List ℕ) (e : ℕ) (states : List State) (i k : ℕ) : Type 0 where
   pub passed : (ks : List Token) → Row t i ks e
-      → (xs : List Token) × (ys : List Token) × (ks ≡ xs ++ ys) × Each (Left marks) (calls_in xs) × Row t k ys e
+      → (xs : List Token) × (ys : List Token) × (ks ≡ xs ++ ys) × Each (Left states) (calls_in xs) × Row t k ys e
 
-module _ (t : List ℕ) (e : ℕ) (marks : List ℕ) (i : ℕ) where
+module _ (t : List ℕ) (e : ℕ) (states : List State) (i : ℕ) where
   -- no token yet
-  pub pass_start : Passing t e marks i i
+  pub pass_start : Passing t e states i i
   pass_start = record { passed = λ ks row. ([], ks, refl, tt, row) }
 
   -- one more
-  pub pass_next : {k n : ℕ} {a : Token} {b : Bool} → Passing t e marks i k → k < e → a ≡ token_at t k → b ≡ calls_on marks a → b ≡ false
-      → n ≡ k + size_at t k → Passing t e marks i n
+  pub pass_next : {k n : ℕ} {a : Token} {b : Bool} → Passing t e states i k → k < e → a ≡ token_at t k → b ≡ calls_on states a → b ≡ false
+      → n ≡ k + size_at t k → Passing t e states i n
   pass_next {k} {n} {a} {b} f l at-k on not_on z = record { passed = passed }
     where
       passed : (ks : List Token) → Row t i ks e
-          → (xs : List Token) × (ys : List Token) × (ks ≡ xs ++ ys) × Each (Left marks) (calls_in xs) × Row t n ys e
+          → (xs : List Token) × (ys : List Token) × (ks ≡ xs ++ ys) × Each (Left states) (calls_in xs) × Row t n ys e
       passed ks row =
-          let so : (xs : List Token) × (ys : List Token) × (ks ≡ xs ++ ys) × Each (Left marks) (calls_in xs) × Row t k ys e = f.passed ks row in
+          let so : (xs : List Token) × (ys : List Token) × (ks ≡ xs ++ ys) × Each (Left states) (calls_in xs) × Row t k ys e = f.passed ks row in
           let next : (ls : List Token) × (so.1 ≡ token_at t k ∷ ls) × Row t (k + size_at t k) ls e = next_token l so.4 in
           let one : List Token = token_at t k ∷ [] in (
             so.0 ++ one,
             next.0,
             so.2 ∙ ap (so.0 ++◌) next.1 ∙ sym (append_assoc so.0 one next.0),
             rw (calls_append so.0 one refl refl)
-                (each_append _ (calls_in so.0) (calls_in one) so.3 (each_append _ (call_in (token_at t k)) [] (on_left marks (token_at t k) (rw (← at-k, ← on) not_on)) tt)),
+                (each_append _ (calls_in so.0) (calls_in one) so.3 (each_append _ (call_in (token_at t k)) [] (on_left states (token_at t k) (rw (← at-k, ← on) not_on)) tt)),
             rw z next.2,
           )
 
   -- here is one
-  pub pass_stop : {k : ℕ} {a : Token} {b : Bool} → Passing t e marks i k → k < e → a ≡ token_at t k → b ≡ calls_on marks a → b ≡ true
-      → NextCall t e marks i k
+  pub pass_stop : {k : ℕ} {a : Token} {b : Bool} → Passing t e states i k → k < e → a ≡ token_at t k → b ≡ calls_on states a → b ≡ true
+      → NextCall t e states i k
   pass_stop f l at-k on is-on = record { within = omega arith; here = λ _. rw (← at-k, ← on) is-on; passed = f.passed }
 
   -- there is none
-  pub pass_end : {k : ℕ} → Passing t e marks i k → e ≤ k → NextCall t e marks i e
+  pub pass_end : {k : ℕ} → Passing t e states i k → e ≤ k → NextCall t e states i e
   pass_end {k} f l = record { within = omega arith; here = λ b. absurd (omega arith); passed = passed }
     where
       passed : (ks : List Token) → Row t i ks e
-          → (xs : List Token) × (ys : List Token) × (ks ≡ xs ++ ys) × Each (Left marks) (calls_in xs) × Row t e ys e
+          → (xs : List Token) × (ys : List Token) × (ks ≡ xs ++ ys) × Each (Left states) (calls_in xs) × Row t e ys e
       passed ks row =
-          let so : (xs : List Token) × (ys : List Token) × (ks ≡ xs ++ ys) × Each (Left marks) (calls_in xs) × Row t k ys e = f.passed ks row in
+          let so : (xs : List Token) × (ys : List Token) × (ks ≡ xs ++ ys) × Each (Left states) (calls_in xs) × Row t k ys e = f.passed ks row in
           let there : k ≡ e = omega (arith, row_le so.4) in
           (so.0, so.1, so.2, so.3, subst (λ (n : ℕ). Row t n so.1 e) there so.4)
 
 -- one law for each way
-pub ruleset pass_ways = (on_call, on_far, pass_start, pass_next, pass_stop, pass_end, token_falls)
+pub ruleset pass_ways = (pass_start, pass_next, pass_stop, pass_end, token_falls)

@@ -1,5 +1,5 @@
 -- The program of a table, seen by the numbers that the code goes by: procedures P, and position R of their records.
-use Rattle.std.specs.Prelude.{ℕ, zero, suc, ◌+◌, ◌*◌, ◌≤◌, ◌<◌, ◌≡◌, refl, List, [], ◌∷◌, Bool, true, false, length, get_or}
+use Rattle.std.specs.Prelude.{ℕ, zero, suc, ◌+◌, ◌*◌, ◌≤◌, ◌<◌, ◌≡◌, refl, List, [], ◌∷◌, Bool, true, false, length, get_or, min}
 use Rattle.std.proofs.Common.{arith, sym, ap, subst, ◌∙◌, below_more, length-append}
 use Rattle.value.specs.Maybe.{is}
 use Rattle.value.specs.Values.{bytes}
@@ -124,7 +124,12 @@ proc_named_lem {p = p} named {m} below = record {
     right : LocalsRight (limits named.laid.kind).locals (proc_of p m)
     right = each_at (LocalsRight (limits named.laid.kind).locals) p.procs m named.laid.formed.locals (proc_at_lem named.laid below)
 
--- ---- where a body ends, as the code finds it
+-- ---- where a body begins and ends, as the code finds it
+
+-- r is where procedure m's body begins
+pub record BodyStarts (t : List ℕ) (P R m r : ℕ) : Type 0 where
+  pub within : r ≤ R
+  pub gives : (p : Program Plain) → Laid t P R p → r ≡ body_at p.procs m
 
 -- r is where the body behind procedure m's begins, or the records
 pub record BodyEnds (t : List ℕ) (P R m r : ℕ) : Type 0 where
@@ -132,9 +137,18 @@ pub record BodyEnds (t : List ℕ) (P R m r : ℕ) : Type 0 where
   pub gives : (p : Program Plain) → Laid t P R p → r ≡ body_at p.procs (m + 1)
 
 module _ (t : List ℕ) (P R m : ℕ) where
+  -- as its record says
+  pub starts_here : {r x : ℕ} → m < P → r ≡ four_at t (R + record_size * m + 2) → x ≡ min r R → BodyStarts t P R m x
+  starts_here {r} {x} l e f = record { within = omega arith; gives = gives }
+    where
+      gives : (p : Program Plain) → Laid t P R p → x ≡ body_at p.procs m
+      gives p laid =
+          let begins : r ≡ body_at p.procs m = e ∙ start_at laid l in
+          omega (arith, begins, laid.records, body_before p.procs m)
+
   -- before another
-  pub ends_next : {r : ℕ} → m + 1 < P → r ≡ four_at t (R + record_size * (m + 1) + 2) → r < R → BodyEnds t P R m r
-  ends_next l e w = record { within = omega arith; gives = λ p laid. e ∙ start_at laid l }
+  pub ends_next : {r : ℕ} → BodyStarts t P R (m + 1) r → BodyEnds t P R m r
+  ends_next s = record { within = s.within; gives = s.gives }
 
   -- at the records, where the next one begins there too
   pub ends_there : {r : ℕ} → m + 1 < P → r ≡ four_at t (R + record_size * (m + 1) + 2) → R ≤ r → BodyEnds t P R m R
@@ -154,8 +168,8 @@ module _ (t : List ℕ) (P R m : ℕ) where
           let all : m + 1 ≡ length p.procs = omega (arith, laid.procs) in
           rw (all, last_body p.procs) laid.records
 
--- one law for each way to the end of a body
-pub ruleset end_ways = (ends_next, ends_there, ends_last)
+-- one law for each way
+pub ruleset end_ways = (starts_here, ends_next, ends_last)
 
 -- ---- a loop over the procedures
 

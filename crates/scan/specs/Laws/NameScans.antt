@@ -13,12 +13,12 @@ use Rattle.scan.specs.declared.tokens.Token.TheVariants as T
 use Rattle.format.specs.Syntax.{Expr, constant, local, one, two, Instr, assign, write, read, while, if, call, atomic, select}
 use Rattle.format.specs.Syntax.{Block, end, step, Proc, Program, Plain}
 use Rattle.format.specs.Rules.{in_expr, takes, named, named_i, all_named}
-use Rattle.scan.specs.Tokens.{four_at, token_at, size_at, tokens_e, tokens_es, tokens_i, tokens}
+use Rattle.scan.specs.Tokens.{token_at, size_at, tokens_e, tokens_es, tokens_i, tokens}
 use Rattle.scan.specs.Laws.Tokens.{Row, token_falls}
 use Rattle.scan.specs.Laws.Scans.{Scans, From, from_start, from_next, from_stop, from_end}
 use Rattle.format.proofs.Laws.TablePlaces.{body_at}
 use Rattle.format.specs.Encode.{record_size}
-use Rattle.scan.specs.Laws.Laid.{Laid, Judges, proc_of, params_at, locals_at_lem, start_at, body_row, BodyEnds}
+use Rattle.scan.specs.Laws.Laid.{Laid, Judges, proc_of, params_at, locals_at_lem, body_row, BodyStarts, BodyEnds}
 use Rattle.scan.specs.Laws.Laid.{Passed, none_passed, one_passed, passed_all, failed_one}
 
 -- ---- what the code judges
@@ -252,7 +252,7 @@ module _ {t : List ℕ} {P M R : ℕ} {p : Program Plain} (counted : Counted t P
 
 module _ (t : List ℕ) (P M R m : ℕ) where
   -- the body of procedure m
-  pub body_judged : {x a e : ℕ} {r : Bool} → m < P → x ≡ get_or t (R + record_size * m + 1) 0 → a ≡ four_at t (R + record_size * m + 2)
+  pub body_judged : {x a e : ℕ} {r : Bool} → m < P → x ≡ get_or t (R + record_size * m + 1) 0 → BodyStarts t P R m a
       → BodyEnds t P R m e → Scans t e (all_here t P M R x) a r → Judges (Counted t P M R) (proc_named m) r
   unfolding all_here proc_named
   body_judged {x} {a} {e} {r} l locals start ends s = record { gives = gives }
@@ -260,7 +260,7 @@ module _ (t : List ℕ) (P M R m : ℕ) where
       gives : (p : Program Plain) → Counted t P M R p → r ≡ proc_named m p
       gives p counted =
           let laid : Laid t P R p = counted.laid in
-          let begins : body_at p.procs m ≡ a = sym (start ∙ start_at laid l) in
+          let begins : body_at p.procs m ≡ a = sym (start.gives p laid) in
           let whole : Row t a (tokens (proc_of p m).body) e = rw (← begins, ends.gives p laid) (body_row laid l) in
           let X : x ≡ (proc_of p m).locals = locals ∙ locals_at_lem laid l in
           s.gives _ whole ∙ rw X (block_same_here counted (proc_of p m).locals (proc_of p m).body)

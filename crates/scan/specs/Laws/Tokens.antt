@@ -2,8 +2,9 @@
 use Prim.Native.Nat.{ℕ, suc, ◌+◌, ◌-◌, ◌≤◌, ◌<◌}
 use native.Mathlib.Omega.{arith}
 use Rattle.std.specs.Prelude.{◌≡◌, refl, List, [], ◌∷◌, ◌++◌, true, false, length, get_or, ltb, leb}
-use Rattle.std.proofs.Common.{sym, ap, ap₂, subst}
-use borrow.Author.Tests.{ne_eqb, ltb-true, leb-true, lt-ltb, le-ltb}
+use Rattle.std.proofs.Common.{le-ltb, lt-ltb, sym, ap, ap₂, subst}
+use Rattle.std.proofs.lemmas.List.{get_or_default, get_or_past}
+use borrow.Author.Tests.{ne_eqb, ltb-true, ltb-false, leb-true}
 use Rattle.value.proofs.Laws.Tests.{by_test}
 use Rattle.value.proofs.Laws.Tables.{looked_up}
 use Rattle.scan.specs.declared.tokens.Token.{Token}
@@ -106,6 +107,15 @@ pub ruleset token_ways = (at_stop, at_location, at_local, at_assign, at_write, a
 -- no token has more than 5 bytes
 pub size_small : (m : ℕ) → get_or sizes m 0 < 6
 size_small m = ltb-true _ _ (looked_up (λ n k. ltb k 6) sizes 0 (λ n. refl) refl m)
+
+-- by the table, or 1 if the mark is not in it
+pub size_got : (m : ℕ) → get_or sizes m 1 ≡ size_of m
+size_got m =
+    by_test (ltb m 0x28)
+    (λ l. rw l (get_or_default sizes m 1 0 (ltb-true m 0x28 l)))
+    (λ l. rw l (get_or_past sizes m 1 (ltb-false m 0x28 l)))
+
+pub ruleset sizes_listed = (size_got)
 
 module _ (t : List ℕ) (i : ℕ) where
   -- by the table

@@ -15,7 +15,8 @@ use Rattle.translation.specs.Layout.{Layout, layout_in, locals_of}
 use Rattle.translation.specs.Code.{calls, code, returns}
 use Rattle.translation.specs.Translate.{simulating, ends_of, begins, later_in}
 use Rattle.basics.specs.Sizes.{too_long}
-use Rattle.writer.specs.Laws.Put.{Put, PutBlock}
+use Rattle.writer.specs.declared.page.Page.{Page}
+use Rattle.writer.specs.Laws.Pages.{Puts, PutsBlock}
 use Rattle.emit.specs.Laws.Sources.{Low, Sited, InPlaceI, InPlace}
 use Rattle.emit.specs.Laws.Shapes.{Shaped}
 use Rattle.translation.specs.declared.Mode.{Mode}
@@ -55,17 +56,16 @@ pub record BeginAt (bounds : List ℕ) (m r : ℕ) : Type 0 where
   pub gives : m < (limits concurrent).procs → r ≡ get_or bounds (2 * m) 0
 
 -- a call
-pub record CallsAt (t : List ℕ) (i : ℕ) (h : Shape) (bounds : List ℕ) (s : Site) (next : ℕ) (o : List ℕ) (p : ℕ) (o' : List ℕ) (r : ℕ) : Type 0 where
+pub record CallsAt (t : List ℕ) (i : ℕ) (h : Shape) (bounds : List ℕ) (s : Site) (next : ℕ) (o o' : Page) : Type 0 where
   pub gives : (q : Program S.Plain) (m n f j : ℕ) (es : List Expr) → Shaped t h q → Begun q bounds → Sited (layout_in h.mode q) m n s
       → InstrAt {A = ℕ} t i max_nesting (call f es) j
-      → f < length q.procs → Each (Low n) es → PutBlock o p (calls (layout_in h.mode q) m n f es (begins q f) next) o' r
+      → f < length q.procs → Each (Low n) es → PutsBlock o (calls (layout_in h.mode q) m n f es (begins q f) next) o'
 
 -- the code of what stands at i
-pub record PutsNode (t : List ℕ) (i : ℕ) (h : Shape) (bounds : List ℕ) (s : Site) (next other : ℕ) (o : List ℕ) (p : ℕ) (o' : List ℕ) (r : ℕ)
-    : Type 0 where
-  pub ends : (G : Layout) (m n : ℕ) → Sited G m n s → i < length t → get_or t i 0 ≡ 0 → PutBlock o p (returns G m n) o' r
+pub record PutsNode (t : List ℕ) (i : ℕ) (h : Shape) (bounds : List ℕ) (s : Site) (next other : ℕ) (o o' : Page) : Type 0 where
+  pub ends : (G : Layout) (m n : ℕ) → Sited G m n s → i < length t → get_or t i 0 ≡ 0 → PutsBlock o (returns G m n) o'
   pub gives : (q : Program S.Plain) (m n l k j : ℕ) (a : Instr ℕ) → Shaped t h q → Begun q bounds → Sited (layout_in h.mode q) m n s
-      → InstrAt t i max_nesting a j → OfLabel q n a → Leads l a k next other → PutBlock o p (code (layout_in h.mode q) m n (begins q) l a k) o' r
+      → InstrAt t i max_nesting a j → OfLabel q n a → Leads l a k next other → PutsBlock o (code (layout_in h.mode q) m n (begins q) l a k) o'
 
 -- the code of a label, by the code that remains there: in procedure m of n locals, where end label k follows
 abbrev pub label_code : Layout → (ℕ → ℕ) → ℕ → ℕ → ℕ → Block ℕ → Block S.Plain
@@ -79,9 +79,9 @@ simulated mode q d =
     simulating n (label_code (layout_in mode q) (begins q) d.proc n (ends_of q d.proc) d.code)
 
 -- the body of label l's procedure
-pub record PutsLabel (t : List ℕ) (h : Shape) (map bounds : List ℕ) (l : ℕ) (o : List ℕ) (p : ℕ) (o' : List ℕ) (r : ℕ) : Type 0 where
+pub record PutsLabel (t : List ℕ) (h : Shape) (map bounds : List ℕ) (l : ℕ) (o o' : Page) : Type 0 where
   pub gives : (q : Program S.Plain) (d : Node) → Shaped t h q → Mapped q map bounds → node_of q l ≡ is d
-      → PutBlock o p (simulated h.mode q d).body o' r
+      → PutsBlock o (simulated h.mode q d).body o'
 
 -- ---- all labels
 
@@ -99,14 +99,12 @@ pub record Offsets (mode : Mode) (q : Program S.Plain) (p k : ℕ) (offsets : Li
       → get_or offsets i 0 ≡ p + length (bodies (take i (later_in mode q)))
 
 -- the first k bodies are written
-pub record Simulating (t : List ℕ) (h : Shape) (map bounds offsets : List ℕ) (k : ℕ) (o : List ℕ) (p : ℕ) (o' : List ℕ) (r : ℕ) : Type 0 where
-  pub done : (q : Program S.Plain) → Shaped t h q → Mapped q map bounds → Put o p (bodies (take k (later_in h.mode q))) o' r
-  pub places : (q : Program S.Plain) → Shaped t h q → Mapped q map bounds → Offsets h.mode q p k offsets
-  pub kept : length o' ≡ length o
+pub record Simulating (t : List ℕ) (h : Shape) (map bounds offsets : List ℕ) (k : ℕ) (o o' : Page) : Type 0 where
+  pub done : (q : Program S.Plain) → Shaped t h q → Mapped q map bounds → Puts o (bodies (take k (later_in h.mode q))) o'
+  pub places : (q : Program S.Plain) → Shaped t h q → Mapped q map bounds → Offsets h.mode q o.at k offsets
   pub long : length offsets ≡ max_labels
-  pub most : k ≤ h.labels
 
 -- all of them
-pub record PutsBodies (t : List ℕ) (h : Shape) (map bounds offsets : List ℕ) (o : List ℕ) (p : ℕ) (o' : List ℕ) (r : ℕ) : Type 0 where
-  pub gives : (q : Program S.Plain) → Shaped t h q → Mapped q map bounds → Put o p (bodies (later_in h.mode q)) o' r
-  pub places : (q : Program S.Plain) → Shaped t h q → Mapped q map bounds → Offsets h.mode q p (counts q.procs) offsets
+pub record PutsBodies (t : List ℕ) (h : Shape) (map bounds offsets : List ℕ) (o o' : Page) : Type 0 where
+  pub gives : (q : Program S.Plain) → Shaped t h q → Mapped q map bounds → Puts o (bodies (later_in h.mode q)) o'
+  pub places : (q : Program S.Plain) → Shaped t h q → Mapped q map bounds → Offsets h.mode q o.at (counts q.procs) offsets

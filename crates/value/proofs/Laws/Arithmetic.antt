@@ -1,5 +1,5 @@
 -- What the operators give: "a result outside the range is no value: nothing wraps and nothing is clamped".
-use Rattle.std.specs.Prelude.{ℕ, ◌<◌, ◌≡◌, refl, ◌↔◌, Bool, true, false, ℤ, pos, negsuc, neg_ℤ, ◌+ℤ◌, ltb, eqb}
+use Rattle.std.specs.Prelude.{ℕ, ◌<◌, ◌≡◌, refl, ◌↔◌, Bool, true, false, ℤ, pos, negsuc, neg_ℤ, ◌+ℤ◌, ltb, eqb, Result, Ok, Err}
 use Rattle.std.proofs.Common.{arith, sym, ap, ltb-true, lt-ltb, leb-true, le-leb}
 use Rattle.std.proofs.Math.IntN.{+ℤ-neg_ℤ_cancel, +ℤ_invr}
 use Rattle.std.specs.Int.Signed.{mag, le_z}
@@ -10,15 +10,13 @@ use Rattle.value.proofs.Laws.Tries.{lacking, provided_has}
 use Rattle.value.proofs.Laws.Tests.{Decides, decides_as, never, eq?, both_passed, pass_both}
 use Rattle.value.specs.declared.Value.{Value}
 use Rattle.value.specs.declared.Value.TheVariants.{Whole, Location, Truth}
-use Rattle.value.specs.declared.Answer.{Answer}
-use Rattle.value.specs.declared.Answer.TheVariants as A
+use Rattle.value.specs.declared.Reason.{Reason}
 use Rattle.value.specs.declared.Reason.TheVariants.{OutOfRange}
 
 -- an answer of the code is a value exactly if it says so
-pub given_exactly : (a : Answer) (v : Value) → (given a ≡ has v) ↔ (a ≡ A.Is v)
-given_exactly (A.Is u) v = (λ e. cc, λ e. cc)
-given_exactly A.OutOfRange v = (λ e. lacking e, λ e. cc)
-given_exactly A.WrongKind v = (λ e. lacking e, λ e. cc)
+pub given_exactly : (a : Result Value Reason) (v : Value) → (given a ≡ has v) ↔ (a ≡ Ok v)
+given_exactly (Ok u) v = (λ e. cc, λ e. cc)
+given_exactly (Err r) v = (λ e. lacking e, λ e. cc)
 
 -- ---- the range
 

@@ -1,8 +1,6 @@
 -- What the writer promises: bytes from a place on, and the next place.
 use Rattle.std.specs.Prelude.{ℕ, ◌+◌, ◌≤◌, ◌≡◌, List, length}
 use Rattle.std.proofs.lemmas.List.Edits.{sets}
-use Rattle.format.specs.Syntax.{Expr, Instr, Block, Plain}
-use Rattle.format.specs.Encode.{expr, instr, block}
 use Rattle.basics.specs.Sizes.{too_long}
 
 -- The buffer o becomes o', with the bytes bs from p on as far as they fit, and the next place is r. Counting stops at 65,537, the first
@@ -13,24 +11,7 @@ pub record Put (o : List ℕ) (p : ℕ) (bs : List ℕ) (o' : List ℕ) (r : ℕ
   pub far : too_long ≤ p + length bs → too_long ≤ r
   pub kept : length o' ≡ length o
 
--- an expression
-pub record PutExpr (o : List ℕ) (p : ℕ) (e : Expr) (o' : List ℕ) (r : ℕ) : Type 0 where
-  pub puts : Put o p (expr e) o' r
-
--- an instruction
-pub record PutInstr (o : List ℕ) (p : ℕ) (i : Instr Plain) (o' : List ℕ) (r : ℕ) : Type 0 where
-  pub puts : Put o p (instr i) o' r
-
--- a block
-pub record PutBlock (o : List ℕ) (p : ℕ) (b : Block Plain) (o' : List ℕ) (r : ℕ) : Type 0 where
-  pub puts : Put o p (block b) o' r
-
 -- Of the bytes `all` from p on in o, only `rest` remains to be written, from q on in o'.
 pub record Onto (o : List ℕ) (p : ℕ) (all : List ℕ) (o' : List ℕ) (q : ℕ) (rest : List ℕ) : Type 0 where
   pub then : {o'' : List ℕ} {r : ℕ} → Put o' q rest o'' r → Put o p all o'' r
-  pub kept : length o' ≡ length o
-
--- The bytes of a piece of code f, whatever block follows it.
-pub record Writes (o : List ℕ) (p : ℕ) (f : Block Plain → Block Plain) (o' : List ℕ) (r : ℕ) : Type 0 where
-  pub before : (c : Block Plain) → Onto o p (block (f c)) o' r (block c)
   pub kept : length o' ≡ length o

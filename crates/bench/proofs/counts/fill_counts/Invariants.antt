@@ -4,6 +4,3 @@ use Rattle.bench.proofs.counts.fill_counts.Given as goal
 
 abbrev pub invariant-loop-i : goal.invariant-loop-i
 invariant-loop-i l = Placing l.number l.base l.n l.initial.counts l.counts l.rest l.i
-
-abbrev pub decreases-loop-i : goal.decreases-loop-i
-decreases-loop-i l = l.i

@@ -1,4 +1,4 @@
--- `bench::search::search` meets its contract: no allotment before `i` blocks.
+-- `bench::search::search` meets its contract: no allotment before `number` blocks.
 use Rattle.bench.proofs.Searching.{seek_ways}
 use Rattle.bench.proofs.search.search.Goals as goal
 
@@ -8,14 +8,11 @@ loop-number-init c = search seek_ways
 pub try_one-requires : goal.try_one-requires
 try_one-requires c = search seek_ways
 
-pub returns-in-Blocks : goal.returns-in-Blocks
-returns-in-Blocks c = search seek_ways
-
-pub returns-then-i-total : goal.returns-then-i-total
-returns-then-i-total c = search seek_ways
-
-pub loop-number-smaller : goal.loop-number-smaller
-loop-number-smaller c = search seek_ways
+pub returns-then-try_one : goal.returns-then-try_one
+returns-then-try_one c = search seek_ways
 
 pub loop-number-preserved : goal.loop-number-preserved
 loop-number-preserved c = search seek_ways
+
+pub returns : goal.returns
+returns c = search seek_ways

@@ -1,7 +1,10 @@
 -- `bench::trial::play` meets its contract: what is left of the counts, from the present state, is all of them from the start.
 use Rattle.std.proofs.Common.{rules}
-use Rattle.bench.proofs.Playing.{play_ways, turns_blocked, turns_more}
+use Rattle.bench.proofs.Playing.{play_ways, turns_blocked, turns_next}
 use Rattle.bench.proofs.trial.play.Goals as goal
+
+pub rounds-init : goal.rounds-init
+rounds-init c = search (play_ways, rules)
 
 pub loop-thread-init : goal.loop-thread-init
 loop-thread-init c = search (play_ways, rules)
@@ -11,7 +14,7 @@ take_steps-requires c = search (play_ways, rules)
 
 pub loop-thread-preserved : goal.loop-thread-preserved
 loop-thread-preserved c =
-    turns_more c.rounds.invariant c.loop-thread.invariant c.rounds-test.true c.loop-thread-test.true c.take_steps.ensures c.if-take_steps.false
+    turns_next c.rounds.invariant c.rounds-test.true c.loop-thread.invariant c.loop-thread-test.true c.take_steps.ensures c.if-take_steps.false
 
 pub rounds-preserved : goal.rounds-preserved
 rounds-preserved c = search (play_ways, rules)

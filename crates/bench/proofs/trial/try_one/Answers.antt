@@ -11,8 +11,5 @@ renew-requires c = search try_ways
 pub play-requires : goal.play-requires
 play-requires c = search try_ways
 
-pub returns-then-play : goal.returns-then-play
-returns-then-play c = search try_ways
-
-pub returns-else-play : goal.returns-else-play
-returns-else-play c = search try_ways
+pub returns : goal.returns
+returns c = search try_ways

@@ -4,9 +4,3 @@ use Rattle.emit.proofs.pieces.put_loads.Goals as goal
 
 pub returns-then-set-eq0 : goal.returns-then-set-eq0
 returns-then-set-eq0 c = search code_ways
-
-pub loop-left-preserved : goal.loop-left-preserved
-loop-left-preserved c = search code_ways
-
-pub returns : goal.returns
-returns c = search code_ways

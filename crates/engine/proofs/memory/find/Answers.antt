@@ -9,5 +9,5 @@ returns-then-location-ge-LOCATIONS c = search (find_ways, rules)
 pub returns-then-cell-wide : goal.returns-then-cell-wide
 returns-then-cell-wide c = search (find_ways, rules)
 
-pub returns-else-cell-wide : goal.returns-else-cell-wide
-returns-else-cell-wide c = search (find_ways, rules)
+pub returns : goal.returns
+returns c = search (find_ways, rules)

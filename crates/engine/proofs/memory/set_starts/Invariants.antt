@@ -1,5 +1,5 @@
 -- `engine::memory::set_starts` meets its contract.
-use Rattle.std.proofs.Common.{◌-◌, ◌≤◌}
+use Rattle.std.proofs.Common.{◌≤◌}
 use Rattle.engine.specs.Work.{start_words, sizes_at}
 use Rattle.engine.specs.Laws.Starting.{Starting}
 use Rattle.engine.proofs.memory.set_starts.Given as goal
@@ -7,11 +7,5 @@ use Rattle.engine.proofs.memory.set_starts.Given as goal
 abbrev pub invariant-loop-i : goal.invariant-loop-i
 invariant-loop-i l = Starting (sizes_at l.t l.at l.count) l.starts l.i l.total × (l.i ≤ l.count)
 
-abbrev pub decreases-loop-i : goal.decreases-loop-i
-decreases-loop-i l = l.count - l.i
-
 abbrev pub invariant-loop-i-2 : goal.invariant-loop-i-2
 invariant-loop-i-2 l = Starting (sizes_at l.t l.at l.count) l.starts l.i l.total × (l.count ≤ l.i) × (l.i ≤ start_words)
-
-abbrev pub decreases-loop-i-2 : goal.decreases-loop-i-2
-decreases-loop-i-2 l = start_words - l.i

@@ -1,8 +1,10 @@
--- `figures::line::put_numbers` meets its contract: each call after the one before it.
-use Rattle.figures.proofs.Lines.{five_numbers}
+-- `figures::line::put_numbers` meets its contract: each number after those before it.
+use Rattle.std.proofs.Common.{rules, arith}
+use Rattle.figures.proofs.Lines.{spaced_more, spaced_all}
 use Rattle.figures.proofs.line.put_numbers.Goals as goal
 
+pub loop-n-preserved : goal.loop-n-preserved
+loop-n-preserved c = spaced_more c.args.numbers.now c.loop-n.n-index c.loop-n-test.true c.loop-n.invariant c.put_number-p.ensures
+
 pub returns : goal.returns
-returns c =
-    five_numbers c.args.a c.args.b c.args.c c.args.d c.args.e
-    c.put_number-p.ensures c.put_number-q.ensures c.put_number-r.ensures c.put_number-s.ensures c.put_number-t.ensures c.put.ensures
+returns c = spaced_all c.args.numbers.now c.loop-n.n-index (search (arith, rules)) c.loop-n.invariant c.put.ensures

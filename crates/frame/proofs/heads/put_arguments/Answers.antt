@@ -1,9 +1,9 @@
 -- `frame::heads::put_arguments` meets its contract.
-use Rattle.frame.proofs.Heading.{head_ways}
+use Rattle.std.proofs.Common.{◌≡◌, ◌-◌, arith}
+use Rattle.ctext.specs.Pieces.{say}
 use Rattle.frame.proofs.heads.put_arguments.Goals as goal
 
-pub loop-j-preserved : goal.loop-j-preserved
-loop-j-preserved c = search head_ways
-
+-- the lines in the code are those of the definition
 pub returns : goal.returns
-returns c = search head_ways
+unfolding say
+returns c = let all : c.args.n - 0 ≡ c.args.n = omega arith in rw all at c.put_lines.ensures

@@ -7,7 +7,4 @@ use Rattle.typeset.specs.Page.{Onto}
 use Rattle.frame.proofs.heads.put_others.Given as goal
 
 abbrev pub invariant-loop-j : goal.invariant-loop-j
-invariant-loop-j l = Onto l.text l.initial.out l.at (each another (upto 1 (l.n - 1))) l.out l.p (each another (upto l.j (l.n - l.j)))
-
-abbrev pub decreases-loop-j : goal.decreases-loop-j
-decreases-loop-j l = l.n - l.j
+invariant-loop-j l = Onto l.initial.page (each another (upto 1 (l.n - 1))) l.page (each another (upto l.j (l.n - l.j)))

@@ -1,9 +1,8 @@
 -- `frame::heads::put_unsets` meets its contract.
-use Rattle.frame.proofs.Heading.{head_ways}
+use Rattle.ctext.specs.Pieces.{say}
 use Rattle.frame.proofs.heads.put_unsets.Goals as goal
 
-pub loop-j-preserved : goal.loop-j-preserved
-loop-j-preserved c = search head_ways
-
+-- the lines in the code are those of the definition
 pub returns : goal.returns
-returns c = search head_ways
+unfolding say
+returns c = c.put_lines.ensures

@@ -1,9 +1,8 @@
 -- `frame::locations::put_locations` meets its contract.
-use Rattle.frame.proofs.Placing.{place_ways}
+use Rattle.ctext.specs.Pieces.{say}
 use Rattle.frame.proofs.locations.put_locations.Goals as goal
 
-pub loop-k-preserved : goal.loop-k-preserved
-loop-k-preserved c = search place_ways
-
+-- the lines in the code are those of the definition
 pub returns : goal.returns
-returns c = search place_ways
+unfolding say
+returns c = c.put_lines.ensures

@@ -6,9 +6,9 @@ use Rattle.frame.proofs.procedures.put_opening.Goals as goal
 pub returns : goal.returns
 returns c =
     opening_put _ _ _
-    c.put-a.ensures
-    c.put_head-b.ensures
-    c.put_counted-c.ensures
-    c.put_all-d.ensures
-    c.put_arguments-e.ensures
+    c.put.ensures
+    c.put_head.ensures
+    c.put_counted.ensures
+    c.put_all.ensures
+    c.put_arguments.ensures
     c.put_unsets.ensures

@@ -6,8 +6,8 @@ use Rattle.frame.proofs.whole.put_places.Goals as goal
 pub returns : goal.returns
 returns c =
     places_put
-    c.put_prelude-a.ensures
-    c.put_locations-b.ensures
-    c.put_all-c.ensures
-    c.put_areas-d.ensures
+    c.put_prelude.ensures
+    c.put_locations.ensures
     c.put_all.ensures
+    c.put_areas.ensures
+    c.put_all-2.ensures

@@ -1,10 +1,10 @@
--- The two walks that fill the jump table meet their contracts.
+-- `ways::fill_block` meets its contract.
 use Rattle.std.proofs.Common.{rules}
 use Rattle.jumps.proofs.Jumping.{fill_ways}
 use Rattle.jumps.proofs.ways.+fill_block_fill_instr.Goals as goal
 
-pub fill_block-count_instr-one-requires : goal.fill_block-count_instr-one-requires
-fill_block-count_instr-one-requires t c = search (fill_ways, rules)
+pub fill_block-count_instr-next-requires : goal.fill_block-count_instr-next-requires
+fill_block-count_instr-next-requires t c = search (fill_ways, rules)
 
 pub fill_block-onward-follow-requires : goal.fill_block-onward-follow-requires
 fill_block-onward-follow-requires t c = search (fill_ways, rules)
@@ -21,25 +21,23 @@ fill_block-returns t c = search (fill_ways, rules)
 pub fill_instr-fill_block-requires : goal.fill_instr-fill_block-requires
 fill_instr-fill_block-requires t c = search (fill_ways, rules)
 
-pub fill_instr-returns-then-form-eq-WHILE : goal.fill_instr-returns-then-form-eq-WHILE
-fill_instr-returns-then-form-eq-WHILE t c = search (fill_ways, rules)
+pub fill_instr-count_block-no-requires : goal.fill_instr-count_block-no-requires
+fill_instr-count_block-no-requires t c = search (fill_ways, rules)
 
-pub fill_instr-count_block-counted-requires : goal.fill_instr-count_block-counted-requires
-fill_instr-count_block-counted-requires t c = search (fill_ways, rules)
+pub fill_instr-onward-requires : goal.fill_instr-onward-requires
+fill_instr-onward-requires t c = search (fill_ways, rules)
 
-pub fill_instr-onward-other-requires : goal.fill_instr-onward-other-requires
-fill_instr-onward-other-requires t c = search (fill_ways, rules)
+pub fill_instr-fill_block-requires-in-36 : goal.fill_instr-fill_block-requires-in-36
+fill_instr-fill_block-requires-in-36 t c = search (fill_ways, rules)
 
-pub fill_instr-fill_block-requires-then-form-eq-IF :
-    goal.fill_instr-fill_block-requires-then-form-eq-IF
-fill_instr-fill_block-requires-then-form-eq-IF t c = search (fill_ways, rules)
+pub fill_instr-fill_block-requires-in-36-2 : goal.fill_instr-fill_block-requires-in-36-2
+fill_instr-fill_block-requires-in-36-2 t c = search (fill_ways, rules)
 
-pub fill_instr-fill_block-requires-then-form-eq-IF-2 :
-    goal.fill_instr-fill_block-requires-then-form-eq-IF-2
-fill_instr-fill_block-requires-then-form-eq-IF-2 t c = search (fill_ways, rules)
+pub fill_instr-returns-in-35 : goal.fill_instr-returns-in-35
+fill_instr-returns-in-35 t c = search (fill_ways, rules)
 
-pub fill_instr-returns-then-form-eq-IF : goal.fill_instr-returns-then-form-eq-IF
-fill_instr-returns-then-form-eq-IF t c = search (fill_ways, rules)
+pub fill_instr-returns-in-36 : goal.fill_instr-returns-in-36
+fill_instr-returns-in-36 t c = search (fill_ways, rules)
 
-pub fill_instr-returns-else-form-eq-IF : goal.fill_instr-returns-else-form-eq-IF
-fill_instr-returns-else-form-eq-IF t c = search (fill_ways, rules)
+pub fill_instr-returns-in_default : goal.fill_instr-returns-in_default
+fill_instr-returns-in_default t c = search (fill_ways, rules)

@@ -2,5 +2,5 @@
 use Rattle.labels.proofs.Counting.{skip_ways}
 use Rattle.labels.proofs.count.after_exprs.Goals as goal
 
-pub loop-left-preserved : goal.loop-left-preserved
-loop-left-preserved c = search skip_ways
+pub loop-preserved : goal.loop-preserved
+loop-preserved c = search skip_ways

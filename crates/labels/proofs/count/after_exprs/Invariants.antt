@@ -2,8 +2,5 @@
 use Rattle.labels.proofs.Counting.{Skipping}
 use Rattle.labels.proofs.count.after_exprs.Given as goal
 
-abbrev pub invariant-loop-left : goal.invariant-loop-left
-invariant-loop-left l = Skipping l.t l.at l.n l.i l.left
-
-abbrev pub decreases-loop-left : goal.decreases-loop-left
-decreases-loop-left l = l.left
+abbrev pub invariant-loop : goal.invariant-loop
+invariant-loop l = Skipping l.t l.at l.n l.i l.counter

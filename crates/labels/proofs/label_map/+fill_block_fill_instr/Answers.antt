@@ -1,4 +1,4 @@
--- The two walks that fill the label map meet their contracts.
+-- `label_map::fill_block` meets its contract.
 use Rattle.std.proofs.Common.{rules}
 use Rattle.labels.proofs.Filling.{fill_ways}
 use Rattle.labels.proofs.label_map.+fill_block_fill_instr.Goals as goal
@@ -18,19 +18,17 @@ fill_block-returns t c = search fill_ways
 pub fill_instr-fill_block-requires : goal.fill_instr-fill_block-requires
 fill_instr-fill_block-requires t c = (search rules, (search fill_ways, search rules))
 
-pub fill_instr-returns-then-form-eq-WHILE : goal.fill_instr-returns-then-form-eq-WHILE
-fill_instr-returns-then-form-eq-WHILE t c = search fill_ways
-
 pub fill_instr-count_block-counted-requires : goal.fill_instr-count_block-counted-requires
 fill_instr-count_block-counted-requires t c = search fill_ways
 
-pub fill_instr-fill_block-requires-then-form-eq-IF :
-    goal.fill_instr-fill_block-requires-then-form-eq-IF
-fill_instr-fill_block-requires-then-form-eq-IF t c = (search rules, (search fill_ways, search rules))
+pub fill_instr-fill_block-requires-in-36 : goal.fill_instr-fill_block-requires-in-36
+fill_instr-fill_block-requires-in-36 t c = (search rules, (search fill_ways, search rules))
 
-pub fill_instr-fill_block-requires-then-form-eq-IF-2 :
-    goal.fill_instr-fill_block-requires-then-form-eq-IF-2
-fill_instr-fill_block-requires-then-form-eq-IF-2 t c = (search rules, (search fill_ways, search rules))
+pub fill_instr-fill_block-requires-in-36-2 : goal.fill_instr-fill_block-requires-in-36-2
+fill_instr-fill_block-requires-in-36-2 t c = (search rules, (search fill_ways, search rules))
 
-pub fill_instr-returns-then-form-eq-IF : goal.fill_instr-returns-then-form-eq-IF
-fill_instr-returns-then-form-eq-IF t c = search fill_ways
+pub fill_instr-returns-in-35 : goal.fill_instr-returns-in-35
+fill_instr-returns-in-35 t c = search fill_ways
+
+pub fill_instr-returns-in-36 : goal.fill_instr-returns-in-36
+fill_instr-returns-in-36 t c = search fill_ways

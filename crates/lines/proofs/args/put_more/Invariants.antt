@@ -1,9 +1,7 @@
 -- `lines::args::put_more` meets its contract.
+use Rattle.std.proofs.Common.{◌-◌}
 use Rattle.lines.specs.Lines.{Further}
 use Rattle.lines.proofs.args.put_more.Given as goal
 
-abbrev pub invariant-loop-left : goal.invariant-loop-left
-invariant-loop-left l = Further l.t l.text l.at l.n l.initial.out l.to l.i l.left l.out l.p
-
-abbrev pub decreases-loop-left : goal.decreases-loop-left
-decreases-loop-left l = l.left
+abbrev pub invariant-loop : goal.invariant-loop
+invariant-loop l = Further l.t l.at l.n l.initial.page l.next (l.n - l.counter) l.page

@@ -12,8 +12,8 @@ decreases-put_closed l = 3 * l.depth + 1
 abbrev pub decreases-put_instr : goal.decreases-put_instr
 decreases-put_instr l = 3 * l.depth + 2
 
-abbrev pub invariant-put_block-loop-i : goal.invariant-put_block-loop-i
-invariant-put_block-loop-i l = Later l.t l.text l.at l.depth l.spaces l.initial.out l.to l.i l.out l.p
+abbrev pub invariant-put_block-loop-next : goal.invariant-put_block-loop-next
+invariant-put_block-loop-next l = Later l.t l.at l.depth l.spaces l.initial.page l.next l.page
 
-abbrev pub decreases-put_block-loop-i : goal.decreases-put_block-loop-i
-decreases-put_block-loop-i l = length l.t - l.i
+abbrev pub decreases-put_block-loop-next : goal.decreases-put_block-loop-next
+decreases-put_block-loop-next l = length l.t - l.next

@@ -5,8 +5,8 @@ use Rattle.mender.proofs.search.find.Goals as goal
 pub returns-in_default : goal.returns-in_default
 returns-in_default c = search find_ways
 
-pub loop-procedures-preserved : goal.loop-procedures-preserved
-loop-procedures-preserved c = search find_ways
+pub loop-procedure-preserved : goal.loop-procedure-preserved
+loop-procedure-preserved c = search find_ways
 
 pub returns : goal.returns
 returns c = search find_ways

@@ -1,4 +1,5 @@
 -- `parse::block::read_block` and `parse::block::read_instruction` meet their contracts.
+use Rattle.std.proofs.Common.{sym, ◌∙◌}
 use Rattle.parse.proofs.Blocks.{block_ways}
 use Rattle.parse.proofs.block.+read_block_read_instruction.Goals as goal
 
@@ -6,24 +7,26 @@ pub read_block-returns-then-code-position-eq-END :
     goal.read_block-returns-then-code-position-eq-END
 read_block-returns-then-code-position-eq-END t c = search block_ways
 
-pub read_block-returns-in_default : goal.read_block-returns-in_default
-read_block-returns-in_default t c = search block_ways
+pub read_instruction-returns-in_err-second-in-36 :
+    goal.read_instruction-returns-in_err-second-in-36
+read_instruction-returns-in_err-second-in-36 t c =
+    let inside = c.in_ok-get.ensures.lookup.3.0 in
+    let form = sym (c.in_ok-get.ensures.lookup.3.1 0) ∙ c.in-36.is in
+    let first = c.in_ok-first-in-36.was in
+    let second = c.in_err-second-in-36.was in
+    search (block_ways, c.from_residual-in_err-second-in-36.ensures)
 
-pub read_block-loop-position-smaller : goal.read_block-loop-position-smaller
-read_block-loop-position-smaller t c = search block_ways
+pub read_instruction-returns-in_ok-body-in-35-2 : goal.read_instruction-returns-in_ok-body-in-35-2
+read_instruction-returns-in_ok-body-in-35-2 t c =
+    let inside = c.in_ok-get.ensures.lookup.3.0 in
+    let form = sym (c.in_ok-get.ensures.lookup.3.1 0) ∙ c.in-35.is in
+    let first = c.in_ok-body-in-35-2.was in
+    search block_ways
 
-pub read_block-loop-position-preserved : goal.read_block-loop-position-preserved
-read_block-loop-position-preserved t c = search block_ways
-
-pub read_block-returns : goal.read_block-returns
-read_block-returns t c = search block_ways
-
-pub read_instruction-returns-then-byte-eq-WHILE : goal.read_instruction-returns-then-byte-eq-WHILE
-read_instruction-returns-then-byte-eq-WHILE t c = search block_ways
-
-pub read_instruction-returns-in_default-read_block :
-    goal.read_instruction-returns-in_default-read_block
-read_instruction-returns-in_default-read_block t c = search block_ways
-
-pub read_instruction-returns-then-byte-eq-IF : goal.read_instruction-returns-then-byte-eq-IF
-read_instruction-returns-then-byte-eq-IF t c = search block_ways
+pub read_instruction-returns-in_ok-second-in-36 : goal.read_instruction-returns-in_ok-second-in-36
+read_instruction-returns-in_ok-second-in-36 t c =
+    let inside = c.in_ok-get.ensures.lookup.3.0 in
+    let form = sym (c.in_ok-get.ensures.lookup.3.1 0) ∙ c.in-36.is in
+    let first = c.in_ok-first-in-36.was in
+    let second = c.in_ok-second-in-36.was in
+    search block_ways

@@ -5,7 +5,7 @@ use Rattle.scan.specs.Laws.Scans.{From}
 use Rattle.places.proofs.marks.mark_body.Given as goal
 
 abbrev pub invariant-loop-i : goal.invariant-loop-i
-invariant-loop-i l = From l.t l.end (marked_by l.q l.initial.marks) l.at (marked_by l.q l.marks) l.i
+invariant-loop-i l = From l.t l.end (marked_by l.initial.called) l.at (marked_by l.called) l.i
 
 abbrev pub decreases-loop-i : goal.decreases-loop-i
 decreases-loop-i l = l.end - l.i

@@ -1,4 +1,4 @@
--- The cycle of the walks over an atomic block meets its contracts.
+-- `costs::inner_costs` meets its contract.
 use Rattle.std.proofs.Common.{rules}
 use Rattle.prices.proofs.Costing.{inside_ways}
 use Rattle.prices.proofs.costs.+inner_costs_inside_costs.Goals as goal

@@ -26,7 +26,7 @@ loop-i-preserved c =
       | else-t-next-lt-LEAVES w ↦ rw w.e-is w.operation-e.ensures
     ]
     in
-    calling_more c.loop-i.invariant c.loop-i-test.true argument c.if-e-eq-NOTHING.false
+    search (calling_more, argument, rules)
 
 pub returns : goal.returns
 returns c = search (calling_ways, rules)

@@ -1,10 +1,6 @@
 -- `quick::turn::call` meets its contract.
-use Rattle.std.proofs.Common.{◌-◌}
 use Rattle.quick.proofs.Deciding.{Calling}
 use Rattle.quick.proofs.turn.call.Given as goal
 
 abbrev pub invariant-loop-i : goal.invariant-loop-i
 invariant-loop-i l = Calling l.t l.initial.words l.words l.base l.at l.count l.next l.i
-
-abbrev pub decreases-loop-i : goal.decreases-loop-i
-decreases-loop-i l = l.count - l.i

@@ -2,41 +2,40 @@
 use Rattle.reader.specs.Laws.SetScans.{ways}
 use Rattle.reader.proofs.set.+set_block_set_instr.Goals as goal
 
-pub set_block-returns-then-depth-eq0 : goal.set_block-returns-then-depth-eq0
-set_block-returns-then-depth-eq0 t c = search ways
+pub set_instr-returns-in_err-next-in-35 : goal.set_instr-returns-in_err-next-in-35
+set_instr-returns-in_err-next-in-35 t c =
+    let test = c.in_ok-body-in-35.was in
+    let body = c.in_err-next-in-35.was in
+    search (ways, c.from_residual-in_err-next-in-35.ensures)
 
-pub set_block-returns-then-t-i-eq-END : goal.set_block-returns-then-t-i-eq-END
-set_block-returns-then-t-i-eq-END t c = search ways
+pub set_instr-returns-in_ok-next-in-35 : goal.set_instr-returns-in_ok-next-in-35
+set_instr-returns-in_ok-next-in-35 t c =
+    let test = c.in_ok-body-in-35.was in
+    let body = c.in_ok-next-in-35.was in
+    search ways
 
-pub set_block-returns-in_default : goal.set_block-returns-in_default
-set_block-returns-in_default t c = search ways
+pub set_instr-returns-in_err-no-in-36 : goal.set_instr-returns-in_err-no-in-36
+set_instr-returns-in_err-no-in-36 t c =
+    let test = c.in_ok-yes-in-36.was in
+    let first = c.in_err-no-in-36.was in
+    search (ways, c.from_residual-in_err-no-in-36.ensures)
+
+pub set_instr-returns-in_err-next-in-36 : goal.set_instr-returns-in_err-next-in-36
+set_instr-returns-in_err-next-in-36 t c =
+    let test = c.in_ok-yes-in-36.was in
+    let first = c.in_ok-no-in-36.was in
+    let second = c.in_err-next-in-36.was in
+    search (ways, c.from_residual-in_err-next-in-36.ensures)
+
+pub set_instr-returns-in_ok-next-in-36 : goal.set_instr-returns-in_ok-next-in-36
+set_instr-returns-in_ok-next-in-36 t c =
+    let test = c.in_ok-yes-in-36.was in
+    let first = c.in_ok-no-in-36.was in
+    let second = c.in_ok-next-in-36.was in
+    search ways
 
 pub set_block-loop-i-preserved : goal.set_block-loop-i-preserved
-set_block-loop-i-preserved t c = search ways
+set_block-loop-i-preserved t c = let next = c.in_ok-i.was in search ways
 
 pub set_block-returns : goal.set_block-returns
 set_block-returns t c = search ways
-
-pub set_instr-returns-in_default : goal.set_instr-returns-in_default
-set_instr-returns-in_default t c = search ways
-
-pub set_instr-returns-in_default-set_block : goal.set_instr-returns-in_default-set_block
-set_instr-returns-in_default-set_block t c = search ways
-
-pub set_instr-returns-then-mark-eq-WHILE : goal.set_instr-returns-then-mark-eq-WHILE
-set_instr-returns-then-mark-eq-WHILE t c = search ways
-
-pub set_instr-returns-in_default-known_exprs : goal.set_instr-returns-in_default-known_exprs
-set_instr-returns-in_default-known_exprs t c = search ways
-
-pub set_instr-returns-in_default-set_block-2 : goal.set_instr-returns-in_default-set_block-2
-set_instr-returns-in_default-set_block-2 t c = search ways
-
-pub set_instr-returns-in_default-set_block-3 : goal.set_instr-returns-in_default-set_block-3
-set_instr-returns-in_default-set_block-3 t c = search ways
-
-pub set_instr-returns-then-mark-eq-IF : goal.set_instr-returns-then-mark-eq-IF
-set_instr-returns-then-mark-eq-IF t c = search ways
-
-pub set_instr-returns-then-mark-eq-ATOMIC : goal.set_instr-returns-then-mark-eq-ATOMIC
-set_instr-returns-then-mark-eq-ATOMIC t c = search ways

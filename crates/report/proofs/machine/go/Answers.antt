@@ -2,20 +2,23 @@
 use Rattle.report.proofs.Going.{going_ways}
 use Rattle.report.proofs.machine.go.Goals as goal
 
-pub loop-ends-init : goal.loop-ends-init
-loop-ends-init c = search going_ways
+pub loop-taken-init : goal.loop-taken-init
+loop-taken-init c = search going_ways
 
 pub returns-then-finished : goal.returns-then-finished
 returns-then-finished c = search going_ways
 
-pub returns-then-taken-schedule : goal.returns-then-taken-schedule
-returns-then-taken-schedule c = search going_ways
-
 pub step-requires : goal.step-requires
 step-requires c = search going_ways
 
-pub returns-in-Blocked : goal.returns-in-Blocked
-returns-in-Blocked c = search going_ways
+pub returns-in-Err : goal.returns-in-Err
+returns-in-Err c = search going_ways
 
-pub loop-ends-preserved : goal.loop-ends-preserved
-loop-ends-preserved c = search going_ways
+pub loop-taken-preserved : goal.loop-taken-preserved
+loop-taken-preserved c = search going_ways
+
+pub returns-then-finished-2 : goal.returns-then-finished-2
+returns-then-finished-2 c = search going_ways
+
+pub returns : goal.returns
+returns c = search going_ways

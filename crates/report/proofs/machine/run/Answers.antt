@@ -13,4 +13,4 @@ pub overflow_sub-result : goal.overflow_sub-result
 overflow_sub-result c = run_taken (accepted_starting c.requires.0 c.requires.1 c.set_starts.ensures c.begin.ensures) c.go-ran.ensures
 
 pub returns : goal.returns
-returns c = run_outcome c.set_starts.ensures c.begin.ensures c.go-ran.ensures c.write_out.ensures
+returns c = run_outcome c.set_starts.ensures c.begin.ensures c.go-ran.ensures c.write_out.ensures c.number.ensures c.reason.ensures

@@ -4,6 +4,3 @@ use Rattle.report.proofs.rows.left.Given as goal
 
 abbrev pub invariant-loop-n : goal.invariant-loop-n
 invariant-loop-n l = Leaving l.t l.rows l.low l.height l.n
-
-abbrev pub decreases-loop-n : goal.decreases-loop-n
-decreases-loop-n l = l.n

@@ -1,10 +1,6 @@
 -- `retable::frames::count_unsets` meets its contract.
-use Rattle.std.proofs.Common.{◌-◌}
 use Rattle.retable.proofs.Heading.{UnsetsFrom}
 use Rattle.retable.proofs.frames.count_unsets.Given as goal
 
 abbrev pub invariant-loop-count : goal.invariant-loop-count
-invariant-loop-count l = UnsetsFrom l.x l.at l.params l.i l.count
-
-abbrev pub decreases-loop-count : goal.decreases-loop-count
-decreases-loop-count l = 255 - l.count
+invariant-loop-count l = UnsetsFrom l.x l.at l.params l.next l.count

@@ -1,10 +1,6 @@
 -- `retable::frames::more_params` meets its contract.
-use Rattle.std.proofs.Common.{◌-◌}
 use Rattle.retable.proofs.Heading.{ParamsFrom}
 use Rattle.retable.proofs.frames.more_params.Given as goal
 
 abbrev pub invariant-loop-count : goal.invariant-loop-count
-invariant-loop-count l = ParamsFrom l.x l.at 1 l.i l.count
-
-abbrev pub decreases-loop-count : goal.decreases-loop-count
-decreases-loop-count l = 255 - l.count
+invariant-loop-count l = ParamsFrom l.x l.at 1 l.next l.count

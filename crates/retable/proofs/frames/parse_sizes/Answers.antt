@@ -7,3 +7,6 @@ returns-then-peek-ne122 c = search sizes_ways
 
 pub loop-count-preserved : goal.loop-count-preserved
 loop-count-preserved c = search sizes_ways
+
+pub returns : goal.returns
+returns c = search sizes_ways

@@ -1,9 +1,7 @@
 -- `retable::frames::skip_args` meets its contract.
+use Rattle.std.proofs.Common.{◌-◌}
 use Rattle.retable.proofs.Heading.{ArgsFrom}
 use Rattle.retable.proofs.frames.skip_args.Given as goal
 
-abbrev pub invariant-loop-left : goal.invariant-loop-left
-invariant-loop-left l = ArgsFrom l.x l.at l.count l.i l.left
-
-abbrev pub decreases-loop-left : goal.decreases-loop-left
-decreases-loop-left l = l.left
+abbrev pub invariant-loop : goal.invariant-loop
+invariant-loop l = ArgsFrom l.x l.at l.count l.next (l.count - l.counter)

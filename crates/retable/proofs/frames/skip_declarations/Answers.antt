@@ -7,3 +7,6 @@ returns-then-peek-ne118 c = search declared_ways
 
 pub loop-count-preserved : goal.loop-count-preserved
 loop-count-preserved c = search declared_ways
+
+pub returns : goal.returns
+returns c = search declared_ways

@@ -1,10 +1,6 @@
 -- `retable::statements::parse_more` meets its contract.
-use Rattle.std.proofs.Common.{◌-◌}
 use Rattle.retable.proofs.Arguing.{MoreFrom}
 use Rattle.retable.proofs.statements.parse_more.Given as goal
 
 abbrev pub invariant-loop-count : goal.invariant-loop-count
-invariant-loop-count l = MoreFrom l.x l.at 1 l.initial.out l.to l.i l.count l.out l.p
-
-abbrev pub decreases-loop-count : goal.decreases-loop-count
-decreases-loop-count l = 255 - l.count
+invariant-loop-count l = MoreFrom l.x l.at 1 l.initial.out l.fn.to l.next l.count l.out l.to

@@ -2,5 +2,11 @@
 use Rattle.retable.proofs.Assembling.{defined_ways}
 use Rattle.retable.proofs.whole.parse_definitions.Goals as goal
 
-pub loop-left-preserved : goal.loop-left-preserved
-loop-left-preserved c = search defined_ways
+pub loop-init : goal.loop-init
+loop-init c = search defined_ways
+
+pub loop-preserved : goal.loop-preserved
+loop-preserved c = search defined_ways
+
+pub returns : goal.returns
+returns c = search defined_ways

@@ -4,7 +4,7 @@ use Rattle.scan.specs.Laws.NameScans.{To}
 use Rattle.scan.proofs.names.tokens_named.Given as goal
 
 abbrev pub invariant-loop-i : goal.invariant-loop-i
-invariant-loop-i l = To l.t l.procedures l.locations l.records l.locals l.at l.end l.i
+invariant-loop-i l = To l.bodies.table.now l.bodies.procedures l.locations l.bodies.records l.locals l.at l.end l.i
 
 abbrev pub decreases-loop-i : goal.decreases-loop-i
 decreases-loop-i l = l.end - l.i

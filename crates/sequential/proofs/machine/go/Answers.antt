@@ -43,7 +43,7 @@ due-step-requires c = (
 pub returns-in-Blocked : goal.returns-in-Blocked
 returns-in-Blocked c =
     left_blocked c.loop-state.invariant c.if-state-eq0.false c.decide-fast.ensures c.if-steps-budget.false c.used_up.ensures c.if-used_up.false c.due-step.ensures
-    c.in-Blocked.is c.number.ensures c.outcome-in-Blocked.ensures
+    c.in-Blocked.is c.outcome-in-Blocked.ensures
 
 pub carry_out-state-requires : goal.carry_out-state-requires
 carry_out-state-requires c =

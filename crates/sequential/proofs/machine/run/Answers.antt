@@ -17,4 +17,4 @@ overflow_sub-result c = search (call_ways, rules)
 
 pub returns : goal.returns
 returns c =
-    run_outcome (length-replicate {A = ℕ} positions 0) c.fill.ensures c.set_starts.ensures c.go-ran.ensures c.write_cells.ensures
+    run_outcome (length-replicate {A = ℕ} positions 0) c.fill.ensures c.set_starts.ensures c.go-ran.ensures c.write_cells.ensures c.number.ensures c.reason.ensures

@@ -8,8 +8,8 @@ returns-then-offset-position c = search bodies_ways
 pub returns-in_default : goal.returns-in_default
 returns-in_default c = search bodies_ways
 
-pub loop-left-preserved : goal.loop-left-preserved
-loop-left-preserved c = search bodies_ways
+pub loop-procedure-preserved : goal.loop-procedure-preserved
+loop-procedure-preserved c = search bodies_ways
 
 pub returns : goal.returns
 returns c = search bodies_ways

@@ -2,5 +2,5 @@
 use Rattle.shape.proofs.Rule3.{cells_ways}
 use Rattle.shape.proofs.records.cells.Goals as goal
 
-pub loop-left-preserved : goal.loop-left-preserved
-loop-left-preserved c = search cells_ways
+pub loop-i-preserved : goal.loop-i-preserved
+loop-i-preserved c = search cells_ways

@@ -2,8 +2,5 @@
 use Rattle.shape.proofs.Rule3.{CellsFrom}
 use Rattle.shape.proofs.records.cells.Given as goal
 
-abbrev pub invariant-loop-left : goal.invariant-loop-left
-invariant-loop-left l = CellsFrom l.body l.at l.count l.total l.position l.left
-
-abbrev pub decreases-loop-left : goal.decreases-loop-left
-decreases-loop-left l = l.left
+abbrev pub invariant-loop-i : goal.invariant-loop-i
+invariant-loop-i l = CellsFrom l.body l.at l.count l.total l.i

@@ -1,12 +1,11 @@
 -- `shape::records::right_locals` meets its contract.
-use Rattle.shape.proofs.Rule3.{locals_ways}
+use Rattle.std.proofs.Common.{refl, rules, tests, arith}
+use Rattle.std.proofs.lemmas.Iterator.{YieldsList-from_range}
+use Rattle.std.proofs.lemmas.Iterator.Search.{all_from_yields_List}
+use Rattle.shape.proofs.Rule3.{locals_tested}
 use Rattle.shape.proofs.records.right_locals.Goals as goal
 
-pub returns-then-locals-body : goal.returns-then-locals-body
-returns-then-locals-body c = search locals_ways
-
-pub returns-then-most-locals : goal.returns-then-most-locals
-returns-then-most-locals c = search locals_ways
-
-pub loop-left-preserved : goal.loop-left-preserved
-loop-left-preserved c = search locals_ways
+pub returns : goal.returns
+returns c =
+    locals_tested c.args.body.now c.args.at c.args.count c.args.most
+    (all_from_yields_List _ _ _ _ c.all.ensures.ran (YieldsList-from_range 0 c.args.count c.args.count refl (omega arith)) (λ x b q k. search (rules, tests)))

@@ -5,5 +5,5 @@ use Rattle.simulation.proofs.codes.put_step.Goals as goal
 pub returns-then-t-at-eq-ATOMIC : goal.returns-then-t-at-eq-ATOMIC
 returns-then-t-at-eq-ATOMIC c = search label_ways
 
-pub returns : goal.returns
-returns c = search label_ways
+pub returns-else-t-at-eq-ATOMIC : goal.returns-else-t-at-eq-ATOMIC
+returns-else-t-at-eq-ATOMIC c = search label_ways

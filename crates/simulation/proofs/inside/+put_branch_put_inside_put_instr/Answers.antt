@@ -8,11 +8,11 @@ put_branch-returns t c = search block_ways
 pub put_inside-returns-then-depth-eq0 : goal.put_inside-returns-then-depth-eq0
 put_inside-returns-then-depth-eq0 t c = search block_ways
 
-pub put_inside-returns-then-t-i-eq-END : goal.put_inside-returns-then-t-i-eq-END
-put_inside-returns-then-t-i-eq-END t c = search block_ways
+pub put_inside-returns-then-t-next-eq-END : goal.put_inside-returns-then-t-next-eq-END
+put_inside-returns-then-t-next-eq-END t c = search block_ways
 
-pub put_inside-loop-i-preserved : goal.put_inside-loop-i-preserved
-put_inside-loop-i-preserved t c = search block_ways
+pub put_inside-loop-next-preserved : goal.put_inside-loop-next-preserved
+put_inside-loop-next-preserved t c = search block_ways
 
 pub put_inside-returns : goal.put_inside-returns
 put_inside-returns t c = search block_ways

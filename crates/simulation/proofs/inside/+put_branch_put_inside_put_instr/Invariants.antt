@@ -12,8 +12,8 @@ decreases-put_inside l = 3 * l.depth
 abbrev pub decreases-put_instr : goal.decreases-put_instr
 decreases-put_instr l = 3 * l.depth + 2
 
-abbrev pub invariant-put_inside-loop-i : goal.invariant-put_inside-loop-i
-invariant-put_inside-loop-i l = From l.t l.at l.depth l.s l.initial.out l.to l.i l.out l.p
+abbrev pub invariant-put_inside-loop-next : goal.invariant-put_inside-loop-next
+invariant-put_inside-loop-next l = From l.t l.at l.depth l.s l.initial.out l.next l.out
 
-abbrev pub decreases-put_inside-loop-i : goal.decreases-put_inside-loop-i
-decreases-put_inside-loop-i l = length l.t - l.i
+abbrev pub decreases-put_inside-loop-next : goal.decreases-put_inside-loop-next
+decreases-put_inside-loop-next l = length l.t - l.next

@@ -2,8 +2,5 @@
 use Rattle.translator.proofs.Tabling.{table_ways}
 use Rattle.translator.proofs.table.put_rows.Goals as goal
 
-pub loop-k-preserved : goal.loop-k-preserved
-loop-k-preserved c = search table_ways
-
-pub returns : goal.returns
-returns c = search table_ways
+pub loop-preserved : goal.loop-preserved
+loop-preserved c = search table_ways

@@ -4,6 +4,3 @@ use Rattle.zeroth.proofs.procedure.put_threads.Goals as goal
 
 pub loop-k-preserved : goal.loop-k-preserved
 loop-k-preserved c = search round_ways
-
-pub returns : goal.returns
-returns c = search round_ways

@@ -1,0 +1,2 @@
+-- The answers of calls that write one buffer, from how they went.
+pub mod Answers

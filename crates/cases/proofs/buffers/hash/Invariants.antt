@@ -1,9 +1,0 @@
--- `cases::buffers::hash` ends, and reads inside the buffer.
-use Rattle.std.proofs.Common.{length, ◌-◌, ◌≤◌}
-use Rattle.cases.proofs.buffers.hash.Given as goal
-
-abbrev pub invariant-loop-i : goal.invariant-loop-i
-invariant-loop-i l = l.i ≤ length l.buffer
-
-abbrev pub decreases-loop-i : goal.decreases-loop-i
-decreases-loop-i l = length l.buffer - l.i

@@ -1,0 +1,6 @@
+-- `emit::pieces::put_pc` meets its contract.
+use Rattle.emit.proofs.Coding.{code_ways}
+use Rattle.emit.proofs.pieces.put_pc.Goals as goal
+
+pub returns : goal.returns
+returns c = search code_ways

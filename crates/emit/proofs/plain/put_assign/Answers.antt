@@ -1,0 +1,6 @@
+-- `emit::plain::put_assign` meets its contract.
+use Rattle.emit.proofs.Plainly.{plain_ways}
+use Rattle.emit.proofs.plain.put_assign.Goals as goal
+
+pub returns : goal.returns
+returns c = search plain_ways

@@ -1,6 +1,0 @@
--- `emit::plain::put_loads_of` meets its contract.
-use Rattle.emit.proofs.Plainly.{plain_ways}
-use Rattle.emit.proofs.plain.put_loads_of.Goals as goal
-
-pub returns : goal.returns
-returns c = search plain_ways

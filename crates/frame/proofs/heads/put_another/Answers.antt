@@ -1,6 +1,0 @@
--- `frame::heads::put_another` meets its contract.
-use Rattle.frame.proofs.Heading.{head_ways}
-use Rattle.frame.proofs.heads.put_another.Goals as goal
-
-pub returns : goal.returns
-returns c = search head_ways

@@ -1,6 +1,0 @@
--- `frame::locations::put_area` meets its contract.
-use Rattle.frame.proofs.Placing.{place_ways}
-use Rattle.frame.proofs.locations.put_area.Goals as goal
-
-pub returns : goal.returns
-returns c = search place_ways

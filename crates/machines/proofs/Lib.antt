@@ -1,0 +1,4 @@
+-- What the proofs of this crate share.
+
+-- a table that may be run
+pub mod Running

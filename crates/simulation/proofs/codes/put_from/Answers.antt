@@ -1,0 +1,6 @@
+-- `simulation::codes::put_from` meets its contract.
+use Rattle.simulation.proofs.Labels.{label_ways}
+use Rattle.simulation.proofs.codes.put_from.Goals as goal
+
+pub returns : goal.returns
+returns c = search label_ways

@@ -1,0 +1,5 @@
+-- The digits of a number meet their contract.
+use Rattle.typeset.proofs.pieces.Page.+put_digits.Given as goal
+
+abbrev pub decreases-put_digits : goal.decreases-put_digits
+decreases-put_digits l = l.most

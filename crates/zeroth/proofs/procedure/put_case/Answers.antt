@@ -1,0 +1,6 @@
+-- `zeroth::procedure::put_case` meets its contract.
+use Rattle.zeroth.proofs.Rounding.{round_ways}
+use Rattle.zeroth.proofs.procedure.put_case.Goals as goal
+
+pub returns : goal.returns
+returns c = search round_ways

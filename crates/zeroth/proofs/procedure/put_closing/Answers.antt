@@ -1,6 +1,0 @@
--- `zeroth::procedure::put_closing` meets its contract.
-use Rattle.zeroth.proofs.Rounding.{round_ways}
-use Rattle.zeroth.proofs.procedure.put_closing.Goals as goal
-
-pub returns : goal.returns
-returns c = search round_ways
