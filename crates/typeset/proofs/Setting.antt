@@ -2,20 +2,25 @@
 use Prim.Native.Nat.{ℕ, zero, suc, ◌+◌, ◌-◌, ◌/◌, ◌%◌, ◌^◌, ◌≤◌, ◌<◌}
 use native.Mathlib.Omega.{arith}
 use native.Mathlib.Numerals.{add-one}
+use Rattle.std.specs.Prelude.{min}
+use Rattle.std.proofs.Math.Nat.{min-le_left, min-le_right, min-eq_left, min-eq_right}
+use Rattle.std.proofs.lemmas.List.{length-drop, length-set, take-replicate}
 use mathlib.Core.Path.{◌≡◌, refl, sym, ap, ap₂, ◌∙◌}
 use mathlib.Core.List.{List, [], ◌∷◌, ◌++◌}
 use mathlib.Core.Bool.{Bool, true, false, not}
-use lib.ListN.{length, get_or, set, drop, replicate, drop_of_length-le}
+use lib.ListN.{length, get_or, set, drop, take, replicate, drop_of_length-le}
 use lib.Seq.{drop-cons, set_out}
+use Rattle.std.proofs.lemmas.List.Edits.{sets}
+use Rattle.std.proofs.Math.Seq.{length-sets, take-length}
 use lib.Dec.{eqb, ltb}
-use borrow.Author.Tests.{lt-ltb, le-ltb, ltb-true, ltb-false}
+use borrow.Author.Tests.{lt-ltb, le-ltb, eq-eqb, ne_eqb, ltb-true, ltb-false}
 use Rattle.std.specs.Prelude.{Option, Some, None, SomeIff}
 use Rattle.std.specs.Borrow.{Bor, MutBor}
 use Rattle.value.specs.Values.{unword}
 use Rattle.value.proofs.Laws.Tests.{by_test}
 use Rattle.ctext.specs.Pieces.{digits, decimal, whole}
 use Rattle.typeset.specs.declared.pieces.Page.{Page}
-use Rattle.typeset.specs.Page.{Place, onward, otherwise, set_one, set_all, place, lent, IsPast, Put, Onto}
+use Rattle.typeset.specs.Page.{Place, onward, otherwise, agreeing, set_one, set_all, place, lent, IsPast, Put, Onto}
 
 -- ---- one byte
 
@@ -130,6 +135,182 @@ put_counted {p} {k} bs e h n = record {
   kept = refl;
 }
 
+-- ---- a whole piece
+
+-- no place, and nothing is set
+pub put_stay_all : {p : Page} (bs : List ℕ) → p.at ≡ None → Put p bs p
+put_stay_all {p} bs e = record { puts = rw e (sym (set_nowhere p.text.now p.out.now bs)); kept = refl }
+
+-- past the end of the text all bytes agree
+agreeing_past : (x : List ℕ) (p : ℕ) (bs : List ℕ) → length x ≤ p → agreeing x p bs ≡ length bs
+unfolding agreeing
+agreeing_past x p [] l = refl
+agreeing_past x p (b ∷ bs) l = rw (sym (differs_past x p b l), agreeing) (ap suc (agreeing_past x (suc p) bs (omega arith)))
+
+-- of no bytes, none
+agreeing_none : (x : List ℕ) (p : ℕ) → agreeing x p [] ≡ 0
+unfolding agreeing
+agreeing_none x p = refl
+
+-- the text has this byte
+agreeing_same : (x : List ℕ) (p b : ℕ) (bs : List ℕ) → p < length x → get_or x p 0 ≡ b → agreeing x p (b ∷ bs) ≡ suc (agreeing x (suc p) bs)
+unfolding agreeing
+agreeing_same x p b bs l e = rw (sym (differs_there x p b l) ∙ ap not (eq-eqb _ _ e), agreeing)
+
+-- it has another
+agreeing_differ : (x : List ℕ) (p b : ℕ) (bs : List ℕ) → p < length x → (get_or x p 0 ≡ b → ⊥) → agreeing x p (b ∷ bs) ≡ 0
+unfolding agreeing
+agreeing_differ x p b bs l e = rw (sym (differs_there x p b l) ∙ ap not (ne_eqb _ _ e), agreeing)
+
+-- Of the bytes bs from p on, i agree; n are near enough to be compared.
+module _ (x bs : List ℕ) (p i : ℕ) {n m : ℕ} (all : agreeing x p bs ≡ i + agreeing x (p + i) (drop i bs)) (near : n ≡ min (length bs) m) (rest : m ≡ length x - p) where
+  -- so does another byte
+  pub agrees_next : i < n → get_or x (p + i) 0 ≡ get_or bs i 0 → agreeing x p bs ≡ i + 1 + agreeing x (p + (i + 1)) (drop (i + 1) bs)
+  agrees_next l e =
+      let a : min (length bs) m ≤ length bs = min-le_left _ _ in
+      let b : min (length bs) m ≤ m = min-le_right _ _ in
+      let next : suc (p + i) ≡ p + suc i = omega arith in
+      let one : agreeing x (p + i) (drop i bs) ≡ suc (agreeing x (p + suc i) (drop (suc i) bs)) =
+      ap (agreeing x (p + i)) (drop-cons bs i 0 (omega arith)) ∙ agreeing_same x (p + i) _ (drop (suc i) bs) (omega arith) e
+      ∙ ap (λ q. suc (agreeing x q (drop (suc i) bs))) next in
+      rw add-one (omega (arith, all, one))
+
+  -- another byte does not
+  pub agrees_no_more : i < n → (get_or x (p + i) 0 ≡ get_or bs i 0 → ⊥) → i ≡ agreeing x p bs
+  agrees_no_more l e =
+      let a : min (length bs) m ≤ length bs = min-le_left _ _ in
+      let b : min (length bs) m ≤ m = min-le_right _ _ in
+      let none : agreeing x (p + i) (drop i bs) ≡ 0 =
+      ap (agreeing x (p + i)) (drop-cons bs i 0 (omega arith)) ∙ agreeing_differ x (p + i) _ (drop (suc i) bs) (omega arith) e in
+      omega arith
+
+  -- none is left to compare
+  pub agrees_whole : n ≤ i → i ≤ n → length bs ≡ agreeing x p bs
+  agrees_whole l h = by_test (ltb m (length bs))
+      (λ e.
+      let a : m < length bs = ltb-true _ _ e in
+      let same : min (length bs) m ≡ m = min-eq_right (omega arith) in
+      let b : length x ≤ p + i = omega arith in
+      let past : agreeing x (p + i) (drop i bs) ≡ length bs - i = agreeing_past x (p + i) (drop i bs) b ∙ length-drop i bs in
+      omega arith)
+      (λ e.
+      let a : length bs ≤ m = ltb-false _ _ e in
+      let same : min (length bs) m ≡ length bs = min-eq_left a in
+      let none : agreeing x (p + i) (drop i bs) ≡ 0 = ap (agreeing x (p + i)) (drop_of_length-le bs {i = i} (omega arith)) ∙ agreeing_none x (p + i) in
+      omega arith)
+
+-- no more bytes agree than there are
+pub agreeing_most : (x : List ℕ) (p : ℕ) (bs : List ℕ) → agreeing x p bs ≤ length bs
+unfolding agreeing
+agreeing_most x p [] = omega arith
+agreeing_most x p (b ∷ bs) = by_test (otherwise x p b)
+    (λ e. rw (e, agreeing) (omega arith))
+    (λ e. let h : agreeing x (suc p) bs ≤ length bs = agreeing_most x (suc p) bs in rw (e, agreeing) (omega arith))
+
+-- bytes past the end of a buffer are not stored
+sets_past : (o : List ℕ) (p : ℕ) (bs : List ℕ) → length o ≤ p → sets o p bs ≡ o
+sets_past o p [] l = refl
+sets_past o p (b ∷ bs) l = ap (λ o. sets o (suc p) bs) (set_out o p b l) ∙ sets_past o (suc p) bs (omega arith)
+
+-- Of the bytes bs from p on in o, those from i on are still to be stored; n have room.
+module _ (o u bs : List ℕ) (p i : ℕ) {n m : ℕ} (all : sets o p bs ≡ sets u (p + i) (drop i bs)) (near : n ≡ min (length bs) m) (rest : m ≡ length o - p) where
+  -- one more is stored
+  pub stores_next : i < n → sets o p bs ≡ sets (set u (p + i) (get_or bs i 0)) (p + (i + 1)) (drop (i + 1) bs)
+  stores_next l =
+      let a : min (length bs) m ≤ length bs = min-le_left _ _ in
+      let next : suc (p + i) ≡ p + suc i = omega arith in
+      rw add-one (all ∙ ap (sets u (p + i)) (drop-cons bs i 0 (omega arith)) ∙ ap (λ q. sets (set u (p + i) (get_or bs i 0)) q (drop (suc i) bs)) next)
+
+  -- none is left to store
+  pub stores_whole : n ≤ i → length u ≡ length o → u ≡ sets o p bs
+  stores_whole l h = by_test (ltb m (length bs))
+      (λ e.
+      let a : m < length bs = ltb-true _ _ e in
+      let same : min (length bs) m ≡ m = min-eq_right (omega arith) in
+      let b : length u ≤ p + i = omega arith in
+      sym (all ∙ sets_past u (p + i) (drop i bs) b))
+      (λ e.
+      let a : length bs ≤ m = ltb-false _ _ e in
+      let same : min (length bs) m ≡ length bs = min-eq_left a in
+      sym (all ∙ ap (sets u (p + i)) (drop_of_length-le bs {i = i} (omega arith))))
+
+-- all bytes agree: they are stored, and the text goes on behind them
+agreed_all : (x o : List ℕ) (p : ℕ) (bs : List ℕ) → p < 2 ^ 64 → length o < 2 ^ 64 → agreeing x p bs ≡ length bs
+    → set_all x (record { out = o; at = Some p }) bs ≡ record { out = sets o p bs; at = onward p (length bs) }
+unfolding agreeing set_one onward
+agreed_all x o p [] h m e = ap (λ r. record { out = o; at = r }) (sym (onward_none p h))
+agreed_all x o p (b ∷ bs) h m e = by_test (otherwise x p b)
+    (λ d. let none : 0 ≡ suc (length bs) = (rw (d, agreeing) at e) in absurd (omega arith))
+    (λ d.
+    let more : suc (agreeing x (suc p) bs) ≡ suc (length bs) = (rw (d, agreeing) at e) in
+    let rest : agreeing x (suc p) bs ≡ length bs = omega arith in
+    let same : length (set o p b) ≡ length o = length-set o p b in
+    by_test (ltb (p + 1) (2 ^ 64))
+    (λ t.
+    let near : p + 1 < 2 ^ 64 = ltb-true _ _ t in
+    let further : suc p + length bs ≡ p + suc (length bs) = omega arith in
+    ap (λ s. set_all x s bs) (one d (Some (suc p)) (rw (t, onward) (ap (λ k. Some k) (add-one p))))
+    ∙ agreed_all x (set o p b) (suc p) bs (omega arith) (omega arith) rest
+    ∙ ap (λ r. record { out = sets (set o p b) (suc p) bs; at = r }) (onward_same _ _ _ _ further))
+    (λ t.
+    let far : 2 ^ 64 ≤ p + 1 = ltb-false _ _ t in
+    let farther : ltb (p + suc (length bs)) (2 ^ 64) ≡ false = le-ltb _ _ (omega arith) in
+    ap (λ s. set_all x s bs) (one d None (rw (t, onward))) ∙ set_nowhere x (set o p b) bs
+    ∙ ap₂ (λ o r. record { out = o; at = r }) (sym (sets_past (set o p b) (suc p) bs (omega arith))) (rw (farther, onward))))
+  where
+    one : otherwise x p b ≡ false → (r : Option ℕ) → onward p 1 ≡ r → set_one x (record { out = o; at = Some p }) b ≡ record { out = set o p b; at = r }
+    one d r e = rw (d, set_one) (ap (λ r. record { out = set o p b; at = r }) e)
+
+-- one does not: those before it are stored, and there is no going on
+agreed_part : (x o : List ℕ) (p : ℕ) (bs : List ℕ) → length o < 2 ^ 64 → agreeing x p bs < length bs
+    → set_all x (record { out = o; at = Some p }) bs ≡ record { out = sets o p (take (agreeing x p bs) bs); at = None }
+unfolding agreeing set_one onward
+agreed_part x o p [] m l = absurd (omega arith)
+agreed_part x o p (b ∷ bs) m l = by_test (otherwise x p b)
+    (λ d. rw (d, set_one, agreeing) (set_nowhere x o bs))
+    (λ d.
+    let more : suc (agreeing x (suc p) bs) < suc (length bs) = (rw (d, agreeing) at l) in
+    let rest : agreeing x (suc p) bs < length bs = omega arith in
+    let same : length (set o p b) ≡ length o = length-set o p b in
+    by_test (ltb (p + 1) (2 ^ 64))
+    (λ t.
+    rw (d, agreeing) (ap (λ s. set_all x s bs) (one d (Some (suc p)) (rw (t, onward) (ap (λ k. Some k) (add-one p))))
+    ∙ agreed_part x (set o p b) (suc p) bs (omega arith) rest))
+    (λ t.
+    let far : 2 ^ 64 ≤ p + 1 = ltb-false _ _ t in
+    rw (d, agreeing) (ap (λ s. set_all x s bs) (one d None (rw (t, onward))) ∙ set_nowhere x (set o p b) bs
+    ∙ ap (λ o. record { out = o; at = None }) (sym (sets_past (set o p b) (suc p) (take (agreeing x (suc p) bs) bs) (omega arith))))))
+  where
+    one : otherwise x p b ≡ false → (r : Option ℕ) → onward p 1 ≡ r → set_one x (record { out = o; at = Some p }) b ≡ record { out = set o p b; at = r }
+    one d r e = rw (d, set_one) (ap (λ r. record { out = set o p b; at = r }) e)
+
+module _ {p : Page} {k n : ℕ} {o : MutBor (List ℕ)} (bs : List ℕ) where
+  -- a piece that the text agrees with
+  pub put_agreed : {r : Option ℕ} → p.at ≡ Some k → k < 2 ^ 64 → length p.out.now < 2 ^ 64 → n ≡ agreeing p.text.now k bs
+      → o.now ≡ sets p.out.now k (take n bs) → o.ghost_name ≡ p.out.ghost_name → length bs ≤ n → SomeIff r (k + n < 2 ^ 64) (k + n)
+      → Put p bs (record { text = p.text; out = o; at = r })
+  put_agreed e h m a s g l c =
+      let most : agreeing p.text.now k bs ≤ length bs = agreeing_most p.text.now k bs in
+      let all : n ≡ length bs = omega arith in
+      let whole : o.now ≡ sets p.out.now k bs = s ∙ ap (λ bs. sets p.out.now k bs) (ap (λ n. take n bs) all ∙ take-length bs) in
+      record {
+        puts = rw e (ap₂ (λ o r. record { out = o; at = r }) whole (onward_counted k n c ∙ ap (onward k) all)
+            ∙ sym (agreed_all p.text.now p.out.now k bs h m (sym a ∙ all)));
+        kept = ap₂ (λ g n. (g, p.text.now, n)) g (ap length whole ∙ length-sets p.out.now k bs);
+      }
+
+  -- one that it has another byte of
+  pub put_parted : p.at ≡ Some k → length p.out.now < 2 ^ 64 → n ≡ agreeing p.text.now k bs
+      → o.now ≡ sets p.out.now k (take n bs) → o.ghost_name ≡ p.out.ghost_name → n < length bs
+      → Put p bs (record { text = p.text; out = o; at = None })
+  put_parted e m a s g l =
+      let less : agreeing p.text.now k bs < length bs = omega arith in
+      let part : o.now ≡ sets p.out.now k (take (agreeing p.text.now k bs) bs) = s ∙ ap (λ n. sets p.out.now k (take n bs)) a in
+      record {
+        puts = rw e (ap (λ o. record { out = o; at = None }) part ∙ sym (agreed_part p.text.now p.out.now k bs m less));
+        kept = ap₂ (λ g n. (g, p.text.now, n)) g (ap length s ∙ length-sets p.out.now k (take n bs));
+      }
+
 -- ---- what remains
 
 -- at the start, all of it
@@ -167,6 +348,10 @@ spaces_start n = let all : n - 0 ≡ n = omega arith in rw all onto_start
 -- none is left
 pub spaces_end : {p q : Page} {all : List ℕ} (n i : ℕ) → Onto p all q (replicate (n - i) 32) → n ≤ i → Put p all q
 spaces_end n i O l = let none : n - i ≡ 0 = omega arith in onto_end (rw none at O)
+
+-- few of them, cut from 32
+pub spaces_few : {p q : Page} (n : ℕ) → n ≤ 32 → Put p (take n (replicate 32 32)) q → Put p (replicate n 32) q
+spaces_few n l P = put_same (take-replicate n 32 32 l) P
 
 -- ---- numbers
 

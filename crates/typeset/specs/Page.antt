@@ -1,5 +1,5 @@
 -- What setting bytes does: into the lent buffer o from place p on, and against the text x.
-use Rattle.std.specs.Prelude.{ℕ, ◌+◌, ◌^◌, ◌≤◌, ◌<◌, ◌≡◌, List, [], ◌∷◌, Bool, true, false, not, length, get_or, set, ltb, eqb, Option, Some, None}
+use Rattle.std.specs.Prelude.{ℕ, suc, ◌+◌, ◌^◌, ◌≤◌, ◌<◌, ◌≡◌, List, [], ◌∷◌, Bool, true, false, not, length, get_or, set, ltb, eqb, Option, Some, None}
 use Rattle.std.specs.Borrow.{GName}
 use Rattle.value.specs.Maybe.{both}
 use Rattle.typeset.specs.declared.pieces.Page.{Page}
@@ -31,6 +31,11 @@ set_one x s b = elim s.at [
 abbrev pub set_all : List ℕ → Place → List ℕ → Place
 set_all x s [] = s
 set_all x s (b ∷ bs) = set_all x (set_one x s b) bs
+
+-- how many of the bytes bs the text x agrees with from p on: past its end, with all
+unfoldable pub agreeing : List ℕ → ℕ → List ℕ → ℕ
+agreeing x p [] = 0
+agreeing x p (b ∷ bs) = elim (otherwise x p b) [ true ↦ 0 | false ↦ suc (agreeing x (suc p) bs) ]
 
 -- ---- pages
 

@@ -1,12 +1,41 @@
 // One piece of code sets bytes: what does not fit the lent buffer is not stored, and is counted all the same; and where the text that it is held
 // against has another byte, there is no going on.
-ghost use Rattle.std.specs.Prelude.{◌≡◌, ◌↔◌, IsTrue, [], ◌∷◌, set, replicate};
+ghost use Rattle.std.specs.Prelude.{◌≡◌, ◌↔◌, IsTrue, ◌^◌, ◌<◌, [], ◌∷◌, length, set, replicate};
+ghost use Rattle.std.proofs.lemmas.List.Edits.{sets};
 ghost use Rattle.value.specs.Values.{unword};
 ghost use Rattle.ctext.specs.Pieces.{digits, decimal, whole};
-ghost use Rattle.typeset.specs.Page.{otherwise, lent, IsPast, Begins, Put};
+ghost use Rattle.typeset.specs.Page.{otherwise, agreeing, lent, IsPast, Begins, Put};
 
 // 10 digits are enough for 32 bits.
 const DIGITS: u8 = 10;
+
+// As many spaces as a line of a text begins with, at most.
+const SPACES: &[u8] = &[b' '; 32];
+
+// How many bytes of a piece the text agrees with from a place on. Past its end it agrees with all.
+fn same_from(text: &[u8], at: usize, piece: &[u8]) -> usize
+    ensures counted { result ≡ agreeing text.now at piece.now }
+    ensures fits { at < 2 ^ 64 }
+{
+    let near = piece.len().min(text.len().saturating_sub(at));
+    for i in 0..near {
+        if text[at + i] != piece[i] {
+            return i;
+        }
+    }
+    piece.len()
+}
+
+// Stores bytes from a place on, each where the buffer has a place for it.
+fn store_all(out: &mut [u8], at: usize, bytes: &[u8])
+    ensures stored { out.new ≡ sets out.old at bytes.now }
+    ensures fits { length out.old < 2 ^ 64 }
+{
+    let near = bytes.len().min(out.len().saturating_sub(at));
+    for i in 0..near {
+        out[at + i] = bytes[i];
+    }
+}
 
 // A lent buffer, the text that it is held against, and the place where the text goes on: none, once it had another byte.
 #[derive(Drop)]
@@ -75,26 +104,34 @@ impl<'a> Page<'a> {
         self.at = at.checked_add(1);
     }
 
-    // A piece.
+    // A piece: what agrees with the text is stored in one go.
     pub fn put_all(&mut self, piece: &[u8])
         ensures { Put self.old piece.now self.new }
     {
+        let Some(at) = self.at else {
+            return;
+        };
         // Past both ends there is only counting.
-        if let Some(at) = self.at
-            && self.is_past(at)
-        {
+        if self.is_past(at) {
             self.at = at.checked_add(piece.len());
             return;
         }
-        for &byte in piece {
-            self.put(byte);
-        }
+        let same = same_from(self.text, at, piece);
+        store_all(self.out, at, &piece[..same]);
+        self.at = if same < piece.len() {
+            None
+        } else {
+            at.checked_add(same)
+        };
     }
 
     // So many spaces.
     pub fn put_spaces(&mut self, n: usize)
         ensures { Put self.old (replicate n 32) self.new }
     {
+        if n <= SPACES.len() {
+            return self.put_all(&SPACES[..n]);
+        }
         for _ in 0..n {
             self.put(b' ');
         }
