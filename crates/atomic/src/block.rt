@@ -18,7 +18,8 @@ pub struct Done {
     pub events: usize,
 }
 
-// Carries out an assignment, a read or a write that was decided, of a step with this label.
+// Carries out an assignment, a read or a write that was decided, of a step with this label. Inline, so that the step is not copied for it, and the outcome not stored.
+#[inline(always)]
 pub fn carry_out(
     step: Step,
     thread: u8,
@@ -34,6 +35,7 @@ pub fn carry_out(
         words.new cells.new events.new result }
 {
     match step {
+        // [assign]
         Step::Assign { x, value, next } => {
             locals::put(words, base, x, value);
             Ok(Done {
@@ -41,6 +43,7 @@ pub fn carry_out(
                 events: count,
             })
         }
+        // [read]; the figure has the names of this rule and the next one the other way round
         Step::Read {
             x,
             location,
@@ -66,6 +69,7 @@ pub fn carry_out(
                 events: count + 1,
             })
         }
+        // [write]
         Step::Write {
             location,
             index,
@@ -234,9 +238,10 @@ pub fn do_atomic(
         words.old cells.old events.old count
         words.new cells.new events.new result }
 {
+    // the cells first: behind a branch, as copying a frame has one, their 16 KB would be cleared before they are copied
+    let mut some_cells = *cells;
     let mut copy = [0u64; TRIED];
     copy_frame(words, base, &mut copy);
-    let mut some_cells = *cells;
     let mut no_events = [0u8; 1];
     let tried = do_all(
         t,

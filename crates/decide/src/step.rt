@@ -48,7 +48,8 @@ pub enum Step {
     Blocked(Reason),
 }
 
-// Each kind of instruction has a function that gets what the instruction's expressions came to. So it is small, and inline in both machines.
+// Each kind of instruction has a function that gets what the instruction's expressions came to. So it is small, and inline in both machines; a read only in
+// the concurrent ones.
 
 // "x := e".
 pub fn decide_assign(t: &[u8], at: usize, e: Valued) -> Step
@@ -109,8 +110,9 @@ pub fn decide_write(
     }
 }
 
-// "x := y[o]".
-pub fn decide_read(
+// "x := y[o]", compiled into its caller.
+#[inline(always)]
+fn read_step(
     t: &[u8],
     words: &[u64],
     base: usize,
@@ -137,6 +139,23 @@ pub fn decide_read(
         },
         Err(reason) => Step::Blocked(reason),
     }
+}
+
+// The same by a call, for the sequential machine's loop, which gets dearer where more is compiled into it.
+#[inline(never)]
+pub fn decide_read(
+    t: &[u8],
+    words: &[u64],
+    base: usize,
+    starts: &[u32; STARTS],
+    cells: &[u64],
+    at: usize,
+    o: Valued,
+) -> Step
+    requires { Readable t.now words.now base at o × Kept starts.now cells.now }
+    ensures { Decides t.now words.now base at (Lies starts.now cells.now) result }
+{
+    read_step(t, words, base, starts, cells, at, o)
 }
 
 // The values of `count` expressions go to the frame above, which is no part of the state before the call. Answers where the last one ends, or why the first
@@ -202,7 +221,7 @@ pub fn decide(
         }
         READ => {
             let o = evaluate::evaluate(t, words, base, at + 3);
-            decide_read(t, words, base, starts, cells, at, o)
+            read_step(t, words, base, starts, cells, at, o)
         }
         CALL => decide_call(t, words, base, at),
         _ => decide_test(evaluate::evaluate(t, words, base, at + 1)),

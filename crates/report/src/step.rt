@@ -89,9 +89,14 @@ fn rule(
             events,
             count,
         );
-        let done = went?;
-        rows[row] = done.next;
-        return Ok(done.events);
+        // stays: with `?` no edit of what a block that blocks leaves behind is refused for its meaning (`blocked_block_loses_locals`)
+        return match went {
+            Ok(done) => {
+                rows[row] = done.next;
+                Ok(done.events)
+            }
+            Err(reason) => Err(reason),
+        };
     }
     let step = decide(t, words, base, starts, cells, at);
     match step {

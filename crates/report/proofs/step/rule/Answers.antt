@@ -6,12 +6,11 @@ use Rattle.report.proofs.step.rule.Goals as goal
 pub do_atomic-went-requires : goal.do_atomic-went-requires
 do_atomic-went-requires c = search rule_ways
 
-pub returns-then-t-at-eq-ATOMIC : goal.returns-then-t-at-eq-ATOMIC
-returns-then-t-at-eq-ATOMIC c = rule_atomic c.if-t-at-eq-ATOMIC.true c.do_atomic-went.ensures c.in_ok-done.was
+pub returns-in-Ok : goal.returns-in-Ok
+returns-in-Ok c = rule_atomic c.if-t-at-eq-ATOMIC.true c.do_atomic-went.ensures c.in-Ok.is
 
-pub returns-in_err-done : goal.returns-in_err-done
-returns-in_err-done c =
-    rw (handed_on _ c.from_residual.ensures.1) (rule_atomic_blocks c.if-t-at-eq-ATOMIC.true c.do_atomic-went.ensures c.in_err-done.was)
+pub returns-in-Err : goal.returns-in-Err
+returns-in-Err c = rule_atomic_blocks c.if-t-at-eq-ATOMIC.true c.do_atomic-went.ensures c.in-Err.is
 
 pub decide-step-requires : goal.decide-step-requires
 decide-step-requires c = search rule_ways
@@ -47,7 +46,7 @@ returns-in_ok-done-in_default c =
 
 pub returns-in_err-done-in_default : goal.returns-in_err-done-in_default
 returns-in_err-done-in_default c =
-    rw (handed_on _ c.from_residual-in_err-done-in_default.ensures.1)
+    rw (handed_on _ c.from_residual.ensures.1)
     (rule_blocked c.if-t-at-eq-ATOMIC.false c.decide-step.ensures c.carry_out.ensures
     (record { no_test = c.in_default.not-Test; no_call = c.in_default.not-Call })
     c.in_err-done-in_default.was)

@@ -1,7 +1,7 @@
--- `decide::step::decide_read` meets its contract.
+-- `decide::step::read_step` meets its contract.
 use Rattle.std.proofs.Common.{rules}
 use Rattle.decide.proofs.Deciding.{read_ways}
-use Rattle.decide.proofs.step.decide_read.Goals as goal
+use Rattle.decide.proofs.step.read_step.Goals as goal
 
 pub returns-in-Err : goal.returns-in-Err
 returns-in-Err c = search (read_ways, rules)
